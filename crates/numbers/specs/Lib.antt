@@ -1,0 +1,5 @@
+-- The vocabulary of every definition of the model.
+pub mod Arithmetic
+pub mod Literals
+pub mod Constants
+pub mod Tests

@@ -1,0 +1,43 @@
+// Operations on numbers that every part of the model uses, and the constants of atmosphere.rs.
+ghost use mathlib.Core.Path.{_≡_};
+ghost use mathlib.Core.Bool.{cond};
+ghost use Rattle.numbers.specs.Tests.{absOf, finiteOf};
+
+// Radians in a degree.
+pub const DGTR: f64 = 1.74533E-2;
+// Radians in a day, the year a full turn.
+pub const DR: f64 = 1.72142E-2;
+// Radians in an hour, the day a full turn.
+pub const HR: f64 = 0.2618;
+// Radians in a second, the day a full turn.
+pub const SR: f64 = 7.2722E-5;
+// The gas constant.
+pub const RGAS: f64 = 831.4;
+
+// x where t holds, and y otherwise.
+pub fn pick(t: bool, x: f64, y: f64) -> f64
+    ensures { λ r. ⌜ r ≡ cond t x y ⌝ }
+{
+    if t { x } else { y }
+}
+
+// |x|. The zeros need a case of their own: -0 is not below 0.
+pub fn abs(x: f64) -> f64
+    ensures { λ r. ⌜ r ≡ absOf x ⌝ }
+{
+    if x < 0.0 {
+        return -x;
+    }
+    if x == 0.0 {
+        return 0.0;
+    }
+    x
+}
+
+// Whether x is neither NaN nor an infinity.
+pub fn finite(x: f64) -> bool
+    ensures { λ r. ⌜ r ≡ finiteOf x ⌝ }
+{
+    let infinity = f64::from_bits(9218868437227405312);
+    (x < infinity) & (-infinity < x)
+}
