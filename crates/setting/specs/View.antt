@@ -1,0 +1,54 @@
+-- The View: what the expansions read of row and record, worked out once for a call.
+use mathlib.Core.List.{List}
+use lib.IntN.{ℤ}
+use lib.Ieee.{Float, binary64, ofInt}
+use Rattle.numbers.specs.Arithmetic.{_⊖_, _⊗_}
+use Rattle.numbers.specs.Literals.{2·0, 3·0, 150·0}
+use Rattle.numbers.specs.Constants.{dgtr, hr}
+use Rattle.elementary.specs.Trig.{sinOf, cosOf}
+use Rattle.elementary.specs.Pow.{powOf}
+use Rattle.setting.specs.declared.Input.{Input}
+use Rattle.setting.specs.declared.View.{View}
+use Rattle.setting.specs.declared.views.Turns.{Turns}
+use Rattle.setting.specs.Switches.{swOf, swcOf}
+
+-- stloc to c3tloc of globe7
+unfoldable pub turnedOf : Float → Turns
+turnedOf lst =
+    record {
+      st = sinOf (hr ⊗ lst);
+      ct = cosOf (hr ⊗ lst);
+      s2t = sinOf (2·0 ⊗ hr ⊗ lst);
+      c2t = cosOf (2·0 ⊗ hr ⊗ lst);
+      s3t = sinOf (3·0 ⊗ hr ⊗ lst);
+      c3t = cosOf (3·0 ⊗ hr ⊗ lst);
+    }
+
+-- w the switch row, n the record
+unfoldable pub viewOf : List ℤ → Input → View
+viewOf w n =
+    let t = turnedOf (n .lst) in
+    record {
+      sw = swOf w;
+      swc = swcOf w;
+      doy = ofInt binary64 (n .doy);
+      sec = n .sec;
+      «g_lat» = n .«g_lat»;
+      «g_long» = n .«g_long»;
+      lst = n .lst;
+      ap = n .ap;
+      «ap_array» = n .«ap_array»;
+      df = n .f107 ⊖ n .f107a;
+      dfa = n .f107a ⊖ 150·0;
+      dfa2 = powOf (n .f107a ⊖ 150·0) 2·0;
+      slat = sinOf (n .«g_lat» ⊗ dgtr);
+      clat = cosOf (n .«g_lat» ⊗ dgtr);
+      slong = sinOf (dgtr ⊗ n .«g_long»);
+      clong = cosOf (dgtr ⊗ n .«g_long»);
+      st = t .st;
+      ct = t .ct;
+      s2t = t .s2t;
+      c2t = t .c2t;
+      s3t = t .s3t;
+      c3t = t .c3t;
+    }
