@@ -1,0 +1,30 @@
+-- `legendre3` meets its contract.
+use Rattle.legendre.specs.Legendre.{legendre3Of}
+use mathlib.Core.Path.{refl}
+use borrow.Author.Needs.{needs}
+use Rattle.legendre.proofs.legendre3.Statement.{statement}
+use Rattle.legendre.proofs.legendre3.Tie as tie
+
+array-read-t9 : tie.Need-array-read-t9
+array-read-t9 c = search needs
+
+array-read-t12 : tie.Need-array-read-t12
+array-read-t12 c = search needs
+
+array-read-t11 : tie.Need-array-read-t11
+array-read-t11 c = search needs
+
+array-read-t25 : tie.Need-array-read-t25
+array-read-t25 c = search needs
+
+array-read-t28 : tie.Need-array-read-t28
+array-read-t28 c = search needs
+
+returns : tie.Need-returns
+unfolding legendre3Of
+returns c = refl
+
+pub legendre3-spec : {M : Type 1} → statement M
+legendre3-spec =
+    tie.close
+    (tie.spec array-read-t9 array-read-t12 array-read-t11 array-read-t25 array-read-t28 returns)

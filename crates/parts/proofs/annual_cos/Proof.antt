@@ -1,0 +1,15 @@
+-- `annual_cos` meets its contract.
+use Rattle.parts.specs.Parts.{annualCosOf}
+use borrow.Author.Needs.{needs}
+use Rattle.parts.proofs.annual_cos.Statement.{statement}
+use Rattle.parts.proofs.annual_cos.Tie as tie
+
+cos-requires : tie.Need-cos-requires
+cos-requires c κs = search needs
+
+returns : tie.Need-returns
+unfolding annualCosOf
+returns c = simp (← c .cos .ensures)
+
+pub annual-cos-spec : {M : Type 1} → statement M
+annual-cos-spec = tie.close (tie.spec cos-requires returns)

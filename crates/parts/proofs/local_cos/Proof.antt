@@ -1,0 +1,15 @@
+-- `local_cos` meets its contract.
+use Rattle.parts.specs.Parts.{localCosOf}
+use borrow.Author.Needs.{needs}
+use Rattle.parts.proofs.local_cos.Statement.{statement}
+use Rattle.parts.proofs.local_cos.Tie as tie
+
+cos-requires : tie.Need-cos-requires
+cos-requires c κs = search needs
+
+returns : tie.Need-returns
+unfolding localCosOf
+returns c = simp (← c .cos .ensures)
+
+pub local-cos-spec : {M : Type 1} → statement M
+local-cos-spec = tie.close (tie.spec cos-requires returns)

@@ -1,0 +1,15 @@
+-- `long_phase_cos` meets its contract.
+use Rattle.parts.specs.Parts.{longPhaseCosOf}
+use borrow.Author.Needs.{needs}
+use Rattle.parts.proofs.long_phase_cos.Statement.{statement}
+use Rattle.parts.proofs.long_phase_cos.Tie as tie
+
+cos-requires : tie.Need-cos-requires
+cos-requires c κs = search needs
+
+returns : tie.Need-returns
+unfolding longPhaseCosOf
+returns c = simp (← c .cos .ensures)
+
+pub long-phase-cos-spec : {M : Type 1} → statement M
+long-phase-cos-spec = tie.close (tie.spec cos-requires returns)

@@ -1,0 +1,15 @@
+-- `semiannual_cos` meets its contract.
+use Rattle.parts.specs.Parts.{semiannualCosOf}
+use borrow.Author.Needs.{needs}
+use Rattle.parts.proofs.semiannual_cos.Statement.{statement}
+use Rattle.parts.proofs.semiannual_cos.Tie as tie
+
+cos-requires : tie.Need-cos-requires
+cos-requires c κs = search needs
+
+returns : tie.Need-returns
+unfolding semiannualCosOf
+returns c = simp (← c .cos .ensures)
+
+pub semiannual-cos-spec : {M : Type 1} → statement M
+semiannual-cos-spec = tie.close (tie.spec cos-requires returns)

@@ -1,0 +1,421 @@
+// The terms under their switches, the cosines with a phase, and the weighted sum.
+ghost use mathlib.Core.Path.{_≡_};
+ghost use Prim.Native.Nat.{_≤_};
+ghost use lib.ListN.{length};
+ghost use Rattle.parts.specs.Parts.{annualCosOf, semiannualCosOf, localCosOf, utCosOf, utLongCosOf, longPhaseCosOf, dayCosinesOf, t6Of, t7Of, t13Of, history8Of, daily8Of, t8Of, t10Of, t11Of, history12Of, daily12Of, t12Of, weightedOf, t8sOf, t10sOf, t6sOf, t7sOf, t13sOf};
+use elementary::trigonometry::cos;
+use numbers::DGTR;
+use numbers::DR;
+use numbers::HR;
+use numbers::SR;
+use numbers::abs;
+use setting::View;
+use terms::activity_annual;
+use terms::activity_long;
+use terms::activity_term;
+use terms::activity_ut;
+use terms::daily_s;
+use terms::diurnal;
+use terms::diurnal_s;
+use terms::flux_factor;
+use terms::history_s;
+use terms::local_time_part;
+use terms::long_cos;
+use terms::long_cos_s;
+use terms::long_sin;
+use terms::long_sin_s;
+use terms::season_s;
+use terms::semidiurnal;
+use terms::semidiurnal_s;
+use terms::terdiurnal;
+use terms::terdiurnal_s;
+use terms::ut_long;
+use terms::ut_mean;
+
+// The four cosines of the day that an expansion reads.
+pub struct Seasons {
+    pub cd32: f64,
+    pub cd18: f64,
+    pub cd14: f64,
+    pub cd39: f64,
+}
+
+// cd32 and cd14: the cosine over the year with phase x.
+pub fn annual_cos(doy: f64, x: f64) -> f64
+    ensures { λ r. ⌜ r ≡ annualCosOf doy x ⌝ }
+{
+    cos(DR * (doy - x))
+}
+
+// cd18 and cd39: the cosine over half the year with phase x.
+pub fn semiannual_cos(doy: f64, x: f64) -> f64
+    ensures { λ r. ⌜ r ≡ semiannualCosOf doy x ⌝ }
+{
+    cos(2.0 * DR * (doy - x))
+}
+
+// The cosine of local time with phase x.
+pub fn local_cos(lst: f64, x: f64) -> f64
+    ensures { λ r. ⌜ r ≡ localCosOf lst x ⌝ }
+{
+    cos(HR * (lst - x))
+}
+
+// The cosine of UT with phase x.
+pub fn ut_cos(sec: f64, x: f64) -> f64
+    ensures { λ r. ⌜ r ≡ utCosOf sec x ⌝ }
+{
+    cos(SR * (sec - x))
+}
+
+// The cosine of UT with phase x and twice the longitude.
+pub fn ut_long_cos(sec: f64, x: f64, glong: f64) -> f64
+    ensures { λ r. ⌜ r ≡ utLongCosOf sec x glong ⌝ }
+{
+    cos(SR * (sec - x) + 2.0 * DGTR * glong)
+}
+
+// The cosine of longitude with phase x.
+pub fn long_phase_cos(glong: f64, x: f64) -> f64
+    ensures { λ r. ⌜ r ≡ longPhaseCosOf glong x ⌝ }
+{
+    cos(DGTR * (glong - x))
+}
+
+// The four cosines of the day.
+pub fn day_cosines(doy: f64, p: &[f64]) -> Seasons
+    requires { ⌜ 100 ≤ length (now p) ⌝ }
+    ensures { λ r. ⌜ r ≡ dayCosinesOf doy (now (p .entry)) ⌝ }
+{
+    let a = annual_cos(doy, p[31]);
+    let b = semiannual_cos(doy, p[17]);
+    let c = annual_cos(doy, p[13]);
+    let d = semiannual_cos(doy, p[38]);
+    Seasons {
+        cd32: a,
+        cd18: b,
+        cd14: c,
+        cd39: d,
+    }
+}
+
+// t[6]: 0 where switch 7 is off.
+pub fn t6(
+    p: &[f64],
+    g: [[f64; 9]; 4],
+    sw7: f64,
+    f2: f64,
+    cd14: f64,
+    c5: f64,
+    ct: f64,
+    st: f64,
+) -> f64
+    requires { ⌜ length (now p) ≡ 150 ⌝ }
+    ensures { λ r. ⌜ r ≡ t6Of (now (p .entry)) g sw7 f2 cd14 c5 ct st ⌝ }
+{
+    if sw7 != 0.0 {
+        return diurnal(p, g, f2, cd14, c5, ct, st);
+    }
+    0.0
+}
+
+// t[7]: 0 where switch 8 is off.
+pub fn t7(
+    p: &[f64],
+    g: [[f64; 9]; 4],
+    sw8: f64,
+    f2: f64,
+    cd14: f64,
+    c5: f64,
+    c2t: f64,
+    s2t: f64,
+) -> f64
+    requires { ⌜ length (now p) ≡ 150 ⌝ }
+    ensures { λ r. ⌜ r ≡ t7Of (now (p .entry)) g sw8 f2 cd14 c5 c2t s2t ⌝ }
+{
+    if sw8 != 0.0 {
+        return semidiurnal(p, g, f2, cd14, c5, c2t, s2t);
+    }
+    0.0
+}
+
+// t[13]: 0 where switch 14 is off.
+pub fn t13(
+    p: &[f64],
+    g: [[f64; 9]; 4],
+    sw14: f64,
+    f2: f64,
+    cd14: f64,
+    c5: f64,
+    c3t: f64,
+    s3t: f64,
+) -> f64
+    requires { ⌜ length (now p) ≡ 150 ⌝ }
+    ensures { λ r. ⌜ r ≡ t13Of (now (p .entry)) g sw14 f2 cd14 c5 c3t s3t ⌝ }
+{
+    if sw14 != 0.0 {
+        return terdiurnal(p, g, f2, cd14, c5, c3t, s3t);
+    }
+    0.0
+}
+
+// t[8] in history mode.
+pub fn history8(v: View, p: &[f64], g: [[f64; 9]; 4], cd14: f64, apt: f64) -> f64
+    requires { ⌜ length (now p) ≡ 150 ⌝ }
+    ensures { λ r. ⌜ r ≡ history8Of v (now (p .entry)) g cd14 apt ⌝ }
+{
+    if !(p[51] != 0.0) {
+        return 0.0;
+    }
+    if !(v.sw[9] != 0.0) {
+        return 0.0;
+    }
+    let y = local_cos(v.lst, p[131]);
+    let z = local_time_part(g, p[128], p[129], p[130], v.swc[7], y);
+    activity_term(
+        g,
+        apt,
+        p[50],
+        p[96],
+        p[54],
+        p[125],
+        p[126],
+        p[127],
+        cd14,
+        v.swc[5],
+        z,
+    )
+}
+
+// t[8] with the daily activity.
+pub fn daily8(v: View, p: &[f64], g: [[f64; 9]; 4], cd14: f64, apdf: f64) -> f64
+    requires { ⌜ length (now p) ≡ 150 ⌝ }
+    ensures { λ r. ⌜ r ≡ daily8Of v (now (p .entry)) g cd14 apdf ⌝ }
+{
+    if !(v.sw[9] != 0.0) {
+        return 0.0;
+    }
+    let y = local_cos(v.lst, p[124]);
+    let z = local_time_part(g, p[121], p[122], p[123], v.swc[7], y);
+    activity_term(
+        g,
+        apdf,
+        p[32],
+        p[45],
+        p[34],
+        p[100],
+        p[101],
+        p[102],
+        cd14,
+        v.swc[5],
+        z,
+    )
+}
+
+// t[8]: magnetic activity.
+pub fn t8(v: View, p: &[f64], g: [[f64; 9]; 4], cd14: f64, apdf: f64, apt: f64) -> f64
+    requires { ⌜ length (now p) ≡ 150 ⌝ }
+    ensures { λ r. ⌜ r ≡ t8Of v (now (p .entry)) g cd14 apdf apt ⌝ }
+{
+    if v.sw[9] == -1.0 {
+        return history8(v, p, g, cd14, apt);
+    }
+    daily8(v, p, g, cd14, apdf)
+}
+
+// t[10]: longitudinal.
+pub fn t10(v: View, p: &[f64], g: [[f64; 9]; 4], cd14: f64) -> f64
+    requires { ⌜ length (now p) ≡ 150 ⌝ }
+    ensures { λ r. ⌜ r ≡ t10Of v (now (p .entry)) g cd14 ⌝ }
+{
+    if !((v.sw[10] != 0.0) & (v.g_long > -1000.0)) {
+        return 0.0;
+    }
+    if !(v.sw[11] != 0.0) {
+        return 0.0;
+    }
+    let b = flux_factor(p[80], v.dfa, v.swc[1]);
+    let x = long_cos(p, g, v.swc[5], cd14);
+    let y = long_sin(p, g, v.swc[5], cd14);
+    b * (x * v.clong + y * v.slong)
+}
+
+// t[11]: UT and mixed UT and longitude.
+pub fn t11(v: View, p: &[f64], g: [[f64; 9]; 4], cd14: f64) -> f64
+    requires { ⌜ length (now p) ≡ 150 ⌝ }
+    ensures { λ r. ⌜ r ≡ t11Of v (now (p .entry)) g cd14 ⌝ }
+{
+    if !((v.sw[10] != 0.0) & (v.g_long > -1000.0)) {
+        return 0.0;
+    }
+    if !(v.sw[12] != 0.0) {
+        return 0.0;
+    }
+    let b81 = flux_factor(p[81], v.dfa, v.swc[1]);
+    let b137 = flux_factor(p[137], v.dfa, v.swc[1]);
+    let y = ut_cos(v.sec, p[71]);
+    let z = ut_long_cos(v.sec, p[79], v.g_long);
+    let a = ut_mean(p, g, b81, v.swc[5], cd14, y);
+    let b = ut_long(p, g, v.swc[11], z, b137);
+    a + b
+}
+
+// t[12] in history mode.
+pub fn history12(v: View, p: &[f64], g: [[f64; 9]; 4], cd14: f64, apt: f64) -> f64
+    requires { ⌜ length (now p) ≡ 150 ⌝ }
+    ensures { λ r. ⌜ r ≡ history12Of v (now (p .entry)) g cd14 apt ⌝ }
+{
+    if !(p[51] != 0.0) {
+        return 0.0;
+    }
+    let y0 = long_phase_cos(v.g_long, p[97]);
+    let y1 = long_phase_cos(v.g_long, p[136]);
+    let y2 = ut_cos(v.sec, p[58]);
+    let a = activity_long(g, apt, v.swc[11], p[132], p[52], p[98], p[67], y0);
+    let b = activity_annual(
+        g,
+        apt,
+        v.swc[11],
+        v.swc[5],
+        p[133],
+        p[134],
+        p[135],
+        cd14,
+        y1,
+    );
+    let d = activity_ut(g, apt, v.swc[12], p[55], p[56], p[57], y2);
+    a + b + d
+}
+
+// t[12] with the daily activity.
+pub fn daily12(v: View, p: &[f64], g: [[f64; 9]; 4], cd14: f64, apdf: f64) -> f64
+    requires { ⌜ length (now p) ≡ 150 ⌝ }
+    ensures { λ r. ⌜ r ≡ daily12Of v (now (p .entry)) g cd14 apdf ⌝ }
+{
+    let y0 = long_phase_cos(v.g_long, p[63]);
+    let y1 = long_phase_cos(v.g_long, p[118]);
+    let y2 = ut_cos(v.sec, p[75]);
+    let a = activity_long(g, apdf, v.swc[11], p[120], p[60], p[61], p[62], y0);
+    let b = activity_annual(
+        g,
+        apdf,
+        v.swc[11],
+        v.swc[5],
+        p[115],
+        p[116],
+        p[117],
+        cd14,
+        y1,
+    );
+    let d = activity_ut(g, apdf, v.swc[12], p[83], p[84], p[85], y2);
+    a + b + d
+}
+
+// t[12]: UT, longitude and magnetic activity.
+pub fn t12(v: View, p: &[f64], g: [[f64; 9]; 4], cd14: f64, apdf: f64, apt: f64) -> f64
+    requires { ⌜ length (now p) ≡ 150 ⌝ }
+    ensures { λ r. ⌜ r ≡ t12Of v (now (p .entry)) g cd14 apdf apt ⌝ }
+{
+    if !((v.sw[10] != 0.0) & (v.g_long > -1000.0)) {
+        return 0.0;
+    }
+    if !(v.sw[13] != 0.0) {
+        return 0.0;
+    }
+    if v.sw[9] == -1.0 {
+        return history12(v, p, g, cd14, apt);
+    }
+    daily12(v, p, g, cd14, apdf)
+}
+
+// first + |sw[1]| * t[0] + .. + |sw[14]| * t[13], from the left.
+pub fn weighted(first: f64, sw: [f64; 24], t: [f64; 14]) -> f64
+    ensures { λ r. ⌜ r ≡ weightedOf first sw t ⌝ }
+{
+    let mut tinf = first;
+    let mut i: usize = 0;
+    while i < 14 {
+        tinf = tinf + abs(sw[i + 1]) * t[i];
+        i += 1;
+    }
+    tinf
+}
+
+// t[8] of glob7s.
+pub fn t8s(v: View, p: &[f64], g: [[f64; 9]; 4], apdf: f64, apt: f64) -> f64
+    requires { ⌜ 100 ≤ length (now p) ⌝ }
+    ensures { λ r. ⌜ r ≡ t8sOf v (now (p .entry)) g apdf apt ⌝ }
+{
+    if !(v.sw[9] != 0.0) {
+        return 0.0;
+    }
+    if v.sw[9] == -1.0 {
+        return history_s(p, g, apt, v.swc[2]);
+    }
+    if v.sw[9] == 1.0 {
+        return daily_s(p, g, apdf, v.swc[2]);
+    }
+    0.0
+}
+
+// t[10] of glob7s: longitudinal.
+pub fn t10s(v: View, p: &[f64], g: [[f64; 9]; 4]) -> f64
+    requires { ⌜ 100 ≤ length (now p) ⌝ }
+    ensures { λ r. ⌜ r ≡ t10sOf v (now (p .entry)) g ⌝ }
+{
+    if (v.sw[10] == 0.0) | (v.sw[11] == 0.0) | (v.g_long <= -1000.0) {
+        return 0.0;
+    }
+    let y81 = annual_cos(v.doy, p[81]);
+    let y86 = semiannual_cos(v.doy, p[86]);
+    let y84 = annual_cos(v.doy, p[84]);
+    let y88 = semiannual_cos(v.doy, p[88]);
+    let a = season_s(
+        p,
+        g,
+        v.swc[3],
+        v.swc[4],
+        v.swc[5],
+        v.swc[6],
+        y81,
+        y86,
+        y84,
+        y88,
+    );
+    let b = long_cos_s(p, g);
+    let d = long_sin_s(p, g);
+    a * (b * v.clong + d * v.slong)
+}
+
+// t[6] of glob7s: 0 where switch 7 is off.
+pub fn t6s(p: &[f64], g: [[f64; 9]; 4], sw7: f64, cd14: f64, c5: f64, ct: f64, st: f64) -> f64
+    requires { ⌜ 100 ≤ length (now p) ⌝ }
+    ensures { λ r. ⌜ r ≡ t6sOf (now (p .entry)) g sw7 cd14 c5 ct st ⌝ }
+{
+    if sw7 != 0.0 {
+        return diurnal_s(p, g, cd14, c5, ct, st);
+    }
+    0.0
+}
+
+// t[7] of glob7s: 0 where switch 8 is off.
+pub fn t7s(p: &[f64], g: [[f64; 9]; 4], sw8: f64, cd14: f64, c5: f64, c2t: f64, s2t: f64) -> f64
+    requires { ⌜ 100 ≤ length (now p) ⌝ }
+    ensures { λ r. ⌜ r ≡ t7sOf (now (p .entry)) g sw8 cd14 c5 c2t s2t ⌝ }
+{
+    if sw8 != 0.0 {
+        return semidiurnal_s(p, g, cd14, c5, c2t, s2t);
+    }
+    0.0
+}
+
+// t[13] of glob7s: 0 where switch 14 is off.
+pub fn t13s(p: &[f64], g: [[f64; 9]; 4], sw14: f64, c3t: f64, s3t: f64) -> f64
+    requires { ⌜ 100 ≤ length (now p) ⌝ }
+    ensures { λ r. ⌜ r ≡ t13sOf (now (p .entry)) g sw14 c3t s3t ⌝ }
+{
+    if sw14 != 0.0 {
+        return terdiurnal_s(p, g, c3t, s3t);
+    }
+    0.0
+}
