@@ -23,4 +23,3 @@ pub t10s-law : (v : View) (p : List Float) (g : List (List Float))
 unfolding t10sOf
 t10s-law v p g d b a y88 y84 y86 y81 e0 e1 e2 e3 e4 e5 e6 e7 =
     simp (e0, e1, e2, e3, e4, e5, e6, e7)
-

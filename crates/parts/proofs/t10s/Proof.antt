@@ -62,8 +62,8 @@ long-sin-s-requires c κs = search needs
 
 returns-2 : tie.Need-returns-2
 returns-2 c =
-    let A = c .before .before .before .before .before .before .before .before .before .before .before .before .before .before .before .before .before .before .before .before .args in
-    t10s-law (A .t1) (A .p .now) (A .t3)
+    let A = c .before .before .before .before .before .before .before .before .before .before .before .before .before .before .before .before .before .before .before .args in
+    t10s-law (A .t1) (A .p .now) (A .g)
     (c .long-sin-s .result)
     (c .before .long-cos-s .result)
     (c .before .before .season-s .result)
