@@ -1,0 +1,202 @@
+// globe7 and glob7s over a View: the State after, and the value.
+ghost use mathlib.Core.Path.{_≡_};
+ghost use Prim.Native.Nat.{_≤_};
+ghost use lib.ListN.{length};
+ghost use Rattle.expansion.specs.Expansion.{early7Of, level7Of, turnsAfterOf, afterOf, globe7Of, level7sOf, glob7sOf};
+use activity::apdf_next;
+use activity::apt_next;
+use legendre::flat;
+use legendre::legendre;
+use legendre::rows;
+use numbers::pick;
+use parts::Seasons;
+use parts::day_cosines;
+use parts::t6;
+use parts::t6s;
+use parts::t7;
+use parts::t7s;
+use parts::t8;
+use parts::t8s;
+use parts::t10;
+use parts::t10s;
+use parts::t11;
+use parts::t12;
+use parts::t13;
+use parts::t13s;
+use parts::weighted;
+use setting::State;
+use setting::Valued;
+use setting::View;
+use setting::views::Turns;
+use terms::f1;
+use terms::f2;
+use terms::t0;
+use terms::t1;
+use terms::t1s;
+use terms::t2s;
+use terms::t3;
+use terms::t3s;
+use terms::t4;
+use terms::t4s;
+use terms::t5;
+
+// t[0] to t[5] of globe7.
+pub struct Early {
+    pub x0: f64,
+    pub x1: f64,
+    pub x2: f64,
+    pub x3: f64,
+    pub x4: f64,
+    pub x5: f64,
+}
+
+// t[0] to t[5] of globe7.
+pub fn early7(v: View, p: &[f64], g: [[f64; 9]; 4], d: Seasons) -> Early
+    requires { ⌜ length (now p) ≡ 150 ⌝ }
+    ensures { λ r. ⌜ r ≡ early7Of v (now (p .entry)) g d ⌝ }
+{
+    let fa = f1(p, v.df, v.dfa, v.swc[1]);
+    let x0 = t0(p, v.df, v.dfa, v.dfa2);
+    let x1 = t1(p, g, v.dfa, v.swc[1]);
+    let x3 = t3(p, g, d.cd18);
+    let x4 = t4(p, g, fa, d.cd14);
+    let x5 = t5(p, g, d.cd39);
+    Early {
+        x0: x0,
+        x1: x1,
+        x2: p[18] * d.cd32,
+        x3: x3,
+        x4: x4,
+        x5: x5,
+    }
+}
+
+// The value of globe7, from the State after it.
+pub fn level7(v: View, p: &[f64], s: State) -> f64
+    requires { ⌜ length (now p) ≡ 150 ⌝ }
+    ensures { λ r. ⌜ r ≡ level7Of v (now (p .entry)) s ⌝ }
+{
+    let q = s.plg;
+    let g = rows(q);
+    let d = day_cosines(v.doy, p);
+    let y = early7(v, p, g, d);
+    let fb = f2(p, v.df, v.dfa, v.swc[1]);
+    let x6 = t6(p, g, v.sw[7], fb, d.cd14, v.swc[5], s.ctloc, s.stloc);
+    let x7 = t7(p, g, v.sw[8], fb, d.cd14, v.swc[5], s.c2tloc, s.s2tloc);
+    let x8 = t8(v, p, g, d.cd14, s.apdf, s.apt[0]);
+    let x10 = t10(v, p, g, d.cd14);
+    let x11 = t11(v, p, g, d.cd14);
+    let x12 = t12(v, p, g, d.cd14, s.apdf, s.apt[0]);
+    let x13 = t13(p, g, v.sw[14], fb, d.cd14, v.swc[5], s.c3tloc, s.s3tloc);
+    let t = [
+        y.x0,
+        y.x1,
+        y.x2,
+        y.x3,
+        y.x4,
+        y.x5,
+        x6,
+        x7,
+        x8,
+        0.0,
+        x10,
+        x11,
+        x12,
+        x13,
+    ];
+    let a = v.sw;
+    weighted(p[30], a, t)
+}
+
+// The sines of local time after globe7: new only where switch 7, 8 or 14 is on.
+pub fn turns_after(v: View, s: State) -> Turns
+    ensures { λ r. ⌜ r ≡ turnsAfterOf v s ⌝ }
+{
+    let any = !((v.sw[7] == 0.0) & (v.sw[8] == 0.0) & (v.sw[14] == 0.0));
+    let st = pick(any, v.st, s.stloc);
+    let ct = pick(any, v.ct, s.ctloc);
+    let s2t = pick(any, v.s2t, s.s2tloc);
+    let c2t = pick(any, v.c2t, s.c2tloc);
+    let s3t = pick(any, v.s3t, s.s3tloc);
+    let c3t = pick(any, v.c3t, s.c3tloc);
+    Turns {
+        st: st,
+        ct: ct,
+        s2t: s2t,
+        c2t: c2t,
+        s3t: s3t,
+        c3t: c3t,
+    }
+}
+
+// The State after globe7.
+pub fn after(v: View, p: &[f64], s: State) -> State
+    requires { ⌜ length (now p) ≡ 150 ⌝ }
+    ensures { λ r. ⌜ r ≡ afterOf v (now (p .entry)) s ⌝ }
+{
+    let old = s.plg;
+    let g = legendre(v.slat, v.clat, old);
+    let q = flat(g);
+    let t = turns_after(v, s);
+    let apdf = apdf_next(v.sw[9], p[43], p[44], v.ap, s.apdf);
+    let h = v.ap_array;
+    let apt = apt_next(v.sw[9], p[51], p[138], p[24], p[25], v.g_lat, h, s.apt[0]);
+    let mut out = s;
+    out.dfa = v.dfa;
+    out.plg = q;
+    out.stloc = t.st;
+    out.ctloc = t.ct;
+    out.s2tloc = t.s2t;
+    out.c2tloc = t.c2t;
+    out.s3tloc = t.s3t;
+    out.c3tloc = t.c3t;
+    out.apdf = apdf;
+    out.apt[0] = apt;
+    out
+}
+
+// globe7 from a View.
+pub fn globe7(v: View, p: &[f64], s: State) -> Valued
+    requires { ⌜ length (now p) ≡ 150 ⌝ }
+    ensures { λ r. ⌜ r ≡ globe7Of v (now (p .entry)) s ⌝ }
+{
+    let a = after(v, p, s);
+    let x = level7(v, p, a);
+    Valued { value: x, state: a }
+}
+
+// The value of glob7s.
+pub fn level7s(v: View, p: &[f64], s: State) -> f64
+    requires { ⌜ 100 ≤ length (now p) ⌝ }
+    ensures { λ r. ⌜ r ≡ level7sOf v (now (p .entry)) s ⌝ }
+{
+    let q = s.plg;
+    let g = rows(q);
+    let d = day_cosines(v.doy, p);
+    let x0 = p[21] * s.dfa;
+    let x1 = t1s(p, g);
+    let x2 = t2s(p, g, d.cd32);
+    let x3 = t3s(p, g, d.cd18);
+    let x4 = t4s(p, g, d.cd14);
+    let x5 = t5(p, g, d.cd39);
+    let x6 = t6s(p, g, v.sw[7], d.cd14, v.swc[5], s.ctloc, s.stloc);
+    let x7 = t7s(p, g, v.sw[8], d.cd14, v.swc[5], s.c2tloc, s.s2tloc);
+    let x8 = t8s(v, p, g, s.apdf, s.apt[0]);
+    let x10 = t10s(v, p, g);
+    let x13 = t13s(p, g, v.sw[14], s.c3tloc, s.s3tloc);
+    let t = [x0, x1, x2, x3, x4, x5, x6, x7, x8, 0.0, x10, 0.0, 0.0, x13];
+    let a = v.sw;
+    weighted(0.0, a, t)
+}
+
+// glob7s from a View.
+pub fn glob7s(v: View, p: &[f64], s: State) -> f64
+    requires { ⌜ 100 ≤ length (now p) ⌝ }
+    ensures { λ r. ⌜ r ≡ glob7sOf v (now (p .entry)) s ⌝ }
+{
+    let p99 = pick(p[99] == 0.0, 2.0, p[99]);
+    if p99 != 2.0 {
+        return -1.0;
+    }
+    level7s(v, p, s)
+}
