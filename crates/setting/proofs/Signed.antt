@@ -11,14 +11,20 @@ use lib.Signed.{ltZ}
 use lib.Ieee.{Float, binary64, ofInt}
 use Rattle.numbers.specs.Literals.{0·0, 1·0}
 use Rattle.setting.specs.Switches.{given, isOne, aboveZero, onOff}
+use Rattle.setting.specs.ApHistory.{isMinusOne}
 use mathlib.Core.List.{List}
 
-pub is-one : (x : ℤ) → toZ w32 (ofZ w32 x) ≡ x → ofZ w32 x ≡ 1 → isOne x ≡ true
-is-one x f e = ap isOne (sym f ∙ ap (toZ w32) e)
+-- a test on x, from what the machine compares x with
+pub tested : (t : ℤ → Bool) (x : ℤ) (k : ℕ) → toZ w32 (ofZ w32 x) ≡ x → ofZ w32 x ≡ k → t x ≡ t (toZ w32 k)
+tested t x k f e = ap t (sym f ∙ ap (toZ w32) e)
 
 pub not-one : (x : ℤ) → (ofZ w32 x ≡ 1 → ⊥) → isOne x ≡ false
 not-one (pos n) h = ne-eqb n 1 (λ q. h (ap (λ (k : ℕ). ofZ w32 (pos k)) q))
 not-one (negsuc n) h = refl
+
+pub not-minus-one : (x : ℤ) → (ofZ w32 x ≡ 4294967295 → ⊥) → isMinusOne x ≡ false
+not-minus-one (pos n) h = refl
+not-minus-one (negsuc n) h = ne-eqb n 0 (λ q. h (ap (λ (k : ℕ). ofZ w32 (negsuc k)) q))
 
 above-is : (x : ℤ) → aboveZero x ≡ ltZ (pos 0) x
 above-is (pos n) = refl

@@ -3,3 +3,4 @@ pub mod Switches
 pub mod State
 pub mod View
 pub mod Cases
+pub mod ApHistory

@@ -2,6 +2,7 @@
 ghost use mathlib.Core.Path.{_≡_};
 ghost use Rattle.setting.specs.State.{freshOf};
 
+pub mod ap_history;
 pub mod switches;
 pub mod views;
 

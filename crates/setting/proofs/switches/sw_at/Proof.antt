@@ -1,8 +1,8 @@
 -- `sw_at` meets its contract.
 use mathlib.Core.Bool.{true, false}
 use borrow.Author.Needs.{needs}
-use Rattle.setting.specs.Switches.{given}
-use Rattle.setting.proofs.Signed.{is-one, not-one, ninth, other}
+use Rattle.setting.specs.Switches.{given, isOne}
+use Rattle.setting.proofs.Signed.{tested, not-one, ninth, other}
 use Rattle.setting.proofs.switches.sw_at.Statement.{statement}
 use Rattle.setting.proofs.switches.sw_at.Tie as tie
 
@@ -21,7 +21,7 @@ returns c = let a = c .before .before .before .args in ninth (a .t1) (a .i) _ _ 
 returns-2 : tie.Need-returns-2
 returns-2 c =
     let a = c .before .before .before .args in
-    other (a .t1) (a .i) _ true _ (c .before .if1 .left) (is-one (given (a .t1) (a .i)) (search needs) (c .if2 .taken))
+    other (a .t1) (a .i) _ true _ (c .before .if1 .left) (tested isOne (given (a .t1) (a .i)) 1 (search needs) (c .if2 .taken))
 
 returns-3 : tie.Need-returns-3
 returns-3 c =

@@ -1,0 +1,24 @@
+-- `glob7s` meets its contract.
+use borrow.Author.Tests.{ltb-false}
+use Rattle.calls.proofs.Or.{or-left}
+use Rattle.calls.specs.Calls.{glob7sCallOf}
+use borrow.Author.Needs.{needs}
+use Rattle.calls.proofs.glob7s.Statement.{statement}
+use Rattle.calls.proofs.glob7s.Tie as tie
+
+returns : tie.Need-returns
+unfolding glob7sCallOf
+returns c = simp (c .if1 .taken)
+
+view-of-requires : tie.Need-view-of-requires
+view-of-requires c κs = search needs
+
+glob7s-requires : tie.Need-glob7s-requires
+glob7s-requires c κs = ltb-false _ _ (or-left _ _ (c .before .if1 .left))
+
+returns-2 : tie.Need-returns-2
+unfolding glob7sCallOf
+returns-2 c = simp (← c .glob7s .ensures, ← c .before .view-of .ensures) (simp (c .before .before .if1 .left))
+
+pub glob7s-spec : {M : Type 1} → statement M
+glob7s-spec = tie.close (tie.spec returns view-of-requires glob7s-requires returns-2)
