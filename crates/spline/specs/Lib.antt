@@ -1,0 +1,3 @@
+-- Cubic splines: interpolation, the integral, the second derivatives.
+pub mod Nodes
+pub mod Sweep
