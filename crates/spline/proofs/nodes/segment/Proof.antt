@@ -1,3 +1,4 @@
+-- `segment` meets its contract.
 use mathlib.Core.Path.{_∙_, ap}
 use Rattle.spline.specs.Nodes.{segmentOf, areaOf}
 use borrow.Author.Needs.{needs}

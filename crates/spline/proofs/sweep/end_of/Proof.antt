@@ -1,3 +1,4 @@
+-- `end_of` meets its contract.
 use mathlib.Core.Path.{refl}
 use Rattle.spline.specs.Sweep.{endOf}
 use Rattle.spline.proofs.sweep.end_of.Statement.{statement}

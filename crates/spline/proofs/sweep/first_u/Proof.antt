@@ -1,3 +1,4 @@
+-- `first_u` meets its contract.
 use Rattle.spline.specs.Sweep.{firstUOf}
 use borrow.Author.Needs.{needs}
 use Rattle.spline.proofs.sweep.first_u.Statement.{statement}

@@ -1,3 +1,4 @@
+-- `last_u` meets its contract.
 use Rattle.spline.specs.Sweep.{lastUOf}
 use borrow.Author.Needs.{needs}
 use Rattle.spline.proofs.sweep.last_u.Statement.{statement}

@@ -1,3 +1,4 @@
+-- `second` meets its contract.
 use Rattle.spline.proofs.Laws.{second-law}
 use borrow.Author.Needs.{needs}
 use Rattle.spline.proofs.sweep.second.Statement.{statement}

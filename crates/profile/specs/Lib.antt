@@ -1,0 +1,4 @@
+-- Gravity, scale height, and the profiles of temperature and density.
+pub mod Gravity
+pub mod Curve
+pub mod Profile
