@@ -1,6 +1,6 @@
-// Cubic splines over a few nodes.
+// Cubic splines over nodes that need no check: the integral and the interpolation.
 ghost use mathlib.Core.Path.{_≡_};
-ghost use Prim.Native.Nat.{ℕ, _+_, _-_, _≤_, _<_};
+ghost use Prim.Native.Nat.{_+_, _≤_, _<_};
 ghost use lib.ListN.{length};
 ghost use Rattle.spline.specs.Nodes.{areaOf, segmentOf, spliniOf, splintOf, cubicOf};
 use numbers::pick;
@@ -35,6 +35,7 @@ fn segment(xa: &[f64], ya: &[f64], y2a: &[f64], n: usize, x: f64, k: usize) -> f
     area(xa, ya, y2a, k, xx)
 }
 
+// The integral from the first node to x: it ends at the first node that is not below x, or after the last segment.
 pub fn splini(xa: &[f64], ya: &[f64], y2a: &[f64], n: usize, x: f64) -> f64
     requires { ⌜ (2 ≤ n) × (n ≤ length (now xa)) × (n ≤ length (now ya)) × (n ≤ length (now y2a)) ⌝ }
     ensures { λ r. ⌜ r ≡ spliniOf (now (xa .entry)) (now (ya .entry)) (now (y2a .entry)) n x ⌝ }
@@ -53,6 +54,7 @@ pub fn splini(xa: &[f64], ya: &[f64], y2a: &[f64], n: usize, x: f64) -> f64
     }
 }
 
+// The cubic between two nodes at x.
 fn cubic(xa: &[f64], ya: &[f64], y2a: &[f64], klo: usize, khi: usize, x: f64) -> f64
     requires { ⌜ (klo < length (now xa)) × (klo < length (now ya)) × (klo < length (now y2a)) × (khi < length (now xa)) × (khi < length (now ya)) × (khi < length (now y2a)) ⌝ }
     ensures { λ r. ⌜ r ≡ cubicOf (now (xa .entry)) (now (ya .entry)) (now (y2a .entry)) klo khi x ⌝ }
@@ -65,6 +67,7 @@ fn cubic(xa: &[f64], ya: &[f64], y2a: &[f64], klo: usize, khi: usize, x: f64) ->
         + ((a * a * a - a) * y2a[klo] + (b * b * b - b) * y2a[khi]) * h * h / 6.0
 }
 
+// The spline at x, in the segment found by halving.
 pub fn splint(xa: &[f64], ya: &[f64], y2a: &[f64], n: usize, x: f64) -> f64
     requires { ⌜ (2 ≤ n) × (n ≤ 10) × (n ≤ length (now xa)) × (n ≤ length (now ya)) × (n ≤ length (now y2a)) ⌝ }
     ensures { λ r. ⌜ r ≡ splintOf (now (xa .entry)) (now (ya .entry)) (now (y2a .entry)) n x ⌝ }

@@ -1,10 +1,11 @@
-// The forward sweep of the second derivatives of a cubic spline.
+// Second derivatives of a cubic spline: the ends, a sweep forward, a sweep back.
 ghost use mathlib.Core.Path.{_≡_};
-ghost use Prim.Native.Nat.{_+_, _-_, _≤_, _<_};
+ghost use Prim.Native.Nat.{_+_, _≤_, _<_};
 ghost use lib.ListN.{length};
 ghost use Rattle.spline.specs.Sweep.{stepY, stepU, forwardOf, firstUOf, lastUOf, endOf, back, splineOf};
 use numbers::pick;
 
+// The next second derivative of the forward sweep.
 fn step_y(x: &[f64], i: usize, yp: f64) -> f64
     requires { ⌜ (1 ≤ i) × (i + 1 < length (now x)) ⌝ }
     ensures { λ r. ⌜ r ≡ stepY (now (x .entry)) i yp ⌝ }
@@ -14,6 +15,7 @@ fn step_y(x: &[f64], i: usize, yp: f64) -> f64
     (sig - 1.0) / p
 }
 
+// The next number of its other row.
 fn step_u(x: &[f64], y: &[f64], i: usize, yp: f64, up: f64) -> f64
     requires { ⌜ (1 ≤ i) × (i + 1 < length (now x)) × (i + 1 < length (now y)) ⌝ }
     ensures { λ r. ⌜ r ≡ stepU (now (x .entry)) (now (y .entry)) i yp up ⌝ }
@@ -26,11 +28,13 @@ fn step_u(x: &[f64], y: &[f64], i: usize, yp: f64, up: f64) -> f64
         / p
 }
 
+// The two rows of the forward sweep.
 pub struct Pair {
     pub y2: [f64; 10],
     pub u: [f64; 10],
 }
 
+// The forward sweep over the inner nodes.
 fn forward(x: &[f64], y: &[f64], n: usize, y0: [f64; 10], u0: [f64; 10]) -> Pair
     requires { ⌜ (2 ≤ n) × (n ≤ 10) × (n ≤ length (now x)) × (n ≤ length (now y)) ⌝ }
     ensures { λ r. ⌜ (r .y2, r .u) ≡ forwardOf (now (x .entry)) (now (y .entry)) n y0 u0 ⌝ }
@@ -50,6 +54,7 @@ fn forward(x: &[f64], y: &[f64], n: usize, y0: [f64; 10], u0: [f64; 10]) -> Pair
     Pair { y2: y2, u: u }
 }
 
+// The other row at the first node: 0 at a natural end.
 fn first_u(x: &[f64], y: &[f64], yp1: f64) -> f64
     requires { ⌜ (2 ≤ length (now x)) × (2 ≤ length (now y)) ⌝ }
     ensures { λ r. ⌜ r ≡ firstUOf (now (x .entry)) (now (y .entry)) yp1 ⌝ }
@@ -60,6 +65,7 @@ fn first_u(x: &[f64], y: &[f64], yp1: f64) -> f64
     (3.0 / (x[1] - x[0])) * ((y[1] - y[0]) / (x[1] - x[0]) - yp1)
 }
 
+// The same at the last node.
 fn last_u(x: &[f64], y: &[f64], n: usize, ypn: f64) -> f64
     requires { ⌜ (2 ≤ n) × (n ≤ length (now x)) × (n ≤ length (now y)) ⌝ }
     ensures { λ r. ⌜ r ≡ lastUOf (now (x .entry)) (now (y .entry)) n ypn ⌝ }
@@ -72,12 +78,14 @@ fn last_u(x: &[f64], y: &[f64], n: usize, ypn: f64) -> f64
     (3.0 / (x[a] - x[b])) * (ypn - (y[a] - y[b]) / (x[a] - x[b]))
 }
 
+// The second derivative at the last node.
 fn end_of(un: f64, qn: f64, u: f64, y: f64) -> f64
     ensures { λ r. ⌜ r ≡ endOf un qn u y ⌝ }
 {
     (un - qn * u) / (qn * y + 1.0)
 }
 
+// The sweep back from node m.
 fn backward(m: usize, y0: [f64; 10], u: [f64; 10]) -> [f64; 10]
     requires { ⌜ m < 10 ⌝ }
     ensures { λ r. ⌜ r ≡ back m y0 u ⌝ }
