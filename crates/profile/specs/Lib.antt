@@ -1,4 +1,5 @@
--- Gravity, scale height, and the profiles of temperature and density.
+-- Gravity, scale height, the profiles of temperature and density, and the calls with their refusals.
 pub mod Gravity
 pub mod Curve
 pub mod Profile
+pub mod Calls

@@ -66,6 +66,18 @@ densuOf gsurf re alt dlb tinf tlb xm alpha zlb s2 mn1 zn1 tn1 tgn1 =
     (aboveOf gsurf re dlb tinf tlb xm alpha zlb s2 zg2 tt)
     (belowOf gsurf re dlb tinf tlb xm alpha zlb s2 zg2 tt (unsetOf tt) mn1))
 
+-- what densu leaves in tn1 and tgn1: element 0 changes, and only where alt is below za
+unfoldable pub tn1Of : Float → Float → Float → Float → Float → Float → List Float → List Float → List Float
+tn1Of re alt tinf tlb zlb s2 zn1 tn1 =
+    let za = zn1 ‼ 0 in
+    cond (lt alt za) (set tn1 0 (ttOf re alt tinf tlb zlb s2 za)) tn1
+
+unfoldable pub tgn1Of : Float → Float → Float → Float → Float → Float → List Float → List Float → List Float
+tgn1Of re alt tinf tlb zlb s2 zn1 tgn1 =
+    let za = zn1 ‼ 0 in
+    let ta = ttOf re alt tinf tlb zlb s2 za in
+    cond (lt alt za) (set tgn1 0 (gradientOf re tinf ta zlb s2 za)) tgn1
+
 -- densu over gts7's five nodes
 unfoldable pub densu5Of : Shape → Float → Float → Float → Float → Float → List Float → Profile
 densu5Of h alt dlb xm alpha zlb zn =

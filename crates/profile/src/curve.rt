@@ -99,13 +99,6 @@ pub fn floored(re: f64, zn: &[f64], tn: &[f64], n: usize, tgn: &[f64], alt: f64)
     layer(re, zn, tn, n, tgn, z)
 }
 
-// The same over five nodes by value.
-pub fn floored5(re: f64, zn: [f64; 5], tn: [f64; 5], tgn: [f64; 2], alt: f64) -> Curve
-    ensures { λ r. ⌜ r ≡ flooredOf re zn tn 5 tgn alt ⌝ }
-{
-    floored(re, &zn, &tn, 5, &tgn, alt)
-}
-
 // What densu goes on with where no spline was made.
 pub fn unset(tz: f64) -> Curve
     ensures { λ r. ⌜ r ≡ unsetOf tz ⌝ }

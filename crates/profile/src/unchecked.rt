@@ -2,12 +2,11 @@
 ghost use mathlib.Core.Path.{_≡_};
 ghost use Prim.Native.Nat.{_≤_};
 ghost use lib.ListN.{length};
-ghost use Rattle.profile.specs.Profile.{batesOf, gradientOf, densaOf, aboveOf, belowOf, densu5Of, loweredOf, answerOf, densmOf, densityIn, temperatureIn};
+ghost use Rattle.profile.specs.Profile.{batesOf, gradientOf, densaOf, aboveOf, belowOf, densuOf, tn1Of, tgn1Of, densu5Of, loweredOf, answerOf, densmOf, densityIn, temperatureIn};
 use super::curve::Curve;
 use super::curve::capped;
 use super::curve::exponent;
 use super::curve::floored;
-use super::curve::floored5;
 use super::curve::layer;
 use super::curve::unset;
 use super::gravity::zeta;
@@ -127,56 +126,120 @@ pub fn below(
     Profile::Density(d * p * k, l.tz)
 }
 
-// densu over five nodes.
-pub fn densu5(h: Shape, alt: f64, dlb: f64, xm: f64, alpha: f64, zlb: f64, zn: [f64; 5]) -> Profile
-    ensures { λ r. ⌜ r ≡ densu5Of h alt dlb xm alpha zlb zn ⌝ }
+// densu over n nodes; below the first node element 0 of tn1 and of tgn1 is set.
+pub fn densu(
+    gsurf: f64,
+    re: f64,
+    alt: f64,
+    dlb: f64,
+    tinf: f64,
+    tlb: f64,
+    xm: f64,
+    alpha: f64,
+    zlb: f64,
+    s2: f64,
+    mn1: usize,
+    zn1: &[f64],
+    tn1: &mut [f64],
+    tgn1: &mut [f64],
+) -> Profile
+    requires { ⌜ (2 ≤ mn1) × (mn1 ≤ 10) × (mn1 ≤ length (now zn1)) × (mn1 ≤ length (now tn1)) × (2 ≤ length (now tgn1)) ⌝ }
+    ensures { λ r. ⌜ (r ≡ densuOf gsurf re alt dlb tinf tlb xm alpha zlb s2 mn1 (now (zn1 .entry)) (now (tn1 .entry)) (now (tgn1 .entry))) × (now (tn1 .exit) ≡ tn1Of re alt tinf tlb zlb s2 (now (zn1 .entry)) (now (tn1 .entry))) × (now (tgn1 .exit) ≡ tgn1Of re alt tinf tlb zlb s2 (now (zn1 .entry)) (now (tgn1 .entry))) ⌝ }
 {
-    let za = zn[0];
+    let za = zn1[0];
     let z = pick(alt > za, alt, za);
-    let zg2 = zeta(h.re, z, zlb);
-    let tt = bates(h.tinf, h.tlb, h.s, zg2);
+    let zg2 = zeta(re, z, zlb);
+    let tt = bates(tinf, tlb, s2, zg2);
     if alt < za {
-        let dta = gradient(h.re, h.tinf, tt, zlb, h.s, za);
-        let mut tn = h.tn;
-        tn[0] = tt;
-        let mut tgn = h.tgn;
-        tgn[0] = dta;
-        let l = floored5(h.re, zn, tn, tgn, alt);
+        let dta = gradient(re, tinf, tt, zlb, s2, za);
+        tgn1[0] = dta;
+        tn1[0] = tt;
+        let l = floored(re, zn1, tn1, mn1, tgn1, alt);
         return below(
-            h.gsurf,
-            h.re,
+            gsurf,
+            re,
             dlb,
-            h.tinf,
-            h.tlb,
+            tinf,
+            tlb,
             xm,
             alpha,
             zlb,
-            h.s,
+            s2,
             zg2,
             tt,
             l,
-            5,
+            mn1,
         );
     }
     if alt >= za {
-        return above(
-            h.gsurf,
-            h.re,
-            dlb,
-            h.tinf,
-            h.tlb,
-            xm,
-            alpha,
-            zlb,
-            h.s,
-            zg2,
-            tt,
-        );
+        return above(gsurf, re, dlb, tinf, tlb, xm, alpha, zlb, s2, zg2, tt);
     }
     let l = unset(tt);
     below(
+        gsurf,
+        re,
+        dlb,
+        tinf,
+        tlb,
+        xm,
+        alpha,
+        zlb,
+        s2,
+        zg2,
+        tt,
+        l,
+        mn1,
+    )
+}
+
+// densu over five nodes by value.
+pub fn densu_by_value(
+    gsurf: f64,
+    re: f64,
+    alt: f64,
+    dlb: f64,
+    tinf: f64,
+    tlb: f64,
+    xm: f64,
+    alpha: f64,
+    zlb: f64,
+    s2: f64,
+    zn1: [f64; 5],
+    tn1: [f64; 5],
+    tgn1: [f64; 2],
+) -> Profile
+    ensures { λ r. ⌜ r ≡ densuOf gsurf re alt dlb tinf tlb xm alpha zlb s2 5 zn1 tn1 tgn1 ⌝ }
+{
+    let mut tn = tn1;
+    let mut tgn = tgn1;
+    densu(
+        gsurf,
+        re,
+        alt,
+        dlb,
+        tinf,
+        tlb,
+        xm,
+        alpha,
+        zlb,
+        s2,
+        5,
+        &zn1,
+        &mut tn,
+        &mut tgn,
+    )
+}
+
+// The same with what a call of gts7 keeps from species to species.
+pub fn densu5(h: Shape, alt: f64, dlb: f64, xm: f64, alpha: f64, zlb: f64, zn: [f64; 5]) -> Profile
+    ensures { λ r. ⌜ r ≡ densu5Of h alt dlb xm alpha zlb zn ⌝ }
+{
+    let tn = h.tn;
+    let tgn = h.tgn;
+    densu_by_value(
         h.gsurf,
         h.re,
+        alt,
         dlb,
         h.tinf,
         h.tlb,
@@ -184,10 +247,9 @@ pub fn densu5(h: Shape, alt: f64, dlb: f64, xm: f64, alpha: f64, zlb: f64, zn: [
         alpha,
         zlb,
         h.s,
-        zg2,
-        tt,
-        l,
-        5,
+        zn,
+        tn,
+        tgn,
     )
 }
 
