@@ -88,7 +88,9 @@ pub fn densu(
     tn1: &mut [f64],
     tgn1: &mut [f64],
 ) -> ProfileCall
-    ensures { λ r. ⌜ (profileOutcome r ≡ densuCall gsurf re alt dlb tinf tlb xm alpha tz zlb s2 mn1 (now (zn1 .entry)) (now (tn1 .entry)) (now (tgn1 .entry))) × (now (tn1 .exit) ≡ densuTn1 re alt tinf tlb zlb s2 mn1 (now (zn1 .entry)) (now (tn1 .entry)) (now (tgn1 .entry))) × (now (tgn1 .exit) ≡ densuTgn1 re alt tinf tlb zlb s2 mn1 (now (zn1 .entry)) (now (tn1 .entry)) (now (tgn1 .entry))) ⌝ }
+    ensures { λ r. ⌜ profileOutcome r ≡ densuCall gsurf re alt dlb tinf tlb xm alpha tz zlb s2 mn1 (now (zn1 .entry)) (now (tn1 .entry)) (now (tgn1 .entry)) ⌝ }
+    ensures { λ _. ⌜ now (tn1 .exit) ≡ densuTn1 re alt tinf tlb zlb s2 mn1 (now (zn1 .entry)) (now (tn1 .entry)) (now (tgn1 .entry)) ⌝ }
+    ensures { λ _. ⌜ now (tgn1 .exit) ≡ densuTgn1 re alt tinf tlb zlb s2 mn1 (now (zn1 .entry)) (now (tn1 .entry)) (now (tgn1 .entry)) ⌝ }
 {
     if (mn1 < 2) | (mn1 > 5) {
         return ProfileCall::NodeCount(5);
@@ -99,7 +101,7 @@ pub fn densu(
     if tgn1.len() < 2 {
         return ProfileCall::SliceLength(2);
     }
-    let p = unchecked::densu(
+    let a = unchecked::densu(
         gsurf,
         re,
         alt,
@@ -115,5 +117,5 @@ pub fn densu(
         tn1,
         tgn1,
     );
-    ProfileCall::Answer(p)
+    ProfileCall::Answer(a)
 }

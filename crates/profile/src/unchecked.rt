@@ -144,7 +144,9 @@ pub fn densu(
     tgn1: &mut [f64],
 ) -> Profile
     requires { ⌜ (2 ≤ mn1) × (mn1 ≤ 10) × (mn1 ≤ length (now zn1)) × (mn1 ≤ length (now tn1)) × (2 ≤ length (now tgn1)) ⌝ }
-    ensures { λ r. ⌜ (r ≡ densuOf gsurf re alt dlb tinf tlb xm alpha zlb s2 mn1 (now (zn1 .entry)) (now (tn1 .entry)) (now (tgn1 .entry))) × (now (tn1 .exit) ≡ tn1Of re alt tinf tlb zlb s2 (now (zn1 .entry)) (now (tn1 .entry))) × (now (tgn1 .exit) ≡ tgn1Of re alt tinf tlb zlb s2 (now (zn1 .entry)) (now (tgn1 .entry))) ⌝ }
+    ensures { λ r. ⌜ r ≡ densuOf gsurf re alt dlb tinf tlb xm alpha zlb s2 mn1 (now (zn1 .entry)) (now (tn1 .entry)) (now (tgn1 .entry)) ⌝ }
+    ensures { λ _. ⌜ now (tn1 .exit) ≡ tn1Of re alt tinf tlb zlb s2 (now (zn1 .entry)) (now (tn1 .entry)) ⌝ }
+    ensures { λ _. ⌜ now (tgn1 .exit) ≡ tgn1Of re alt tinf tlb zlb s2 (now (zn1 .entry)) (now (tgn1 .entry)) ⌝ }
 {
     let za = zn1[0];
     let z = pick(alt > za, alt, za);

@@ -65,7 +65,8 @@ fn put(v: [f64; 10], n: usize, y2: &mut [f64])
 
 // The second derivatives at the nodes go into y2; where yp1 or ypn is above 0.99E30, that end is a natural one.
 pub fn spline(x: &[f64], y: &[f64], n: usize, yp1: f64, ypn: f64, y2: &mut [f64]) -> SplineWrite
-    ensures { λ r. ⌜ (writeOutcome r (now (y2 .exit)) ≡ splineCall (now (x .entry)) (now (y .entry)) n yp1 ypn (now (y2 .entry))) × (now (y2 .exit) ≡ after (splineCall (now (x .entry)) (now (y .entry)) n yp1 ypn (now (y2 .entry))) (now (y2 .entry))) ⌝ }
+    ensures { λ r. ⌜ writeOutcome r (now (y2 .exit)) ≡ splineCall (now (x .entry)) (now (y .entry)) n yp1 ypn (now (y2 .entry)) ⌝ }
+    ensures { λ _. ⌜ now (y2 .exit) ≡ after (splineCall (now (x .entry)) (now (y .entry)) n yp1 ypn (now (y2 .entry))) (now (y2 .entry)) ⌝ }
 {
     if (n < 2) | (n > 10) {
         return SplineWrite::NodeCount(10);

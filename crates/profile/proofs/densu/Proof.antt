@@ -10,27 +10,24 @@ use Rattle.profile.proofs.densu.Tie as tie
 
 returns : tie.Need-returns
 unfolding densuCall densuTn1 densuTgn1
-returns c = (
-  refused-count _ _ _ _ _ _ (c .if1 .taken),
-  left-alone _ _ _ _ (refused-count _ _ _ _ _ _ (c .if1 .taken)),
-  left-alone _ _ _ _ (refused-count _ _ _ _ _ _ (c .if1 .taken)),
-)
+returns c =
+    let a = c .if1 .taken in
+    (refused-count _ _ _ _ _ _ a, (left-alone _ _ _ _ (refused-count _ _ _ _ _ _ a), left-alone _ _ _ _ (refused-count _ _ _ _ _ _ a)))
 
 returns-2 : tie.Need-returns-2
 unfolding densuCall densuTn1 densuTgn1
-returns-2 c = (
-  refused-nodes _ _ _ _ _ _ (c .before .if1 .left) (c .if2 .taken),
-  left-alone _ _ _ _ (refused-nodes _ _ _ _ _ _ (c .before .if1 .left) (c .if2 .taken)),
-  left-alone _ _ _ _ (refused-nodes _ _ _ _ _ _ (c .before .if1 .left) (c .if2 .taken)),
-)
+returns-2 c =
+    let a = c .before .if1 .left in
+    let b = c .if2 .taken in
+    (refused-nodes _ _ _ _ _ _ a b, (left-alone _ _ _ _ (refused-nodes _ _ _ _ _ _ a b), left-alone _ _ _ _ (refused-nodes _ _ _ _ _ _ a b)))
 
 returns-3 : tie.Need-returns-3
 unfolding densuCall densuTn1 densuTgn1
-returns-3 c = (
-  refused-gradients _ _ _ _ _ _ (c .before .before .if1 .left) (c .before .if2 .left) (c .if3 .taken),
-  left-alone _ _ _ _ (refused-gradients _ _ _ _ _ _ (c .before .before .if1 .left) (c .before .if2 .left) (c .if3 .taken)),
-  left-alone _ _ _ _ (refused-gradients _ _ _ _ _ _ (c .before .before .if1 .left) (c .before .if2 .left) (c .if3 .taken)),
-)
+returns-3 c =
+    let a = c .before .before .if1 .left in
+    let b = c .before .if2 .left in
+    let d = c .if3 .taken in
+    (refused-gradients _ _ _ _ _ _ a b d, (left-alone _ _ _ _ (refused-gradients _ _ _ _ _ _ a b d), left-alone _ _ _ _ (refused-gradients _ _ _ _ _ _ a b d)))
 
 densu-requires : tie.Need-densu-requires
 densu-requires c κs =
@@ -46,11 +43,11 @@ same-length-2 c = search needs
 returns-4 : tie.Need-returns-4
 unfolding densuCall densuTn1 densuTgn1
 returns-4 c =
-    let e = c .before .before .before .before .densu .ensures in (
-      ap gives (e .0) ∙ passed _ _ _ _ _ _ (c .before .before .before .before .before .before .before .before .before .if1 .left) (c .before .before .before .before .before .before .before .before .if2 .left) (c .before .before .before .before .before .before .before .if3 .left),
-      left-with _ _ _ _ (passed _ _ _ _ _ _ (c .before .before .before .before .before .before .before .before .before .if1 .left) (c .before .before .before .before .before .before .before .before .if2 .left) (c .before .before .before .before .before .before .before .if3 .left)) (e .1),
-      left-with _ _ _ _ (passed _ _ _ _ _ _ (c .before .before .before .before .before .before .before .before .before .if1 .left) (c .before .before .before .before .before .before .before .before .if2 .left) (c .before .before .before .before .before .before .before .if3 .left)) (e .2),
-    )
+    let e = c .before .before .before .before .densu .ensures in
+    let a = c .before .before .before .before .before .before .before .before .before .if1 .left in
+    let b = c .before .before .before .before .before .before .before .before .if2 .left in
+    let d = c .before .before .before .before .before .before .before .if3 .left in
+    (ap gives (e .0) ∙ passed _ _ _ _ _ _ a b d, (left-with _ _ _ _ (passed _ _ _ _ _ _ a b d) (e .1 .0), left-with _ _ _ _ (passed _ _ _ _ _ _ a b d) (e .1 .1)))
 
 pub densu-spec : {M : Type 1} → statement M
 densu-spec =

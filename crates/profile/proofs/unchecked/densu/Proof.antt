@@ -39,14 +39,22 @@ same-length-2 c = search needs
 
 returns : tie.Need-returns
 unfolding densuOf tn1Of tgn1Of
-returns c = (simp (← c .below .ensures, ← c .before .floored .ensures, ← c .before .before .before .before .gradient .ensures, ← c .before .before .before .before .before .before .bates .ensures, ← c .before .before .before .before .before .before .before .zeta .ensures, ← c .before .before .before .before .before .before .before .before .pick .ensures) (simp (c .before .before .before .before .before .if1 .taken)), simp (← c .before .before .before .before .before .before .bates .ensures, ← c .before .before .before .before .before .before .before .zeta .ensures, ← c .before .before .before .before .before .before .before .before .pick .ensures) (simp (c .before .before .before .before .before .if1 .taken)), simp (← c .before .before .before .before .gradient .ensures, ← c .before .before .before .before .before .before .bates .ensures, ← c .before .before .before .before .before .before .before .zeta .ensures, ← c .before .before .before .before .before .before .before .before .pick .ensures) (simp (c .before .before .before .before .before .if1 .taken)))
+returns c =
+    let t = c .before .before .before .before .before .if1 .taken in
+    let p = c .before .before .before .before .before .before .before .before .pick .ensures in
+    let z = c .before .before .before .before .before .before .before .zeta .ensures in
+    let b = c .before .before .before .before .before .before .bates .ensures in
+    let g = c .before .before .before .before .gradient .ensures in
+    (simp (← c .below .ensures, ← c .before .floored .ensures, ← g, ← b, ← z, ← p) (simp (t)), (simp (← b, ← z, ← p) (simp (t)), simp (← g, ← b, ← z, ← p) (simp (t))))
 
 above-requires : tie.Need-above-requires
 above-requires c κs = search needs
 
 returns-2 : tie.Need-returns-2
 unfolding densuOf tn1Of tgn1Of
-returns-2 c = (simp (← c .above .ensures, ← c .before .before .before .bates .ensures, ← c .before .before .before .before .zeta .ensures, ← c .before .before .before .before .before .pick .ensures) (simp (c .before .if2 .taken, c .before .before .if1 .left)), simp (c .before .before .if1 .left), simp (c .before .before .if1 .left))
+returns-2 c =
+    let t = c .before .before .if1 .left in
+    (simp (← c .above .ensures, ← c .before .before .before .bates .ensures, ← c .before .before .before .before .zeta .ensures, ← c .before .before .before .before .before .pick .ensures) (simp (c .before .if2 .taken, t)), (simp (t), simp (t)))
 
 unset-requires : tie.Need-unset-requires
 unset-requires c κs = search needs
@@ -56,7 +64,9 @@ below-requires-2 c κs = search needs
 
 returns-3 : tie.Need-returns-3
 unfolding densuOf tn1Of tgn1Of
-returns-3 c = (simp (← c .below2 .ensures, ← c .before .unset .ensures, ← c .before .before .before .before .bates .ensures, ← c .before .before .before .before .before .zeta .ensures, ← c .before .before .before .before .before .before .pick .ensures) (simp (c .before .before .if2 .left, c .before .before .before .if1 .left)), simp (c .before .before .before .if1 .left), simp (c .before .before .before .if1 .left))
+returns-3 c =
+    let t = c .before .before .before .if1 .left in
+    (simp (← c .below2 .ensures, ← c .before .unset .ensures, ← c .before .before .before .before .bates .ensures, ← c .before .before .before .before .before .zeta .ensures, ← c .before .before .before .before .before .before .pick .ensures) (simp (c .before .before .if2 .left, t)), (simp (t), simp (t)))
 
 pub densu-spec : {M : Type 1} → statement M
 densu-spec =
