@@ -1,0 +1,19 @@
+-- `above` meets its contract.
+use Rattle.profile.specs.Profile.{aboveOf}
+use borrow.Author.Needs.{needs}
+use Rattle.profile.proofs.unchecked.above.Statement.{statement}
+use Rattle.profile.proofs.unchecked.above.Tie as tie
+
+returns : tie.Need-returns
+unfolding aboveOf
+returns c = simp (c .if1 .taken)
+
+densa-requires : tie.Need-densa-requires
+densa-requires c κs = search needs
+
+returns-2 : tie.Need-returns-2
+unfolding aboveOf
+returns-2 c = simp (← c .densa .ensures) (simp (c .before .if1 .left))
+
+pub above-spec : {M : Type 1} → statement M
+above-spec = tie.close (tie.spec returns densa-requires returns-2)

@@ -1,0 +1,15 @@
+-- `answer` meets its contract.
+use Rattle.profile.specs.Profile.{answerOf}
+use Rattle.profile.proofs.unchecked.answer.Statement.{statement}
+use Rattle.profile.proofs.unchecked.answer.Tie as tie
+
+returns : tie.Need-returns
+unfolding answerOf
+returns c = simp (c .if1 .taken)
+
+returns-2 : tie.Need-returns-2
+unfolding answerOf
+returns-2 c = simp (c .if1 .left)
+
+pub answer-spec : {M : Type 1} → statement M
+answer-spec = tie.close (tie.spec returns returns-2)

@@ -1,0 +1,5 @@
+-- Gravity, scale height, the profiles of temperature and density, and the calls with their refusals.
+pub mod Gravity
+pub mod Curve
+pub mod Profile
+pub mod Calls
