@@ -1,0 +1,91 @@
+-- Plans: what gts7 and gtd7 ask of the expansions, in order, and what they make of the answers. A plan sees no record and no View.
+use mathlib.Core.Path.{_≡_, refl, ap, _∙_}
+use mathlib.Core.List.{List}
+use mathlib.Core.Bool.{Bool, true, false}
+use lib.Ieee.{Float}
+use Rattle.numbers.specs.Arithmetic.{_⊕_, _⊖_, _⊗_}
+use Rattle.numbers.specs.Literals.{1·0}
+use Rattle.elementary.specs.Exp.{expOf}
+use Rattle.setting.specs.declared.State.{State}
+use Rattle.setting.specs.declared.View.{View}
+use Rattle.setting.specs.declared.Valued.{Valued}
+use Rattle.tables.specs.Names.{Wide, Narrow, wide, narrow}
+use Rattle.expansion.specs.Expansion.{globe7Of, glob7sOf}
+
+-- 1 + f * globe7
+unfoldable pub onePlusGlobe7Of : View → Float → List Float → State → Valued
+onePlusGlobe7Of v f p s = let g = globe7Of v p s in record { value = 1·0 ⊕ f ⊗ g .value; state = g .state }
+
+-- exp(f * globe7)
+unfoldable pub expGlobe7Of : View → Float → List Float → State → Valued
+expGlobe7Of v f p s = let g = globe7Of v p s in record { value = expOf (f ⊗ g .value); state = g .state }
+
+-- 1 + f * glob7s
+unfoldable pub onePlusGlob7sOf : View → Float → List Float → State → Float
+onePlusGlob7sOf v f p s = 1·0 ⊕ f ⊗ glob7sOf v p s
+
+-- 1 - f * glob7s
+unfoldable pub oneMinusGlob7sOf : View → Float → List Float → State → Float
+oneMinusGlob7sOf v f p s = 1·0 ⊖ f ⊗ glob7sOf v p s
+
+-- a question: an expansion over a coefficient set, with the factor it is multiplied by and the way it enters
+pub data Ask : Type 0 where
+  one-plus-globe7 : Float → Wide → Ask
+  exp-globe7 : Float → Wide → Ask
+  one-plus-glob7s : Float → Narrow → Ask
+  one-minus-glob7s : Float → Narrow → Ask
+
+-- a result, or a question and what follows from its answer
+pub data Plan (A : Type 0) : Type 0 where
+  done : A → Plan A
+  ask : Ask → (Float → Plan A) → Plan A
+
+-- one plan, then another that depends on its result
+infixl 10 _>>=_
+unfoldable pub _>>=_ : {A B : Type 0} → Plan A → (A → Plan B) → Plan B
+done a >>= k = k a
+ask q f >>= k = ask q (λ x. f x >>= k)
+
+-- a question alone
+abbrev pub get : Ask → Plan Float
+get q = ask q (λ x. done x)
+
+-- one of two plans by a test
+abbrev pub either : {A : Type 0} → Bool → Plan A → Plan A → Plan A
+either true x y = x
+either false x y = y
+
+-- the answer, from the View and the State, with the State after it
+unfoldable pub answer : View → Ask → State → Valued
+answer v (one-plus-globe7 f p) s = onePlusGlobe7Of v f (wide p) s
+answer v (exp-globe7 f p) s = expGlobe7Of v f (wide p) s
+answer v (one-plus-glob7s f p) s = record { value = onePlusGlob7sOf v f (narrow p) s; state = s }
+answer v (one-minus-glob7s f p) s = record { value = oneMinusGlob7sOf v f (narrow p) s; state = s }
+
+-- a plan that was run: its result and the State that is left
+pub record Ran (A : Type 0) : Type 0 where
+  pub result : A
+  pub left : State
+
+abbrev pub ends : {A : Type 0} → A → State → Ran A
+ends a s = record { result = a; left = s }
+
+-- a plan run: each question answered in order, the State handed on
+unfoldable pub run : {A : Type 0} → View → Plan A → State → Ran A
+run v (done a) s = ends a s
+run v (ask q k) s = run v (k ((answer v q s) .value)) ((answer v q s) .state)
+
+pub run->>= : {A B : Type 0} (v : View) (m : Plan A) (k : A → Plan B) (s : State)
+    → run v (m >>= k) s ≡ run v (k ((run v m s) .result)) ((run v m s) .left)
+unfolding run _>>=_
+run->>= v (done a) k s = refl
+run->>= v (ask q f) k s = run->>= v (f ((answer v q s) .value)) k ((answer v q s) .state)
+
+-- a stage whose end is known, then the rest
+pub then : {A B : Type 0} (v : View) (m : Plan A) (k : A → Plan B) (s : State) (a : A) (t : State)
+    → run v m s ≡ ends a t → run v (m >>= k) s ≡ run v (k a) t
+then v m k s a t e = run->>= v m k s ∙ ap (λ (r : Ran _). run v (k (r .result)) (r .left)) e
+
+pub last : {A : Type 0} (v : View) (a : A) (s : State) → run v (done a) s ≡ ends a s
+unfolding run
+last v a s = refl
