@@ -1,0 +1,68 @@
+-- `helium` meets its contract.
+use Rattle.species.specs.Species.{heliumOf}
+use borrow.Author.Needs.{needs}
+use Rattle.species.proofs.helium.Statement.{statement}
+use Rattle.species.proofs.helium.Tie as tie
+
+density-requires : tie.Need-density-requires
+density-requires c κs = search needs
+
+returns : tie.Need-returns
+unfolding heliumOf
+returns c = simp (← c .density .ensures) (simp (c .before .if1 .taken))
+
+pdm0-requires : tie.Need-pdm0-requires
+pdm0-requires c κs = search needs
+
+pdl1-requires : tie.Need-pdl1-requires
+pdl1-requires c κs = search needs
+
+array-read-mixed : tie.Need-array-read-mixed
+array-read-mixed c = search needs
+
+mixed-requires : tie.Need-mixed-requires
+mixed-requires c κs = search needs
+
+array-read-log : tie.Need-array-read-log
+array-read-log c = search needs
+
+log-requires : tie.Need-log-requires
+log-requires c κs = search needs
+
+array-read-ccor : tie.Need-array-read-ccor
+array-read-ccor c = search needs
+
+array-read-ccor-2 : tie.Need-array-read-ccor-2
+array-read-ccor-2 c = search needs
+
+array-read-ccor-3 : tie.Need-array-read-ccor-3
+array-read-ccor-3 c = search needs
+
+array-read-ccor-4 : tie.Need-array-read-ccor-4
+array-read-ccor-4 c = search needs
+
+ccor-requires : tie.Need-ccor-requires
+ccor-requires c κs = search needs
+
+returns-2 : tie.Need-returns-2
+unfolding heliumOf
+returns-2 c = simp (← c .before .ccor .ensures, ← c .before .before .log .ensures, ← c .before .before .before .before .mixed .ensures, ← c .before .before .before .before .before .pdl1 .ensures, ← c .before .before .before .before .before .before .pdm0 .ensures) (simp (c .before .before .before .before .before .before .before .if1 .left))
+
+pub helium-spec : {M : Type 1} → statement M
+helium-spec =
+    tie.close
+    (tie.spec
+    density-requires
+    returns
+    pdm0-requires
+    pdl1-requires
+    array-read-mixed
+    mixed-requires
+    array-read-log
+    log-requires
+    array-read-ccor
+    array-read-ccor-2
+    array-read-ccor-3
+    array-read-ccor-4
+    ccor-requires
+    returns-2)
