@@ -1,0 +1,67 @@
+-- `argon_stage` meets its contract.
+use lib.Ieee.{Float}
+use Rattle.numbers.specs.Arithmetic.{_‼_}
+use Rattle.species.specs.Species.{argonOf}
+use Rattle.tables.specs.Names.{PD5}
+use Rattle.tables.specs.Tables.{pdmT4}
+use Rattle.stages.proofs.Laws.{species-law}
+use Rattle.stages.specs.Stages.{argonPlan}
+use borrow.Author.Needs.{needs}
+use Rattle.stages.proofs.argon_stage.Statement.{statement}
+use Rattle.stages.proofs.argon_stage.Tie as tie
+
+pd5-requires : tie.Need-pd5-requires
+pd5-requires c κs = search needs
+
+pdm4-requires : tie.Need-pdm4-requires
+pdm4-requires c κs = search needs
+
+element-copy-out-exp-globe7 : tie.Need-element-copy-out-exp-globe7
+element-copy-out-exp-globe7 c = search needs
+
+slice-aggregate-exp-globe7 : tie.Need-slice-aggregate-exp-globe7
+slice-aggregate-exp-globe7 c = search needs
+
+exp-globe7-requires : tie.Need-exp-globe7-requires
+exp-globe7-requires c κs = search needs
+
+element-copy-out-argon : tie.Need-element-copy-out-argon
+element-copy-out-argon c = search needs
+
+array-read-argon : tie.Need-array-read-argon
+array-read-argon c = search needs
+
+array-read-argon-2 : tie.Need-array-read-argon-2
+array-read-argon-2 c = search needs
+
+argon-requires : tie.Need-argon-requires
+argon-requires c κs = search needs
+
+returns : tie.Need-returns
+unfolding argonPlan
+returns c =
+    let A = c .before .before .before .before .before .before .before .before .before .args in
+    species-law (A .t1) (λ (x : Float). argonOf (A .h) (A .t1 .sw ‼ 15) (A .z) (A .b28) x (A .zhm) (A .xmm)) (A .t1 .sw ‼ 21) PD5 pdmT4 (A .s)
+    (c .before .argon .result)
+    (c .before .before .before .before .exp-globe7 .result)
+    (c .before .before .before .before .before .before .before .pdm4 .result)
+    (c .before .before .before .before .before .before .before .before .pd5 .result)
+    (c .before .argon .ensures)
+    (c .before .before .before .before .exp-globe7 .ensures)
+    (c .before .before .before .before .before .before .before .pdm4 .ensures)
+    (c .before .before .before .before .before .before .before .before .pd5 .ensures)
+
+pub argon-stage-spec : {M : Type 1} → statement M
+argon-stage-spec =
+    tie.close
+    (tie.spec
+    pd5-requires
+    pdm4-requires
+    element-copy-out-exp-globe7
+    slice-aggregate-exp-globe7
+    exp-globe7-requires
+    element-copy-out-argon
+    array-read-argon
+    array-read-argon-2
+    argon-requires
+    returns)

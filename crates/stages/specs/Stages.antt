@@ -1,0 +1,107 @@
+-- gts7 in stages, as plans over the main effects sw, a Site and an altitude z, in the Rust's order.
+use mathlib.Core.List.{List}
+use lib.Ieee.{Float, lt}
+use Rattle.numbers.specs.Arithmetic.{_⊗_, _‼_}
+use Rattle.numbers.specs.Literals.{2·0, 72·5, 300·0}
+use Rattle.elementary.specs.Pow.{powOf}
+use Rattle.profile.specs.declared.unchecked.Shape.{Shape}
+use Rattle.species.specs.declared.Blend.{Blend}
+use Rattle.species.specs.declared.Mixture.{Mixture}
+use Rattle.species.specs.Species.{heliumOf, oxygenOf, o2Of, argonOf, hydrogenOf, nitrogenOf, hotOf, n2Of}
+use Rattle.plan.specs.Plan.{Plan, done, ask, get, either, _>>=_, one-plus-globe7, exp-globe7, one-plus-glob7s, one-minus-glob7s}
+use Rattle.tables.specs.Names.{PT, PS, PD0, PD1, PD2, PD3, PD4, PD5, PD6, PD7, PD8, PTL0, PTL1, PTL2, PTL3, PMA8}
+use Rattle.tables.specs.Tables.{ptT, psT, ptmT, pdT0, pdT1, pdT2, pdT3, pdT4, pdT5, pdT6, pdT7, pdT8, pdmT0, pdmT1, pdmT2, pdmT3, pdmT4, pdmT5, pdmT6, pdmT7, pdlT0, pdlT1, ptlT0, ptlT1, ptlT2, ptlT3, pmaT8}
+use Rattle.upper.specs.declared.Site.{Site}
+use Rattle.upper.specs.declared.Nodes.{Nodes}
+use Rattle.upper.specs.declared.Six.{Six}
+use Rattle.upper.specs.declared.Upper.{Upper}
+use Rattle.upper.specs.Upper.{variedOf, meanOf, shapeOf, anomalousOf, gatherOf}
+
+-- exospheric temperature; its variation counts above za
+unfoldable pub tinfPlan : List Float → Float → Plan Float
+tinfPlan sw z =
+    either (lt (pdlT1 ‼ 15) z)
+    (do a ← get (one-plus-globe7 (sw ‼ 16) PT); done (ptmT ‼ 0 ⊗ ptT ‼ 0 ⊗ a))
+    (done (ptmT ‼ 0 ⊗ ptT ‼ 0))
+
+-- g0 of gts7, the gradient at the lower boundary; its variation counts above zn1[4]
+unfoldable pub gradientPlan : List Float → Float → Plan Float
+gradientPlan sw z =
+    either (lt 72·5 z)
+    (do a ← get (one-plus-globe7 (sw ‼ 19) PS); done (ptmT ‼ 3 ⊗ psT ‼ 0 ⊗ a))
+    (done (ptmT ‼ 3 ⊗ psT ‼ 0))
+
+-- tlb, the temperature at the lower boundary
+unfoldable pub tlbPlan : List Float → Plan Float
+tlbPlan sw = do a ← get (one-plus-globe7 (sw ‼ 17) PD3); done (ptmT ‼ 1 ⊗ a ⊗ pdT3 ‼ 0)
+
+-- meso_tn1 and meso_tgn1: below 300 km from five expansions, from there on from none
+unfoldable pub nodesPlan : List Float → Float → Plan Nodes
+nodesPlan sw z =
+    either (lt z 300·0)
+    (do
+      a ← get (one-minus-glob7s (sw ‼ 18) PTL0)
+      b ← get (one-minus-glob7s (sw ‼ 18) PTL1)
+      c ← get (one-minus-glob7s (sw ‼ 18) PTL2)
+      e ← get (one-minus-glob7s (sw ‼ 18 ⊗ sw ‼ 20) PTL3)
+      g ← get (one-plus-glob7s (sw ‼ 18 ⊗ sw ‼ 20) PMA8)
+      done (variedOf ptmT (ptlT0 ‼ 0) (ptlT1 ‼ 0) (ptlT2 ‼ 0) (ptlT3 ‼ 0) (pmaT8 ‼ 0) (powOf (ptmT ‼ 4 ⊗ ptlT3 ‼ 0) 2·0) a b c e g))
+    (done (meanOf ptmT (ptlT0 ‼ 0) (ptlT1 ‼ 0) (ptlT2 ‼ 0) (ptlT3 ‼ 0) (pmaT8 ‼ 0) (powOf (ptmT ‼ 4 ⊗ ptlT3 ‼ 0) 2·0)))
+
+-- what densu reads
+unfoldable pub shapePlan : List Float → Site → Float → Plan Shape
+shapePlan sw x z = do
+  tinf ← tinfPlan sw z
+  g ← gradientPlan sw z
+  tlb ← tlbPlan sw
+  n ← nodesPlan sw z
+  done (shapeOf x tinf tlb g n)
+
+unfoldable pub n2Plan : List Float → Shape → Float → Float → Plan Blend
+n2Plan sw h z zhf = do g ← get (exp-globe7 (sw ‼ 21) PD2); done (n2Of h (sw ‼ 15) z (pdmT2 ‼ 0 ⊗ g ⊗ pdT2 ‼ 0) zhf)
+
+unfoldable pub heliumPlan : List Float → Shape → Float → Float → Float → Float → Plan Mixture
+heliumPlan sw h z b28 zhm xmm = do g ← get (exp-globe7 (sw ‼ 21) PD0); done (heliumOf h (sw ‼ 15) z b28 (pdmT0 ‼ 0 ⊗ g ⊗ pdT0 ‼ 0) zhm xmm)
+
+unfoldable pub oxygenPlan : List Float → Shape → Float → Float → Float → Float → Plan Mixture
+oxygenPlan sw h z zhm xmm flux = do g ← get (exp-globe7 (sw ‼ 21) PD1); done (oxygenOf h (sw ‼ 15) z (pdmT1 ‼ 0 ⊗ g ⊗ pdT1 ‼ 0) zhm xmm flux)
+
+unfoldable pub o2Plan : List Float → Shape → Float → Float → Float → Float → Float → Plan Mixture
+o2Plan sw h z b28 zhm xmm flux = do g ← get (exp-globe7 (sw ‼ 21) PD4); done (o2Of h (sw ‼ 15) z b28 (pdmT3 ‼ 0 ⊗ g ⊗ pdT4 ‼ 0) zhm xmm flux)
+
+unfoldable pub argonPlan : List Float → Shape → Float → Float → Float → Float → Plan Mixture
+argonPlan sw h z b28 zhm xmm = do g ← get (exp-globe7 (sw ‼ 21) PD5); done (argonOf h (sw ‼ 15) z b28 (pdmT4 ‼ 0 ⊗ g ⊗ pdT5 ‼ 0) zhm xmm)
+
+unfoldable pub hydrogenPlan : List Float → Shape → Float → Float → Float → Float → Plan Mixture
+hydrogenPlan sw h z b28 zhm xmm = do g ← get (exp-globe7 (sw ‼ 21) PD6); done (hydrogenOf h (sw ‼ 15) z b28 (pdmT5 ‼ 0 ⊗ g ⊗ pdT6 ‼ 0) zhm xmm)
+
+unfoldable pub nitrogenPlan : List Float → Shape → Float → Float → Float → Float → Plan Mixture
+nitrogenPlan sw h z b28 zhm xmm = do g ← get (exp-globe7 (sw ‼ 21) PD7); done (nitrogenOf h (sw ‼ 15) z b28 (pdmT6 ‼ 0 ⊗ g ⊗ pdT7 ‼ 0) zhm xmm)
+
+-- anomalous oxygen
+unfoldable pub hotPlan : List Float → Shape → Float → Plan Float
+hotPlan sw h z = do
+  g ← get (exp-globe7 (sw ‼ 21) PD8)
+  done (hotOf h z (pdmT7 ‼ 0 ⊗ g ⊗ pdT8 ‼ 0) (pdmT7 ‼ 5) (pdmT7 ‼ 4) (pdmT7 ‼ 9 ⊗ pdlT0 ‼ 6))
+
+-- the six species that blend with N2, whose mixed density at the turbopause is b28
+unfoldable pub speciesPlan : List Float → Shape → Float → Float → Float → Plan Six
+speciesPlan sw h z b28 flux = do
+  let zhm = pdmT2 ‼ 3 ⊗ pdlT1 ‼ 5
+  let xmm = pdmT2 ‼ 4
+  a ← heliumPlan sw h z b28 zhm xmm
+  b ← oxygenPlan sw h z zhm xmm flux
+  c ← o2Plan sw h z b28 zhm xmm flux
+  d ← argonPlan sw h z b28 zhm xmm
+  e ← hydrogenPlan sw h z b28 zhm xmm
+  f ← nitrogenPlan sw h z b28 zhm xmm
+  done (record { he = a; o = b; o2 = c; ar = d; h = e; n = f })
+
+-- gts7
+unfoldable pub gts7Plan : List Float → Site → Float → Plan Upper
+gts7Plan sw x z = do
+  h ← shapePlan sw x z
+  b ← n2Plan sw h z (x .zhf)
+  y ← speciesPlan sw h z (b .b) (x .flux)
+  o ← hotPlan sw (anomalousOf h) z
+  done (gatherOf (sw ‼ 0) h z b y o)
