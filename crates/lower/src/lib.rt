@@ -1,0 +1,298 @@
+// gtd7 below 72.5 km: its nodes from the expansions, its densities and temperature.
+ghost use mathlib.Core.Path.{_≡_};
+ghost use Rattle.plan.specs.Plan.{run, ends};
+ghost use Rattle.lower.specs.Lower.{mesosphereOf, troposphereOf, unsetOf, dmcOf, dm28mOf, n2Of, fullOf, kilogramsOf, warmthOf, belowOf, aboveOf, mesoPlan, lowerPlan};
+use elementary::power::pow;
+use numbers::pick;
+use plan::one_minus_glob7s;
+use plan::one_plus_glob7s;
+use profile::unchecked::Profile;
+use profile::unchecked::density_in;
+use profile::unchecked::densm54;
+use profile::unchecked::temperature_in;
+use setting::State;
+use setting::View;
+use tables::pavgm;
+use tables::pdm0;
+use tables::pdm2;
+use tables::pdm3;
+use tables::pdm4;
+use tables::pma0;
+use tables::pma1;
+use tables::pma2;
+use tables::pma3;
+use tables::pma4;
+use tables::pma5;
+use tables::pma6;
+use tables::pma7;
+use tables::pma9;
+use upper::Site;
+use upper::Upper;
+use upper::mass;
+
+// meso_tn2 and meso_tgn2.
+pub struct Meso {
+    pub tn2: [f64; 4],
+    pub tgn2: [f64; 2],
+}
+
+// The nodes of the lower atmosphere.
+pub struct Nodes {
+    pub tn2: [f64; 4],
+    pub tgn2: [f64; 2],
+    pub tn3: [f64; 5],
+    pub tgn3: [f64; 2],
+}
+
+// What gtd7 answers: d[0] to d[8], t[0], t[1], and what State keeps of it.
+pub struct Whole {
+    pub row: [f64; 11],
+    pub upper: Upper,
+    pub nodes: Nodes,
+    pub dd: f64,
+}
+
+// The nodes from 72.5 to 32.5 km: q is PAVGM, p0 to p9 the first coefficients, k the last denominator, a to e the answers.
+pub fn mesosphere(
+    u: Upper,
+    q: [f64; 10],
+    p0: f64,
+    p1: f64,
+    p2: f64,
+    p9: f64,
+    k: f64,
+    a: f64,
+    b: f64,
+    c: f64,
+    e: f64,
+) -> Meso
+    ensures { λ r. ⌜ r ≡ mesosphereOf u q p0 p1 p2 p9 k a b c e ⌝ }
+{
+    let h = u.shape;
+    let t3 = p2 * q[2] / c;
+    Meso {
+        tn2: [h.tn[4], p0 * q[0] / a, p1 * q[1] / b, t3],
+        tgn2: [h.tgn[1], q[8] * p9 * e * t3 * t3 / k],
+    }
+}
+
+// The nodes from 32.5 km down.
+pub fn troposphere(
+    m: Meso,
+    q: [f64; 10],
+    p3: f64,
+    p4: f64,
+    p5: f64,
+    p6: f64,
+    p7: f64,
+    k: f64,
+    a: f64,
+    b: f64,
+    c: f64,
+    e: f64,
+    g: f64,
+) -> Nodes
+    ensures { λ r. ⌜ r ≡ troposphereOf m q p3 p4 p5 p6 p7 k a b c e g ⌝ }
+{
+    let x = m.tn2;
+    let y = m.tgn2;
+    let t4 = p6 * q[6] / e;
+    Nodes {
+        tn2: x,
+        tgn2: y,
+        tn3: [x[3], p3 * q[3] / a, p4 * q[4] / b, p5 * q[5] / c, t4],
+        tgn3: [y[1], p7 * q[7] * g * t4 * t4 / k],
+    }
+}
+
+// At or above 32.5 km all but the first of them stay 0.
+pub fn unset(m: Meso) -> Nodes
+    ensures { λ r. ⌜ r ≡ unsetOf m ⌝ }
+{
+    let x = m.tn2;
+    let y = m.tgn2;
+    Nodes {
+        tn2: x,
+        tgn2: y,
+        tn3: [x[3], 0.0, 0.0, 0.0, 0.0],
+        tgn3: [0.0, 0.0],
+    }
+}
+
+pub fn meso_stage(v: View, u: Upper, s: State) -> Meso
+    ensures { λ r. ⌜ run v (mesoPlan (v .sw) u) s ≡ ends r s ⌝ }
+{
+    let q = pavgm();
+    let p0 = pma0();
+    let p1 = pma1();
+    let p2 = pma2();
+    let p9 = pma9();
+    let k = pow(p2[0] * q[2], 2.0);
+    let f = v.sw[20] * v.sw[22];
+    let a = one_minus_glob7s(v, v.sw[20], &p0, s);
+    let b = one_minus_glob7s(v, v.sw[20], &p1, s);
+    let c = one_minus_glob7s(v, f, &p2, s);
+    let e = one_plus_glob7s(v, f, &p9, s);
+    mesosphere(u, q, p0[0], p1[0], p2[0], p9[0], k, a, b, c, e)
+}
+
+pub fn lower_stage(v: View, alt: f64, m: Meso, s: State) -> Nodes
+    ensures { λ r. ⌜ run v (lowerPlan (v .sw) alt m) s ≡ ends r s ⌝ }
+{
+    if !(alt < 32.5) {
+        return unset(m);
+    }
+    let q = pavgm();
+    let p3 = pma3();
+    let p4 = pma4();
+    let p5 = pma5();
+    let p6 = pma6();
+    let p7 = pma7();
+    let k = pow(p6[0] * q[6], 2.0);
+    let a = one_minus_glob7s(v, v.sw[22], &p3, s);
+    let b = one_minus_glob7s(v, v.sw[22], &p4, s);
+    let c = one_minus_glob7s(v, v.sw[22], &p5, s);
+    let e = one_minus_glob7s(v, v.sw[22], &p6, s);
+    let g = one_plus_glob7s(v, v.sw[22], &p7, s);
+    troposphere(m, q, p3[0], p4[0], p5[0], p6[0], p7[0], k, a, b, c, e, g)
+}
+
+// dmc: the linear transition to full mixing.
+pub fn dmc(alt: f64) -> f64
+    ensures { λ r. ⌜ r ≡ dmcOf alt ⌝ }
+{
+    pick(alt > 62.5, 1.0 - (72.5 - alt) / (72.5 - 62.5), 0.0)
+}
+
+// dm28m: the mixed density of N2 in the units asked for.
+pub fn dm28m(sw0: f64, dm28: f64) -> f64
+    ensures { λ r. ⌜ r ≡ dm28mOf sw0 dm28 ⌝ }
+{
+    pick(sw0 != 0.0, dm28 * 1.0E6, dm28)
+}
+
+// densm for N2.
+pub fn n2(x: Site, alt: f64, d: f64, w: Nodes) -> Profile
+    ensures { λ r. ⌜ r ≡ n2Of x alt d w ⌝ }
+{
+    let m = pdm2();
+    let tn3 = w.tn3;
+    let tgn3 = w.tgn3;
+    let tn2 = w.tn2;
+    let tgn2 = w.tgn2;
+    densm54(
+        x.gsurf,
+        x.re,
+        alt,
+        d,
+        m[4],
+        0.0,
+        [32.5, 20.0, 15.0, 10.0, 0.0],
+        tn3,
+        tgn3,
+        [72.5, 55.0, 45.0, 32.5],
+        tn2,
+        tgn2,
+    )
+}
+
+// densm for the temperature.
+pub fn warmth(x: Site, alt: f64, tz: f64, w: Nodes) -> Profile
+    ensures { λ r. ⌜ r ≡ warmthOf x alt tz w ⌝ }
+{
+    let tn3 = w.tn3;
+    let tgn3 = w.tgn3;
+    let tn2 = w.tn2;
+    let tgn2 = w.tgn2;
+    densm54(
+        x.gsurf,
+        x.re,
+        alt,
+        1.0,
+        0.0,
+        tz,
+        [32.5, 20.0, 15.0, 10.0, 0.0],
+        tn3,
+        tgn3,
+        [72.5, 55.0, 45.0, 32.5],
+        tn2,
+        tgn2,
+    )
+}
+
+// A species below 72.5 km: its share k of N2, carried over from its density x at 72.5 km.
+pub fn full(d2: f64, k: f64, x: f64, dz28: f64, c: f64) -> f64
+    ensures { λ r. ⌜ r ≡ fullOf d2 k x dz28 c ⌝ }
+{
+    let dmr = x / (dz28 * k) - 1.0;
+    d2 * k * (1.0 + dmr * c)
+}
+
+pub fn kilograms(sw0: f64, all: f64) -> f64
+    ensures { λ r. ⌜ r ≡ kilogramsOf sw0 all ⌝ }
+{
+    pick(sw0 != 0.0, all / 1000.0, all)
+}
+
+// gtd7's answer below 72.5 km.
+pub fn below(sw0: f64, x: Site, alt: f64, u: Upper, w: Nodes) -> Whole
+    ensures { λ r. ⌜ r ≡ belowOf sw0 x alt u w ⌝ }
+{
+    let m0 = pdm0();
+    let m3 = pdm3();
+    let m4 = pdm4();
+    let y = u.base;
+    let h = u.shape;
+    let c = dmc(alt);
+    let d = dm28m(sw0, y.dm);
+    let a = n2(x, alt, d, w);
+    let n = density_in(a);
+    let d2 = n * (1.0 + (u.d[2] / d - 1.0) * c);
+    let he = full(d2, m0[1], u.d[0], u.d[2], c);
+    let o2 = full(d2, m3[1], u.d[3], u.d[2], c);
+    let ar = full(d2, m4[1], u.d[4], u.d[2], c);
+    let g = mass(he, 0.0, d2, o2, ar, 0.0, 0.0);
+    let all = kilograms(sw0, g);
+    let tz = temperature_in(a);
+    let b = warmth(x, alt, tz, w);
+    let dd = density_in(b);
+    let t1 = temperature_in(b);
+    Whole {
+        row: [he, 0.0, d2, o2, ar, all, 0.0, 0.0, 0.0, h.tinf, t1],
+        upper: u,
+        nodes: w,
+        dd: dd,
+    }
+}
+
+// gtd7's answer at or above 72.5 km: gts7's, and the lower nodes as a fresh State has them.
+pub fn above(u: Upper) -> Whole
+    ensures { λ r. ⌜ r ≡ aboveOf u ⌝ }
+{
+    let d = u.d;
+    let h = u.shape;
+    let w = Nodes {
+        tn2: [0.0, 0.0, 0.0, 0.0],
+        tgn2: [0.0, 0.0],
+        tn3: [0.0, 0.0, 0.0, 0.0, 0.0],
+        tgn3: [0.0, 0.0],
+    };
+    Whole {
+        row: [
+            d[0],
+            d[1],
+            d[2],
+            d[3],
+            d[4],
+            d[5],
+            d[6],
+            d[7],
+            d[8],
+            h.tinf,
+            u.t1,
+        ],
+        upper: u,
+        nodes: w,
+        dd: 0.0,
+    }
+}

@@ -1,0 +1,56 @@
+-- `gts7` meets its contract.
+use Rattle.thermosphere.proofs.Laws.{gts7-law}
+use borrow.Author.Needs.{needs}
+use Rattle.thermosphere.proofs.gts7.Statement.{statement}
+use Rattle.thermosphere.proofs.gts7.Tie as tie
+
+shape-stage-requires : tie.Need-shape-stage-requires
+shape-stage-requires c κs = search needs
+
+n2-stage-requires : tie.Need-n2-stage-requires
+n2-stage-requires c κs = search needs
+
+species-stage-requires : tie.Need-species-stage-requires
+species-stage-requires c κs = search needs
+
+anomalous-requires : tie.Need-anomalous-requires
+anomalous-requires c κs = search needs
+
+hot-stage-requires : tie.Need-hot-stage-requires
+hot-stage-requires c κs = search needs
+
+element-copy-out-gather : tie.Need-element-copy-out-gather
+element-copy-out-gather c = search needs
+
+gather-requires : tie.Need-gather-requires
+gather-requires c κs = search needs
+
+returns : tie.Need-returns
+returns c =
+    let A = c .before .before .before .before .before .before .before .before .before .before .before .before .before .before .args in
+    gts7-law (A .t1) (A .x) (A .z) (A .s)
+    (c .gather .result)
+    (c .before .before .before .hot-stage .result)
+    (c .before .before .before .before .anomalous .result)
+    (c .before .before .before .before .before .before .before .species-stage .result)
+    (c .before .before .before .before .before .before .before .before .before .before .n2-stage .result)
+    (c .before .before .before .before .before .before .before .before .before .before .before .before .before .shape-stage .result)
+    (c .gather .ensures)
+    (c .before .before .before .hot-stage .ensures)
+    (c .before .before .before .before .anomalous .ensures)
+    (c .before .before .before .before .before .before .before .species-stage .ensures)
+    (c .before .before .before .before .before .before .before .before .before .before .n2-stage .ensures)
+    (c .before .before .before .before .before .before .before .before .before .before .before .before .before .shape-stage .ensures)
+
+pub gts7-spec : {M : Type 1} → statement M
+gts7-spec =
+    tie.close
+    (tie.spec
+    shape-stage-requires
+    n2-stage-requires
+    species-stage-requires
+    anomalous-requires
+    hot-stage-requires
+    element-copy-out-gather
+    gather-requires
+    returns)

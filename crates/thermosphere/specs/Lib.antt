@@ -1,0 +1,1 @@
+-- The plans that this crate's contracts cite stand in the crate stages.
