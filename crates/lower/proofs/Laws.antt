@@ -1,0 +1,97 @@
+-- The plans of the lower nodes, run, and the densities below 72.5 km: from the values of the calls.
+use mathlib.Core.Path.{_≡_}
+use mathlib.Core.Bool.{true, false, not}
+use mathlib.Core.List.{List, [], _∷_}
+use lib.Ieee.{Float, lt}
+use Rattle.numbers.specs.Arithmetic.{_⊕_, _⊖_, _⊗_, _⊘_, _‼_}
+use Rattle.numbers.specs.Literals.{0·0, 1·0, 2·0, 32·5}
+use Rattle.elementary.specs.Pow.{powOf}
+use Rattle.setting.specs.declared.State.{State}
+use Rattle.setting.specs.declared.View.{View}
+use Rattle.profile.specs.declared.unchecked.Profile.{Profile}
+use Rattle.profile.specs.Profile.{densityIn, temperatureIn}
+use Rattle.plan.specs.Plan.{_>>=_, onePlusGlob7sOf, oneMinusGlob7sOf, answer, run, ends}
+use Rattle.tables.specs.Tables.{pavgmT, pdmT0, pdmT3, pdmT4, pmaT0, pmaT1, pmaT2, pmaT3, pmaT4, pmaT5, pmaT6, pmaT7, pmaT9}
+use Rattle.upper.specs.declared.Site.{Site}
+use Rattle.upper.specs.declared.Upper.{Upper}
+use Rattle.upper.specs.Upper.{massOf}
+use Rattle.lower.specs.declared.Meso.{Meso}
+use Rattle.lower.specs.declared.Nodes.{Nodes}
+use Rattle.lower.specs.declared.Whole.{Whole}
+use Rattle.lower.specs.Lower.{mesosphereOf, troposphereOf, unsetOf, mesoPlan, lowerPlan, dmcOf, dm28mOf, n2Of, warmthOf, fullOf, kilogramsOf, belowOf}
+
+pub meso-law : (v : View) (u : Upper) (s : State)
+    (x : Meso) (e c b a k : Float) (p9 p2 p1 p0 q : List Float)
+    → x ≡ mesosphereOf u q (p0 ‼ 0) (p1 ‼ 0) (p2 ‼ 0) (p9 ‼ 0) k a b c e
+    → e ≡ onePlusGlob7sOf v (v .sw ‼ 20 ⊗ v .sw ‼ 22) p9 s
+    → c ≡ oneMinusGlob7sOf v (v .sw ‼ 20 ⊗ v .sw ‼ 22) p2 s
+    → b ≡ oneMinusGlob7sOf v (v .sw ‼ 20) p1 s
+    → a ≡ oneMinusGlob7sOf v (v .sw ‼ 20) p0 s
+    → k ≡ powOf (p2 ‼ 0 ⊗ q ‼ 2) 2·0
+    → p9 ≡ pmaT9
+    → p2 ≡ pmaT2
+    → p1 ≡ pmaT1
+    → p0 ≡ pmaT0
+    → q ≡ pavgmT
+    → run v (mesoPlan (v .sw) u) s ≡ ends x s
+unfolding run answer mesoPlan _>>=_
+meso-law v u s x e c b a k p9 p2 p1 p0 q e0 e1 e2 e3 e4 e5 e6 e7 e8 e9 e10 =
+    simp (e0, e1, e2, e3, e4, e5, e6, e7, e8, e9, e10)
+
+pub lower-above : (v : View) (alt : Float) (m : Meso) (s : State) (x : Nodes)
+    → x ≡ unsetOf m
+    → not (lt alt 32·5) ≡ true
+    → run v (lowerPlan (v .sw) alt m) s ≡ ends x s
+unfolding run lowerPlan
+lower-above v alt m s x e0 e1 = simp (e0, e1)
+
+pub lower-below : (v : View) (alt : Float) (m : Meso) (s : State)
+    (x : Nodes) (g e c b a k : Float) (p7 p6 p5 p4 p3 q : List Float)
+    → x ≡ troposphereOf m q (p3 ‼ 0) (p4 ‼ 0) (p5 ‼ 0) (p6 ‼ 0) (p7 ‼ 0) k a b c e g
+    → g ≡ onePlusGlob7sOf v (v .sw ‼ 22) p7 s
+    → e ≡ oneMinusGlob7sOf v (v .sw ‼ 22) p6 s
+    → c ≡ oneMinusGlob7sOf v (v .sw ‼ 22) p5 s
+    → b ≡ oneMinusGlob7sOf v (v .sw ‼ 22) p4 s
+    → a ≡ oneMinusGlob7sOf v (v .sw ‼ 22) p3 s
+    → k ≡ powOf (p6 ‼ 0 ⊗ q ‼ 6) 2·0
+    → p7 ≡ pmaT7
+    → p6 ≡ pmaT6
+    → p5 ≡ pmaT5
+    → p4 ≡ pmaT4
+    → p3 ≡ pmaT3
+    → q ≡ pavgmT
+    → not (lt alt 32·5) ≡ false
+    → run v (lowerPlan (v .sw) alt m) s ≡ ends x s
+unfolding run answer lowerPlan _>>=_
+lower-below v alt m s x g e c b a k p7 p6 p5 p4 p3 q e0 e1 e2 e3 e4 e5 e6 e7 e8 e9 e10 e11 e12 e13 =
+    simp (e0, e1, e2, e3, e4, e5, e13, e6, e7, e8, e9, e10, e11, e12)
+
+pub below-law : (sw0 : Float) (x : Site) (alt : Float) (u : Upper) (w : Nodes)
+    (t1 dd : Float) (b : Profile) (tz all g ar o2 he n : Float) (a : Profile) (d c : Float) (m4 m3 m0 : List Float)
+    → t1 ≡ temperatureIn b
+    → dd ≡ densityIn b
+    → b ≡ warmthOf x alt tz w
+    → tz ≡ temperatureIn a
+    → all ≡ kilogramsOf sw0 g
+    → g ≡ massOf he 0·0 (n ⊗ (1·0 ⊕ (u .d ‼ 2 ⊘ d ⊖ 1·0) ⊗ c)) o2 ar 0·0 0·0
+    → ar ≡ fullOf (n ⊗ (1·0 ⊕ (u .d ‼ 2 ⊘ d ⊖ 1·0) ⊗ c)) (m4 ‼ 1) (u .d ‼ 4) (u .d ‼ 2) c
+    → o2 ≡ fullOf (n ⊗ (1·0 ⊕ (u .d ‼ 2 ⊘ d ⊖ 1·0) ⊗ c)) (m3 ‼ 1) (u .d ‼ 3) (u .d ‼ 2) c
+    → he ≡ fullOf (n ⊗ (1·0 ⊕ (u .d ‼ 2 ⊘ d ⊖ 1·0) ⊗ c)) (m0 ‼ 1) (u .d ‼ 0) (u .d ‼ 2) c
+    → n ≡ densityIn a
+    → a ≡ n2Of x alt d w
+    → d ≡ dm28mOf sw0 (u .base .dm)
+    → c ≡ dmcOf alt
+    → m4 ≡ pdmT4
+    → m3 ≡ pdmT3
+    → m0 ≡ pdmT0
+    → _≡_ {A = Whole}
+    (record {
+      row = he ∷ 0·0 ∷ (n ⊗ (1·0 ⊕ (u .d ‼ 2 ⊘ d ⊖ 1·0) ⊗ c)) ∷ o2 ∷ ar ∷ all ∷ 0·0 ∷ 0·0 ∷ 0·0 ∷ u .shape .tinf ∷ t1 ∷ [];
+      upper = u;
+      nodes = w;
+      dd = dd;
+    })
+    (belowOf sw0 x alt u w)
+unfolding belowOf
+below-law sw0 x alt u w t1 dd b tz all g ar o2 he n a d c m4 m3 m0 e0 e1 e2 e3 e4 e5 e6 e7 e8 e9 e10 e11 e12 e13 e14 e15 =
+    simp (e0, e1, e2, e3, e4, e5, e6, e7, e8, e9, e10, e11, e12, e13, e14, e15)
