@@ -1,0 +1,47 @@
+-- `gtd7` meets its contract: refused, the row is kept; accepted, it is the eleven numbers.
+use Rattle.atmosphere.proofs.Laws.{accepted-length, verdict, row-kept, row-written}
+use Rattle.atmosphere.proofs.gtd7.Statement.{statement}
+use Rattle.atmosphere.proofs.gtd7.Tie as tie
+use mathlib.Core.Path.{_∙_}
+use borrow.Author.Needs.{needs}
+use borrow.Author.Tests.{not-true, not-false}
+
+answer-requires : tie.Need-answer-requires
+answer-requires c κs = search needs
+
+accepted-requires : tie.Need-accepted-requires
+accepted-requires c κs = search needs
+
+returns : tie.Need-returns
+returns c =
+    let j = c .before .before .answer in
+    (j .ensures, row-kept _ _ _ (verdict (j .ensures) (c .before .accepted .ensures) (not-true _ (c .if1 .taken))))
+
+eleven-requires : tie.Need-eleven-requires
+eleven-requires c κs = search needs
+
+put-requires : tie.Need-put-requires
+put-requires c κs =
+    let at = c .before .before in
+    accepted-length _ _ _ (verdict (at .before .before .answer .ensures) (at .before .accepted .ensures) (not-false _ (at .if1 .left)))
+
+same-length : tie.Need-same-length
+same-length c = search needs
+
+returns-2 : tie.Need-returns-2
+returns-2 c =
+    let at = c .before .before .before .before .before in
+    let j = at .before .before .answer in
+    (j .ensures, c .before .before .put .ensures ∙ (c .before .before .before .before .eleven .ensures ∙ row-written _ _ _ (verdict (j .ensures) (at .before .accepted .ensures) (not-false _ (at .if1 .left)))))
+
+pub gtd7-spec : {M : Type 1} → statement M
+gtd7-spec =
+    tie.close
+    (tie.spec
+    answer-requires
+    accepted-requires
+    returns
+    eleven-requires
+    put-requires
+    same-length
+    returns-2)

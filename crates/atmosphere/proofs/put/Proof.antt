@@ -1,0 +1,72 @@
+-- `put` meets its contract: the entries below i are written.
+use mathlib.Core.Path.{_≡_, _∙_}
+use Prim.Native.Nat.{ℕ, _≤_, _<_, _-_}
+use native.Mathlib.Nat.{ne-of-lt}
+use native.Mathlib.Omega.{arith}
+use borrow.Author.Needs.{needs}
+use borrow.Author.Count.{below-more, below-none}
+use lib.ListN.{length, getD}
+use lib.Seq.{getD-set-same, getD-set-other, ext-getD}
+use lib.Ieee.{nan}
+use Rattle.atmosphere.proofs.put.Statement.{statement}
+use Rattle.atmosphere.proofs.put.Tie as tie
+
+abbrev Inv-loop : tie.InvT-loop
+Inv-loop out₀ v i₀ out i = (i ≤ 11) × (length out ≡ 11) × ((k : ℕ) → k < i → getD out k nan ≡ getD v k nan)
+
+abbrev μ-loop : tie.MeasureT-loop
+μ-loop out₀ v i₀ out i = 11 - i
+
+loop-holds : tie.Need-loop-holds Inv-loop μ-loop
+loop-holds c = (search needs, search needs, below-none _)
+
+mul-out : tie.Need-mul-out Inv-loop μ-loop
+mul-out c = search needs
+
+array-read-out : tie.Need-array-read-out Inv-loop μ-loop
+array-read-out c = search needs
+
+mul-out-2 : tie.Need-mul-out-2 Inv-loop μ-loop
+mul-out-2 c = search needs
+
+slice-write-out : tie.Need-slice-write-out Inv-loop μ-loop
+slice-write-out c = search needs
+
+add-i : tie.Need-add-i Inv-loop μ-loop
+add-i c = search needs
+
+loop-less : tie.Need-loop-less Inv-loop μ-loop
+loop-less c = search needs
+
+loop-again : tie.Need-loop-again Inv-loop μ-loop
+loop-again c =
+    let at = c .before .loop in
+    let v = c .before .before .args .t2 in (
+      search needs,
+      search needs,
+      below-more _ _ (λ k h. getD-set-other (at .out) (at .i) k (getD v (at .i) nan) nan (ne-of-lt h) ∙ at .inv .2 k h)
+          (getD-set-same (at .out) (at .i) (getD v (at .i) nan) nan (search needs)),
+    )
+
+same-length : tie.Need-same-length Inv-loop μ-loop
+same-length c = search needs
+
+returns : tie.Need-returns Inv-loop μ-loop
+returns c = ext-getD nan _ _ (search needs) (λ k h. c .before .loop .inv .2 k (omega arith))
+
+pub put-spec : {M : Type 1} → statement M
+put-spec =
+    tie.close
+    (tie.spec
+    Inv-loop
+    μ-loop
+    loop-holds
+    mul-out
+    array-read-out
+    mul-out-2
+    slice-write-out
+    add-i
+    loop-less
+    loop-again
+    same-length
+    returns)
