@@ -1,0 +1,1 @@
+// Demand 3 and its kin: definitions and theorems only, in specs/.
