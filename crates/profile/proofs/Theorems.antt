@@ -7,24 +7,19 @@ use lib.Dec.{ltb}
 use lib.ListN.{length, set}
 use lib.Ieee.{Float, lt}
 use Rattle.numbers.specs.Arithmetic.{_‼_}
-use Rattle.spline.specs.Outcome.{Outcome, gives, refused, counted, after}
+use Rattle.spline.specs.Outcome.{gives, counted, after}
+use Rattle.spline.proofs.Accept.{past}
 use Rattle.profile.specs.Profile.{ttOf, gradientOf, tn1Of, tgn1Of}
 use Rattle.profile.specs.Calls.{checked, densuTn1, densuTgn1}
 
--- What holds of the slice before and of what the call gives holds of the slice after.
-past : (t : Bool) (number place : ℕ) (o : Outcome (List Float)) (xs : List Float) (P : List Float → Type 0) → P xs → P (after o xs)
-    → P (after (cond t (refused number place) o) xs)
-unfolding after
-past true number place o xs P p q = p
-past false number place o xs P p q = q
-
+-- what holds of the slice before and of what the call gives holds of the slice after
 either : (n top : ℕ) (zn tn tgn ys xs : List Float) (P : List Float → Type 0) → P xs → P ys
     → P (after (checked n top zn tn tgn (gives ys)) xs)
 unfolding checked counted after
 either n top zn tn tgn ys xs P p q =
     past (ltb n 2 || ltb top n) 5 top _ xs P p
-    (past (ltb (length zn) n || ltb (length tn) n) 4 n _ xs P p
-    (past (ltb (length tgn) 2) 4 2 (gives ys) xs P p q))
+    (λ e. past (ltb (length zn) n || ltb (length tn) n) 4 n _ xs P p
+    (λ f. past (ltb (length tgn) 2) 4 2 (gives ys) xs P p (λ g. q)))
 
 -- a store at 0 leaves the numbers behind it
 behind : (xs : List Float) (v : Float) (k : ℕ) → set xs 0 v ‼ suc k ≡ xs ‼ suc k
