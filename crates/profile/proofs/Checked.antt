@@ -3,6 +3,7 @@ use mathlib.Core.Path.{_≡_, refl, sym}
 use mathlib.Core.Bool.{Bool, true, false, _||_, cond}
 use mathlib.Core.List.{List}
 use Prim.Native.Nat.{ℕ, _≤_, _<_}
+use native.Mathlib.Omega.{arith}
 use lib.Dec.{ltb}
 use lib.ListN.{length}
 use lib.Ieee.{Float}
@@ -38,6 +39,10 @@ set-holds n top a b g e f h =
     let p = counted-in n top e in
     let q = neither (ltb a n) (ltb b n) f in
     (p .0, p .1, ltb-false a n (q .0), ltb-false b n (q .1), h)
+
+-- densu's counts are counts of a spline
+pub within-ten : (n : ℕ) → n ≤ 5 → n ≤ 10
+within-ten n h = omega arith
 
 -- a lent slice after a refusal, and after an answer
 pub left-alone : (o : Outcome (List Float)) (number place : ℕ) (xs : List Float) → refused number place ≡ o → xs ≡ after o xs

@@ -24,6 +24,7 @@ pub struct Curve {
     pub y2: [f64; 10],
 }
 
+// The heights of the nodes, from 0 at the first to 1 at the last.
 fn node_xs(re: f64, zn: &[f64], n: usize, z1: f64, zgdif: f64) -> [f64; 10]
     requires { ⌜ (n ≤ 10) × (n ≤ length (now zn)) ⌝ }
     ensures { λ r. ⌜ r ≡ nodeXsOf re (now (zn .entry)) n z1 zgdif ⌝ }
@@ -37,6 +38,7 @@ fn node_xs(re: f64, zn: &[f64], n: usize, z1: f64, zgdif: f64) -> [f64; 10]
     xs
 }
 
+// The inverse temperatures at the nodes.
 fn node_ys(tn: &[f64], n: usize) -> [f64; 10]
     requires { ⌜ (n ≤ 10) × (n ≤ length (now tn)) ⌝ }
     ensures { λ r. ⌜ r ≡ nodeYsOf (now (tn .entry)) n ⌝ }
@@ -115,6 +117,7 @@ pub fn unset(tz: f64) -> Curve
     }
 }
 
+// splini over arrays by value.
 fn integral(xs: [f64; 10], ys: [f64; 10], y2: [f64; 10], n: usize, x: f64) -> f64
     requires { ⌜ (2 ≤ n) × (n ≤ 10) ⌝ }
     ensures { λ r. ⌜ r ≡ spliniOf xs ys y2 n x ⌝ }

@@ -269,6 +269,7 @@ pub fn lowered(gsurf: f64, re: f64, xm: f64, d: f64, l: Curve, n: usize) -> f64
     d * (l.t1 / l.tz) * k
 }
 
+// The temperature where xm is 0, else the density with it.
 pub fn answer(xm: f64, d: f64, tz: f64) -> Profile
     ensures { λ r. ⌜ r ≡ answerOf xm d tz ⌝ }
 {
@@ -278,6 +279,7 @@ pub fn answer(xm: f64, d: f64, tz: f64) -> Profile
     Profile::Density(d, tz)
 }
 
+// densm over mn3 nodes of set 3 and mn2 nodes of set 2.
 pub fn densm(
     gsurf: f64,
     re: f64,

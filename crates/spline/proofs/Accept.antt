@@ -1,6 +1,6 @@
 -- Facts that follow where a call does not refuse, and the store of the first numbers of a list.
 use mathlib.Core.Path.{_≡_, refl, ap, _∙_}
-use mathlib.Core.Bool.{Bool, true, false, _||_, true≢false}
+use mathlib.Core.Bool.{Bool, true, false, cond, _||_, true≢false}
 use mathlib.Core.List.{List, [], _∷_, _++_}
 use Prim.Native.Nat.{ℕ, zero, suc, _+_, _≤_, _<_}
 use native.Mathlib.Omega.{arith}
@@ -9,7 +9,7 @@ use lib.ListN.{length, set, take, drop}
 use lib.Ieee.{Float}
 use borrow.Author.Tests.{ltb-false}
 use Rattle.numbers.specs.Arithmetic.{_‼_}
-use Rattle.spline.specs.Outcome.{gives, counted, after}
+use Rattle.spline.specs.Outcome.{Outcome, gives, refused, counted, after}
 use Rattle.spline.specs.Sweep.{splineOf}
 use Rattle.spline.specs.Calls.{splineCall, over}
 
@@ -60,3 +60,10 @@ unfolding splineCall over counted after
 written x y n yp1 ypn o v w e0 e1 e2 e3 =
     let e : w ≡ take n (splineOf x y n yp1 ypn) ++ drop n o = rw e2 at e3 in
     (simp (e0, e1, e), simp (e0, e1, e))
+
+-- after a refusal the slice is as it was; else the test that would refuse fails
+pub past : (t : Bool) (number place : ℕ) (o : Outcome (List Float)) (xs : List Float) (P : List Float → Type 0)
+    → P xs → (t ≡ false → P (after o xs)) → P (after (cond t (refused number place) o) xs)
+unfolding after
+past true number place o xs P p q = p
+past false number place o xs P p q = q refl

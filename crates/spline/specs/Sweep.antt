@@ -13,14 +13,21 @@ sigOf x i = (x ‼ i ⊖ x ‼ (i - 1)) ⊘ (x ‼ (i + 1) ⊖ x ‼ (i - 1))
 
 -- spline's new y2[i], from the y2 of the node before
 abbrev pub stepY : List Float → ℕ → Float → Float
-stepY x i yp = (sigOf x i ⊖ 1·0) ⊘ (sigOf x i ⊗ yp ⊕ 2·0)
+stepY x i yp =
+    let sig = sigOf x i in
+    let p = sig ⊗ yp ⊕ 2·0 in
+    (sig ⊖ 1·0) ⊘ p
 
 -- spline's new u[i], from the y2 and u of the node before
 abbrev pub stepU : List Float → List Float → ℕ → Float → Float → Float
 stepU x y i yp up =
-    (6·0 ⊗ ((y ‼ (i + 1) ⊖ y ‼ i) ⊘ (x ‼ (i + 1) ⊖ x ‼ i) ⊖ (y ‼ i ⊖ y ‼ (i - 1)) ⊘ (x ‼ i ⊖ x ‼ (i - 1))) ⊘ (x ‼ (i + 1) ⊖ x ‼ (i - 1))
-    ⊖ sigOf x i ⊗ up)
-    ⊘ (sigOf x i ⊗ yp ⊕ 2·0)
+    let sig = sigOf x i in
+    let p = sig ⊗ yp ⊕ 2·0 in
+    (6·0
+    ⊗ ((y ‼ (i + 1) ⊖ y ‼ i) ⊘ (x ‼ (i + 1) ⊖ x ‼ i) ⊖ (y ‼ i ⊖ y ‼ (i - 1)) ⊘ (x ‼ i ⊖ x ‼ (i - 1)))
+    ⊘ (x ‼ (i + 1) ⊖ x ‼ (i - 1))
+    ⊖ sig ⊗ up)
+    ⊘ p
 
 -- m turns of the loop `for i in 1..(n - 1)` from i on: y2 and u
 unfoldable pub sweep : ℕ → List Float → List Float → ℕ → List Float → List Float → List Float × List Float
@@ -39,11 +46,15 @@ back (suc m) y2 u = back m (set y2 m (y2 ‼ m ⊗ y2 ‼ (suc m) ⊕ u ‼ m)) 
 
 -- spline's first u[0]
 unfoldable pub firstUOf : List Float → List Float → Float → Float
-firstUOf x y yp1 = cond (lt 0·99E30 yp1) 0·0 (3·0 ⊘ (x ‼ 1 ⊖ x ‼ 0) ⊗ ((y ‼ 1 ⊖ y ‼ 0) ⊘ (x ‼ 1 ⊖ x ‼ 0) ⊖ yp1))
+firstUOf x y yp1 =
+    cond (lt 0·99E30 yp1) 0·0
+    (3·0 ⊘ (x ‼ 1 ⊖ x ‼ 0) ⊗ ((y ‼ 1 ⊖ y ‼ 0) ⊘ (x ‼ 1 ⊖ x ‼ 0) ⊖ yp1))
 
 -- spline's un
 unfoldable pub lastUOf : List Float → List Float → ℕ → Float → Float
-lastUOf x y n ypn = cond (lt 0·99E30 ypn) 0·0 (3·0 ⊘ (x ‼ (n - 1) ⊖ x ‼ (n - 2)) ⊗ (ypn ⊖ (y ‼ (n - 1) ⊖ y ‼ (n - 2)) ⊘ (x ‼ (n - 1) ⊖ x ‼ (n - 2))))
+lastUOf x y n ypn =
+    cond (lt 0·99E30 ypn) 0·0
+    (3·0 ⊘ (x ‼ (n - 1) ⊖ x ‼ (n - 2)) ⊗ (ypn ⊖ (y ‼ (n - 1) ⊖ y ‼ (n - 2)) ⊘ (x ‼ (n - 1) ⊖ x ‼ (n - 2))))
 
 -- spline's y2[n - 1]
 unfoldable pub endOf : Float → Float → Float → Float → Float
@@ -52,7 +63,10 @@ endOf un qn u y = (un ⊖ qn ⊗ u) ⊘ (qn ⊗ y ⊕ 1·0)
 -- spline: the first n numbers are what it writes
 unfoldable pub splineOf : List Float → List Float → ℕ → Float → Float → List Float
 splineOf x y n yp1 ypn =
-    let a = cond (lt 0·99E30 yp1) 0·0 (neg 0·5) in
-    let f = forwardOf x y n (set (replicate 10 0·0) 0 a) (set (replicate 10 0·0) 0 (firstUOf x y yp1)) in
+    let y2 = set (replicate 10 0·0) 0 (cond (lt 0·99E30 yp1) 0·0 (neg 0·5)) in
+    let u = set (replicate 10 0·0) 0 (firstUOf x y yp1) in
+    let f = forwardOf x y n y2 u in
+    let un = lastUOf x y n ypn in
     let qn = cond (lt 0·99E30 ypn) 0·0 0·5 in
-    back (n - 1) (set (f .0) (n - 1) (endOf (lastUOf x y n ypn) qn ((f .1) ‼ (n - 2)) ((f .0) ‼ (n - 2)))) (f .1)
+    let last = endOf un qn ((f .1) ‼ (n - 2)) ((f .0) ‼ (n - 2)) in
+    back (n - 1) (set (f .0) (n - 1) last) (f .1)

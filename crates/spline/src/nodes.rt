@@ -11,9 +11,11 @@ fn area(xa: &[f64], ya: &[f64], y2a: &[f64], k: usize, xx: f64) -> f64
     ensures { λ r. ⌜ r ≡ areaOf (now (xa .entry)) (now (ya .entry)) (now (y2a .entry)) k xx ⌝ }
 {
     let khi = k + 1;
-    let h = xa[khi] - xa[k];
-    let a = (xa[khi] - xx) / h;
-    let b = (xx - xa[k]) / h;
+    let xlo = xa[k];
+    let xhi = xa[khi];
+    let h = xhi - xlo;
+    let a = (xhi - xx) / h;
+    let b = (xx - xlo) / h;
     let a2 = a * a;
     let b2 = b * b;
     ((1.0 - a2) * ya[k] / 2.0
@@ -59,9 +61,11 @@ fn cubic(xa: &[f64], ya: &[f64], y2a: &[f64], klo: usize, khi: usize, x: f64) ->
     requires { ⌜ (klo < length (now xa)) × (klo < length (now ya)) × (klo < length (now y2a)) × (khi < length (now xa)) × (khi < length (now ya)) × (khi < length (now y2a)) ⌝ }
     ensures { λ r. ⌜ r ≡ cubicOf (now (xa .entry)) (now (ya .entry)) (now (y2a .entry)) klo khi x ⌝ }
 {
-    let h = xa[khi] - xa[klo];
-    let a = (xa[khi] - x) / h;
-    let b = (x - xa[klo]) / h;
+    let xlo = xa[klo];
+    let xhi = xa[khi];
+    let h = xhi - xlo;
+    let a = (xhi - x) / h;
+    let b = (x - xlo) / h;
     a * ya[klo]
         + b * ya[khi]
         + ((a * a * a - a) * y2a[klo] + (b * b * b - b) * y2a[khi]) * h * h / 6.0

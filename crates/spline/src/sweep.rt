@@ -10,7 +10,8 @@ fn step_y(x: &[f64], i: usize, yp: f64) -> f64
     requires { ⌜ (1 ≤ i) × (i + 1 < length (now x)) ⌝ }
     ensures { λ r. ⌜ r ≡ stepY (now (x .entry)) i yp ⌝ }
 {
-    let sig = (x[i] - x[i - 1]) / (x[i + 1] - x[i - 1]);
+    let x0 = x[i - 1];
+    let sig = (x[i] - x0) / (x[i + 1] - x0);
     let p = sig * yp + 2.0;
     (sig - 1.0) / p
 }
@@ -20,12 +21,15 @@ fn step_u(x: &[f64], y: &[f64], i: usize, yp: f64, up: f64) -> f64
     requires { ⌜ (1 ≤ i) × (i + 1 < length (now x)) × (i + 1 < length (now y)) ⌝ }
     ensures { λ r. ⌜ r ≡ stepU (now (x .entry)) (now (y .entry)) i yp up ⌝ }
 {
-    let sig = (x[i] - x[i - 1]) / (x[i + 1] - x[i - 1]);
+    let lo = i - 1;
+    let hi = i + 1;
+    let x0 = x[lo];
+    let x1 = x[i];
+    let x2 = x[hi];
+    let y1 = y[i];
+    let sig = (x1 - x0) / (x2 - x0);
     let p = sig * yp + 2.0;
-    (6.0 * ((y[i + 1] - y[i]) / (x[i + 1] - x[i]) - (y[i] - y[i - 1]) / (x[i] - x[i - 1]))
-        / (x[i + 1] - x[i - 1])
-        - sig * up)
-        / p
+    (6.0 * ((y[hi] - y1) / (x2 - x1) - (y1 - y[lo]) / (x1 - x0)) / (x2 - x0) - sig * up) / p
 }
 
 // The two rows of the forward sweep.
@@ -62,7 +66,8 @@ fn first_u(x: &[f64], y: &[f64], yp1: f64) -> f64
     if yp1 > 0.99E30 {
         return 0.0;
     }
-    (3.0 / (x[1] - x[0])) * ((y[1] - y[0]) / (x[1] - x[0]) - yp1)
+    let h = x[1] - x[0];
+    (3.0 / h) * ((y[1] - y[0]) / h - yp1)
 }
 
 // The same at the last node.
@@ -75,7 +80,8 @@ fn last_u(x: &[f64], y: &[f64], n: usize, ypn: f64) -> f64
     }
     let a = n - 1;
     let b = n - 2;
-    (3.0 / (x[a] - x[b])) * (ypn - (y[a] - y[b]) / (x[a] - x[b]))
+    let h = x[a] - x[b];
+    (3.0 / h) * (ypn - (y[a] - y[b]) / h)
 }
 
 // The second derivative at the last node.

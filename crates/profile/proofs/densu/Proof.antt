@@ -1,9 +1,8 @@
 -- `densu` meets its contract: refused in three ways, and the answer with both slices.
 use mathlib.Core.Path.{ap, _∙_}
-use native.Mathlib.Omega.{arith}
 use Rattle.spline.specs.Outcome.{gives}
 use Rattle.profile.specs.Calls.{densuCall, densuTn1, densuTgn1}
-use Rattle.profile.proofs.Checked.{refused-count, refused-nodes, refused-gradients, passed, set-holds, left-alone, left-with}
+use Rattle.profile.proofs.Checked.{refused-count, refused-nodes, refused-gradients, passed, set-holds, within-ten, left-alone, left-with}
 use borrow.Author.Needs.{needs}
 use Rattle.profile.proofs.densu.Statement.{statement}
 use Rattle.profile.proofs.densu.Tie as tie
@@ -32,7 +31,7 @@ returns-3 c =
 densu-requires : tie.Need-densu-requires
 densu-requires c κs =
     let h = set-holds _ _ _ _ _ (c .before .before .before .before .if1 .left) (c .before .before .before .if2 .left) (c .before .before .if3 .left) in
-    (h .0, omega (arith, h .1), h .2, h .3, h .4)
+    (h .0, within-ten _ (h .1), h .2, h .3, h .4)
 
 same-length : tie.Need-same-length
 same-length c = search needs
