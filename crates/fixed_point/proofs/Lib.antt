@@ -1,0 +1,7 @@
+-- Laws that several proofs cite.
+pub mod Product
+pub mod Rest
+pub mod Decode
+pub mod Assemble
+pub mod Table
+pub mod Range

@@ -1,0 +1,38 @@
+// Whole numbers made from floats, and the upper half of a product.
+ghost use mathlib.Core.Path.{_≡_};
+ghost use Prim.Native.Nat.{ℕ, _+_, _*_, _/_, _^_, _<_, _≤_};
+ghost use lib.Dec.{T};
+ghost use lib.Ieee.{Float, fin, binary64, isNan};
+ghost use lib.Ieee.Scale.{finite};
+ghost use Rattle.fixed_point.specs.Fixed.{highOf, scaledOf};
+
+// The upper half of a * b, for a and b below 2^63.
+pub fn high(a: u64, b: u64) -> u64
+    requires { ⌜ (a < 2 ^ 63) × (b < 2 ^ 63) ⌝ }
+    ensures { λ r. ⌜ r ≡ highOf a b ⌝ }
+{
+    let a1 = a / 4294967296;
+    let a0 = a % 4294967296;
+    let b1 = b / 4294967296;
+    let b0 = b % 4294967296;
+    a1 * b1 + (a1 * b0 + a0 * b1 + a0 * b0 / 4294967296) / 4294967296
+}
+
+// The whole part of |x| * 2^k.
+pub fn scaled(x: f64, k: u64) -> u64
+    requires { ⌜ T (finite x) × (k ≤ 62) × (scaledOf k x < 2 ^ 63) ⌝ }
+    ensures { λ r. ⌜ r ≡ scaledOf k x ⌝ }
+{
+    let b = f64::to_bits(x) % 9223372036854775808;
+    let e = b / 4503599627370496;
+    let q = b % 4503599627370496 + 4503599627370496;
+    if 1075 <= e + k {
+        let j = e + k - 1075;
+        return q << j;
+    }
+    let n = 1075 - k - e;
+    if n < 64 {
+        return q >> n;
+    }
+    0
+}

@@ -1,0 +1,107 @@
+-- `natural_logarithm::digits` meets its contract. Assumes nothing.
+use mathlib.Core.Path.{_≡_, sym, ap, subst}
+use Prim.Native.Nat.{ℕ, _+_, _-_, _*_, _/_, _^_, _≤_, _<_}
+use native.Mathlib.Omega.{arith}
+use borrow.Author.Needs.{needs}
+use lib.ListN.{getD}
+use Rattle.natural_logarithm.specs.Log.{reciprocals, shortOf}
+use Rattle.fixed_point.proofs.Product.{below-mul}
+use Rattle.natural_logarithm.proofs.LogBound.{reciprocals-le, logarithms-le, short-some, short-le}
+use Rattle.natural_logarithm.proofs.LogCases.{digits-below, digits-above}
+use Rattle.natural_logarithm.proofs.digits.Statement.{statement}
+use Rattle.natural_logarithm.proofs.digits.Tie as tie
+
+add-z : tie.Need-add-z
+add-z c = search needs
+
+reciprocal-at-requires : tie.Need-reciprocal-at-requires
+reciprocal-at-requires c κs = search needs
+
+-- the table's reciprocal leaves something, and little
+module _ (c : tie.After-reciprocal-at) where
+  abbrev t : ℕ
+  t = c .before .args .t
+
+  product-le : (t + 2 ^ 52) * c .reciprocal-at .result ≤ 2 ^ 62
+  product-le = subst (λ (r : ℕ). (t + 2 ^ 52) * r ≤ 2 ^ 62) (sym (c .reciprocal-at .ensures)) (short-some t (c .before .pre .1))
+
+  left-le : shortOf t (c .reciprocal-at .result) ≤ 2470000000000000
+  left-le = subst (λ (r : ℕ). shortOf t r ≤ 2470000000000000) (sym (c .reciprocal-at .ensures)) (short-le t (c .before .pre .1))
+
+mul-z : tie.Need-mul-z
+mul-z c = omega (arith, product-le c)
+
+sub-z : tie.Need-sub-z
+sub-z c = product-le c
+
+logarithm-at-requires : tie.Need-logarithm-at-requires
+logarithm-at-requires c κs = search needs
+
+entry-le : (c : tie.After-logarithm-at) → c .logarithm-at .result ≤ 2 ^ 58
+entry-le c = subst (λ (n : ℕ). n ≤ 2 ^ 58) (sym (c .logarithm-at .ensures)) (logarithms-le (c .before .before .args .t / 2 ^ 45))
+
+add-w : tie.Need-add-w
+add-w c = omega (arith, entry-le c)
+
+slip-requires : tie.Need-slip-requires
+slip-requires c κs = left-le (c .before)
+
+sub-w : tie.Need-sub-w
+sub-w c = omega (arith, c .slip .ensures .1)
+
+sub-difference : tie.Need-sub-difference
+sub-difference c = search needs
+
+mul-difference : tie.Need-mul-difference
+mul-difference c = search needs
+
+add-difference : tie.Need-add-difference
+add-difference c = search needs
+
+difference-requires : tie.Need-difference-requires
+difference-requires c κs = search needs
+
+returns : tie.Need-returns
+returns c =
+    let b = c .before in
+    let s = b .before .before .before .before in
+    let e = digits-below (s .args .e) (s .args .t) (b .if1 .taken) in
+    cc e
+
+mul-difference-2 : tie.Need-mul-difference-2
+mul-difference-2 c = search needs
+
+add-difference-2 : tie.Need-add-difference-2
+add-difference-2 c = search needs
+
+difference-requires-2 : tie.Need-difference-requires-2
+difference-requires-2 c κs = search needs
+
+returns-2 : tie.Need-returns-2
+returns-2 c =
+    let b = c .before in
+    let s = b .before .before .before .before in
+    let e = digits-above (s .args .e) (s .args .t) (b .if1 .left) in
+    cc e
+
+pub digits-spec : {M : Type 1} → statement M
+digits-spec =
+    tie.close
+    (tie.spec
+    add-z
+    reciprocal-at-requires
+    mul-z
+    sub-z
+    logarithm-at-requires
+    add-w
+    slip-requires
+    sub-w
+    sub-difference
+    mul-difference
+    add-difference
+    difference-requires
+    returns
+    mul-difference-2
+    add-difference-2
+    difference-requires-2
+    returns-2)
