@@ -6,7 +6,8 @@ use native.Mathlib.Nat.{mul-le-mul-left, mul-le-mul-right}
 use lib.ListN.{getD}
 use Rattle.fixed_point.proofs.Product.{below-mul}
 use Rattle.fixed_point.proofs.Table.{at-most, at-least}
-use Rattle.circular_functions.specs.Trig.{sines, cosines, squareOf, cubeOf, fourthOf, arcOf, sagOf, acrossOf, droppedOf, quartersOf, leftOf}
+use Rattle.circular_tables.specs.Tables.{sines, cosines}
+use Rattle.circular_functions.specs.Trig.{squareOf, cubeOf, fourthOf, arcOf, sagOf, acrossOf, droppedOf, quartersOf, leftOf}
 
 pub sines-le : (i : ℕ) → getD sines i 0 ≤ 2 ^ 58
 unfolding sines

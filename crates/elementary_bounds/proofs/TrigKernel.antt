@@ -8,7 +8,8 @@ use lib.Dec.{T, leb, leb→le}
 use lib.ListN.{getD}
 use lib.Pow.{pow-pos, shr-shr}
 use Rattle.elementary_bounds.specs.Series.{ev, homogeneous, sinAdding, sinTaking, cosAdding, cosTaking}
-use Rattle.circular_functions.specs.Trig.{sines, cosines, squareOf, cubeOf, fourthOf, arcOf, sagOf, acrossOf, droppedOf, sineFrom, cosineFrom, sineOf, cosineOf}
+use Rattle.circular_tables.specs.Tables.{sines, cosines}
+use Rattle.circular_functions.specs.Trig.{squareOf, cubeOf, fourthOf, arcOf, sagOf, acrossOf, droppedOf, sineFrom, cosineFrom, sineOf, cosineOf}
 use Rattle.elementary_bounds.proofs.Series.{times, gap, slope, dilate, Below, start, factor, product-cut, cut-close, ClosePair}
 use Rattle.elementary_bounds.proofs.Nearness.{whole, slice, Kernel}
 use Rattle.circular_functions.proofs.TrigBound.{sines-le, sines-less, cosines-le, cosines-ge, s-le, square-le, cube-le, fourth-le, arc-le, sag-le, across-le, dropped-le, dropped-less}

@@ -15,7 +15,8 @@ use Rattle.fixed_point.specs.Float.{Within}
 use Rattle.elementary_bounds.specs.Series.{sinAdding, sinTaking, cosAdding, cosTaking, Near}
 use Rattle.fixed_point.specs.Fixed.{scaledOf}
 use Rattle.fixed_point.specs.Float.{one, minusOne, nought}
-use Rattle.circular_functions.specs.Trig.{sines, cosines, sineOf, cosineOf, signOf, signedOf, waveOf, quartersOf, leftOf, farOf, turnedOf, reach, minusReach, halfTurn, sinOf, cosOf}
+use Rattle.circular_tables.specs.Tables.{sines, cosines}
+use Rattle.circular_functions.specs.Trig.{sineOf, cosineOf, signOf, signedOf, waveOf, quartersOf, leftOf, farOf, turnedOf, reach, minusReach, halfTurn, sinOf, cosOf}
 use Rattle.elementary_bounds.proofs.Nearness.{Kernel, near-exact}
 use Rattle.fixed_point.proofs.Range.{within-no-nan, within-scaled, between, not-over, not-under, not-negative, minus-zero}
 use Rattle.circular_functions.proofs.TrigBound.{left-in}

@@ -4,7 +4,7 @@ use Prim.Native.Nat.{ℕ, zero, suc, _+_, _*_, _^_, _≤_, _<_}
 use lib.ListN.{length, getD}
 use lib.Dec.{T}
 use Rattle.elementary_bounds.specs.Series.{ev, homogeneous, sinAdding, sinTaking, cosAdding, cosTaking}
-use Rattle.circular_functions.specs.Trig.{sines, cosines}
+use Rattle.circular_tables.specs.Tables.{sines, cosines}
 use Rattle.elementary_bounds.proofs.Series.{fittingPairs, fitted-pairs, ClosePair}
 use Rattle.elementary_bounds.proofs.Nearness.{whole, slice}
 

@@ -3,7 +3,8 @@ use mathlib.Core.Path.{_≡_, refl}
 use mathlib.Core.Bool.{true, false}
 use lib.IntN.{pos, negsuc}
 use lib.Ieee.{Float, nan, inf, fin, round, lt, eq, isNan}
-use Rattle.circular_functions.specs.Trig.{sines, cosines, sinOf, cosOf}
+use Rattle.circular_tables.specs.Tables.{sines, cosines}
+use Rattle.circular_functions.specs.Trig.{sinOf, cosOf}
 use Rattle.square_root.specs.Root.{sqrtOf}
 
 sin-nan : sinOf nan ≡ nan
