@@ -1,14 +1,18 @@
 -- The cases of sin's and cos's definitions, and the sign. Assumes nothing.
 use mathlib.Core.Path.{_≡_, refl, sym, ap, _∙_}
-use mathlib.Core.Bool.{Bool, true, false, cond}
+use mathlib.Core.Bool.{Bool, true, false, not, cond}
 use Prim.Native.Nat.{ℕ, zero, suc, _+_, _-_, _*_, _/_, _%_, _^_, _≤_, _<_}
+use native.Mathlib.Omega.{arith}
+use native.Mathlib.Nat.{mod-lt, not-suc-le-zero, le-of-suc-le-suc}
 use borrow.Author.Tests.{lt-ltb, le-ltb, eq-eqb, ne-eqb, le-leb, lt-leb}
-use lib.Dec.{leb, ltb, eqb}
-use lib.Ieee.{Format, Float, nan, inf, fin, binary64, neg, odd, units, round, size, prec, low, emax, lt, isNan}
+use lib.Dec.{T, leb, ltb, eqb, lit<}
+use lib.IntN.{ℤ, pos, negsuc}
+use lib.Ieee.{Format, Float, nan, inf, fin, binary64, up, down, neg, mul, odd, units, round, size, prec, low, emax, nanBits, ofBits, ofInt}
 use lib.Count.{trailingZeros}
 use Rattle.fixed_point.specs.Fixed.{scaledOf}
-use Rattle.fixed_point.specs.Float.{one, minusOne, nought}
-use Rattle.circular_functions.specs.Trig.{sineOf, cosineOf, signedOf, waveOf, farOf, turnedOf, reach, minusReach, halfTurn, sinOf, cosOf}
+use Rattle.fixed_point.specs.Float.{over, minusSign, nought}
+use Rattle.fixed_point.proofs.Assemble.{fraction-is}
+use Rattle.circular_functions.specs.Trig.{arcOf, sagOf, acrossOf, droppedOf, sineFrom, cosineFrom, sineOf, cosineOf, signedOf, distanceOf, quarterOf, waveOf, farOf, turnedOf, sinOf, cosOf}
 
 -- ---- the negative of a rounded number is the negative number rounded
 
@@ -44,14 +48,100 @@ signed-plus n q h k = simp (ne-eqb q 0 h, lt-leb 2 (n % 4) k)
 pub signed-minus : (n q : ℕ) → (q ≡ 0 → ⊥) → 2 ≤ n % 4 → signedOf n q ≡ round binary64 true q (2 ^ 51)
 signed-minus n q h k = simp (ne-eqb q 0 h, le-leb 2 (n % 4) k)
 
+neg-neg : (x : Float) → neg (neg x) ≡ x
+unfolding neg
+neg-neg nan = refl
+neg-neg (inf true) = refl
+neg-neg (inf false) = refl
+neg-neg (fin true m e) = refl
+neg-neg (fin false m e) = refl
+
+-- a product with the negative of a power of two
+mul-minus : (x : Float) (e : ℤ) → mul binary64 x (fin true 1 e) ≡ neg (mul binary64 x (fin false 1 e))
+unfolding mul neg
+mul-minus nan e = refl
+mul-minus (inf true) e = refl
+mul-minus (inf false) e = refl
+mul-minus (fin true m i) e = sym (ap neg (sym (neg-round binary64 (m * up i * (1 * up e)) (down i * down e))) ∙ neg-neg (round binary64 false (m * up i * (1 * up e)) (down i * down e)))
+mul-minus (fin false m i) e = sym (neg-round binary64 (m * up i * (1 * up e)) (down i * down e))
+
+-- 2 ^ -51 with the sign bit s
+abbrev pub factor : ℕ → ℕ
+factor s = 4377498837804122112 + s * 9223372036854775808
+
+pub factor-no-nan : (s : ℕ) → s ≤ 1 → T (not (nanBits binary64 (factor s)))
+unfolding nanBits
+factor-no-nan zero h = tt
+factor-no-nan (suc zero) h = tt
+factor-no-nan (suc (suc s)) h = absurd (not-suc-le-zero (le-of-suc-le-suc h))
+
+pub signed-is : (n q : ℕ) → 0 < q → q < 2 ^ 53 → mul binary64 (ofInt binary64 (pos q)) (ofBits binary64 (factor (n % 4 / 2))) ≡ signedOf n q
+unfolding ofBits
+signed-is n q p h = go (n % 4 / 2) refl (half (n % 4) (mod-lt n (lit< {m = 0} {n = 4} tt)))
+  where
+    half : (r : ℕ) → r < 4 → r / 2 ≤ 1
+    half r h = omega arith
+
+    low : (r : ℕ) → r / 2 ≡ 0 → r < 2
+    low r e = omega arith
+
+    high : (r : ℕ) → r / 2 ≡ 1 → 2 ≤ r
+    high r e = omega arith
+
+    some : (q : ℕ) → 0 < q → q ≡ 0 → ⊥
+    some q h e = omega arith
+
+    go : (s : ℕ) → n % 4 / 2 ≡ s → s ≤ 1 → mul binary64 (ofInt binary64 (pos q)) (ofBits binary64 (factor s)) ≡ signedOf n q
+    go zero e l = fraction-is q p h ∙ sym (signed-plus n q (some q p) (low (n % 4) e))
+    go (suc zero) e l = mul-minus (ofInt binary64 (pos q)) (negsuc 50) ∙ ap neg (fraction-is q p h) ∙ neg-round binary64 q (2 ^ 51) ∙ sym (signed-minus n q (some q p) (high (n % 4) e))
+    go (suc (suc s)) e l = absurd (not-suc-le-zero (le-of-suc-le-suc l))
+
+-- ---- by the parity
+
+pub parity-zero : (h x y : ℕ) → h ≡ 0 → x ≡ cond (eqb h 0) x y
+parity-zero h x y e = sym (ap (λ (b : Bool). cond b x y) (eq-eqb h 0 e))
+
+pub parity-one : (h x y : ℕ) → (h ≡ 0 → ⊥) → y ≡ cond (eqb h 0) x y
+parity-one h x y e = sym (ap (λ (b : Bool). cond b x y) (ne-eqb h 0 e))
+
+pub either-le : (b : Bool) {x y B : ℕ} → x ≤ B → y ≤ B → cond b x y ≤ B
+either-le true h k = h
+either-le false h k = k
+
+-- what is taken off is there
+pub part-some : (b : Bool) (u p e : ℕ) → e ≤ u → e ≤ 2 ^ 41 → p ≤ 2 ^ 51 → (b ≡ false → 2 ^ 57 ≤ u) → e ≤ cond b (u + p) (u - p)
+part-some true u p e h k l g = omega arith
+part-some false u p e h k l g = some u p e k l (g refl)
+  where
+    some : (u p e : ℕ) → e ≤ 2 ^ 41 → p ≤ 2 ^ 51 → 2 ^ 57 ≤ u → e ≤ u - p
+    some u p e k l g = omega arith
+
+pub part-le : (b : Bool) (u p e : ℕ) → u ≤ 2 ^ 58 → p ≤ 2 ^ 51 → cond b (u + p) (u - p) - e ≤ 2 ^ 59
+part-le true u p e h k = omega arith
+part-le false u p e h k = omega arith
+
+pub part-is : (b : Bool) (S C d u w p e : ℕ) → u ≡ cond b S C → w ≡ cond b C S → p ≡ acrossOf w (arcOf d) → e ≡ droppedOf u (sagOf d) → cond b (u + p) (u - p) - e ≡ cond b (sineFrom S C d) (cosineFrom S C d)
+part-is true S C d u w p e f g i j = cc
+part-is false S C d u w p e f g i j = cc
+
 -- ---- the quarters
 
-module _ (n t : ℕ) where
-  pub wave-low-even : t < 2 ^ 58 → n % 2 ≡ 0 → waveOf n t ≡ signedOf (n + 2) (sineOf (2 ^ 58 - t) / 128)
-  wave-low-even h e = simp (lt-ltb t (2 ^ 58) h, eq-eqb (n % 2) 0 e)
+module _ (t : ℕ) where
+  pub distance-below : t < 2 ^ 58 → distanceOf t ≡ 2 ^ 58 - t
+  distance-below h = simp (lt-ltb t (2 ^ 58) h)
 
-  pub wave-low-odd : t < 2 ^ 58 → (n % 2 ≡ 0 → ⊥) → waveOf n t ≡ signedOf n (cosineOf (2 ^ 58 - t) / 128)
-  wave-low-odd h e = simp (lt-ltb t (2 ^ 58) h, ne-eqb (n % 2) 0 e)
+  pub distance-above : 2 ^ 58 ≤ t → distanceOf t ≡ t - 2 ^ 58
+  distance-above h = simp (le-ltb t (2 ^ 58) h)
+
+module _ (n t : ℕ) where
+  pub quarter-low-even : t < 2 ^ 58 → n % 2 ≡ 0 → quarterOf n t ≡ n + 2
+  quarter-low-even h e = simp (lt-ltb t (2 ^ 58) h, eq-eqb (n % 2) 0 e)
+
+  pub quarter-low-odd : t < 2 ^ 58 → (n % 2 ≡ 0 → ⊥) → quarterOf n t ≡ n
+  quarter-low-odd h e = simp (lt-ltb t (2 ^ 58) h, ne-eqb (n % 2) 0 e)
+
+  pub quarter-high : 2 ^ 58 ≤ t → quarterOf n t ≡ n
+  quarter-high h = simp (le-ltb t (2 ^ 58) h)
 
   pub wave-even : 2 ^ 58 ≤ t → n % 2 ≡ 0 → waveOf n t ≡ signedOf n (sineOf (t - 2 ^ 58) / 128)
   wave-even h e = simp (le-ltb t (2 ^ 58) h, eq-eqb (n % 2) 0 e)
@@ -62,47 +152,35 @@ module _ (n t : ℕ) where
 -- ---- near and far
 
 module _ (x : Float) (k : ℕ) where
-  pub turned-above : lt one x ≡ true → turnedOf x k ≡ farOf (scaledOf 46 x) k
-  turned-above a = simp a
+  pub turned-far : over 1 x ≡ true → turnedOf x k ≡ farOf (scaledOf 46 x) k
+  turned-far a = simp a
 
-  pub turned-below : lt one x ≡ false → lt x minusOne ≡ true → turnedOf x k ≡ farOf (scaledOf 46 x) k
-  turned-below a b = simp (a, b)
-
-  pub turned-near : lt one x ≡ false → lt x minusOne ≡ false → turnedOf x k ≡ waveOf k (2 ^ 58 + scaledOf 58 x)
-  turned-near a b = simp (a, b)
+  pub turned-near : over 1 x ≡ false → turnedOf x k ≡ waveOf k (2 ^ 58 + scaledOf 58 x)
+  turned-near a = simp a
 
 -- ---- the whole
 
 pub sin-nan : (x : Float) → x ≡ nan → sinOf x ≡ nan
-unfolding sinOf isNan
+unfolding sinOf
 sin-nan x e = ap sinOf e
 
 pub cos-nan : (x : Float) → x ≡ nan → cosOf x ≡ nan
-unfolding cosOf isNan
+unfolding cosOf
 cos-nan x e = ap cosOf e
 
-module _ (x : Float) (n : isNan x ≡ false) where
-  pub sin-above : lt reach x ≡ true → sinOf x ≡ nan
+module _ (x : Float) where
+  pub sin-over : over 65536 x ≡ true → sinOf x ≡ nan
   unfolding sinOf
-  sin-above a = simp (n, a)
+  sin-over a = simp a
 
-  pub cos-above : lt reach x ≡ true → cosOf x ≡ nan
+  pub cos-over : over 65536 x ≡ true → cosOf x ≡ nan
   unfolding cosOf
-  cos-above a = simp (n, a)
+  cos-over a = simp a
 
-  module _ (a : lt reach x ≡ false) where
-    pub sin-below : lt x minusReach ≡ true → sinOf x ≡ nan
-    unfolding sinOf
-    sin-below b = simp (n, a, b)
+  pub sin-inside : over 65536 x ≡ false → sinOf x ≡ turnedOf x (minusSign x * 2)
+  unfolding sinOf
+  sin-inside a = simp a
 
-    pub cos-below : lt x minusReach ≡ true → cosOf x ≡ nan
-    unfolding cosOf
-    cos-below b = simp (n, a, b)
-
-    pub sin-inside : lt x minusReach ≡ false → sinOf x ≡ turnedOf x (halfTurn (lt x nought))
-    unfolding sinOf
-    sin-inside b = simp (n, a, b)
-
-    pub cos-inside : lt x minusReach ≡ false → cosOf x ≡ turnedOf x 1
-    unfolding cosOf
-    cos-inside b = simp (n, a, b)
+  pub cos-inside : over 65536 x ≡ false → cosOf x ≡ turnedOf x 1
+  unfolding cosOf
+  cos-inside a = simp a

@@ -3,11 +3,10 @@ use Prim.Native.Nat.{ℕ, zero, suc, _+_, _-_, _*_, _/_, _%_, _^_}
 use mathlib.Core.Bool.{Bool, true, false, cond}
 use lib.ListN.{getD}
 use lib.Dec.{leb, ltb, eqb}
-use lib.IntN.{pos}
-use lib.Ieee.{Float, nan, fin, binary64, round, lt, isNan}
+use lib.Ieee.{Float, nan, binary64, round}
 use Rattle.circular_tables.specs.Tables.{sines, cosines}
 use Rattle.fixed_point.specs.Fixed.{scaledOf}
-use Rattle.fixed_point.specs.Float.{one, minusOne, nought}
+use Rattle.fixed_point.specs.Float.{over, minusSign, nought}
 
 -- d ^ 2 in units of 2 ^ -48, for s = d * 2 ^ 40
 abbrev pub squareOf : ℕ → ℕ
@@ -49,6 +48,10 @@ sineOf r = sineFrom (getD sines (r / 2 ^ 50) 0) (getD cosines (r / 2 ^ 50) 0) (r
 abbrev pub cosineOf : ℕ → ℕ
 cosineOf r = cosineFrom (getD sines (r / 2 ^ 50) 0) (getD cosines (r / 2 ^ 50) 0) (r % 2 ^ 50)
 
+-- the one for a parity of 0, the other for a parity of 1
+abbrev pub partOf : ℕ → ℕ → ℕ
+partOf h r = cond (eqb h 0) (sineOf r) (cosineOf r)
+
 -- the sign of q with the sign s: a zero has none
 abbrev pub signOf : Bool → ℕ → Bool
 signOf s zero = false
@@ -58,12 +61,17 @@ signOf s (suc q) = s
 abbrev pub signedOf : ℕ → ℕ → Float
 signedOf n q = cond (eqb q 0) nought (round binary64 (leb 2 (n % 4)) q (2 ^ 51))
 
+-- |t - 1| for t in units of 2 ^ -58
+abbrev pub distanceOf : ℕ → ℕ
+distanceOf t = cond (ltb t (2 ^ 58)) (2 ^ 58 - t) (t - 2 ^ 58)
+
+-- the quarter that decides the sign: a sine below 0 has a half turn more
+abbrev pub quarterOf : ℕ → ℕ → ℕ
+quarterOf n t = cond (ltb t (2 ^ 58)) (cond (eqb (n % 2) 0) (n + 2) n) n
+
 -- the sine of n quarter turns and t - 1, for t in units of 2 ^ -58, from 0 to 2
 abbrev pub waveOf : ℕ → ℕ → Float
-waveOf n t =
-    cond (ltb t (2 ^ 58))
-    (cond (eqb (n % 2) 0) (signedOf (n + 2) (sineOf (2 ^ 58 - t) / 128)) (signedOf n (cosineOf (2 ^ 58 - t) / 128)))
-    (cond (eqb (n % 2) 0) (signedOf n (sineOf (t - 2 ^ 58) / 128)) (signedOf n (cosineOf (t - 2 ^ 58) / 128)))
+waveOf n t = signedOf (quarterOf n t) (partOf (n % 2) (distanceOf t) / 128)
 
 -- how many quarter turns are nearest to m, in units of 2 ^ -46
 abbrev pub quartersOf : ℕ → ℕ
@@ -79,25 +87,11 @@ farOf m k = waveOf (quartersOf m + k) (leftOf m (quartersOf m))
 
 -- the sine of k quarter turns and |x|
 abbrev pub turnedOf : Float → ℕ → Float
-turnedOf x k =
-    cond (lt one x) (farOf (scaledOf 46 x) k)
-    (cond (lt x minusOne) (farOf (scaledOf 46 x) k)
-    (waveOf k (2 ^ 58 + scaledOf 58 x)))
+turnedOf x k = cond (over 1 x) (farOf (scaledOf 46 x) k) (waveOf k (2 ^ 58 + scaledOf 58 x))
 
--- 65,536 and -65,536
-abbrev pub reach : Float
-reach = fin false 1 (pos 16)
-
-abbrev pub minusReach : Float
-minusReach = fin true 1 (pos 16)
-
--- the sine of |x| and of k quarter turns, a half turn more below zero
-abbrev pub halfTurn : Bool → ℕ
-halfTurn true = 2
-halfTurn false = 0
-
+-- NaN for a NaN and beyond 65,536; a half turn more for a minus sign
 unfoldable pub sinOf : Float → Float
-sinOf x = cond (isNan x) nan (cond (lt reach x) nan (cond (lt x minusReach) nan (turnedOf x (halfTurn (lt x nought)))))
+sinOf x = cond (over 65536 x) nan (turnedOf x (minusSign x * 2))
 
 unfoldable pub cosOf : Float → Float
-cosOf x = cond (isNan x) nan (cond (lt reach x) nan (cond (lt x minusReach) nan (turnedOf x 1)))
+cosOf x = cond (over 65536 x) nan (turnedOf x 1)

@@ -4,10 +4,12 @@ use circular_tables::cosine_at;
 use circular_tables::sine_at;
 use fixed_point::scaled;
 ghost use mathlib.Core.Path.{_≡_};
-ghost use Prim.Native.Nat.{ℕ, _+_, _*_, _/_, _^_, _<_, _≤_};
+ghost use mathlib.Core.Bool.{cond};
+ghost use Prim.Native.Nat.{ℕ, _+_, _-_, _*_, _/_, _^_, _<_, _≤_};
+ghost use lib.Dec.{eqb};
 ghost use lib.Ieee.{Float, fin, binary64, isNan};
 ghost use Rattle.fixed_point.specs.Float.{Within};
-ghost use Rattle.circular_functions.specs.Trig.{arcOf, sagOf, acrossOf, droppedOf, sineOf, cosineOf, signedOf, waveOf, farOf, turnedOf, sinOf, cosOf};
+ghost use Rattle.circular_functions.specs.Trig.{arcOf, sagOf, acrossOf, droppedOf, partOf, signedOf, distanceOf, quarterOf, waveOf, farOf, turnedOf, sinOf, cosOf};
 
 // sin d in units of 2^-50, for d in units of 2^-58, below 2^50: d - d^3/6.
 pub fn arc(d: u64) -> u64
@@ -47,26 +49,39 @@ pub fn dropped(a: u64, e: u64) -> u64
     e * (a / 134217728) / 4194304
 }
 
-// sin r in units of 2^-58, for r in units of 2^-58, from 0 to 1.
-pub fn sine(r: u64) -> u64
-    requires { ⌜ r ≤ 2 ^ 58 ⌝ }
-    ensures { λ v. ⌜ (v ≡ sineOf r) × (v ≤ 2 ^ 59) ⌝ }
+// x for a parity of 0, y for a parity of 1. A function this short becomes a conditional move, where a branch on the parity
+// would be mispredicted half of the time.
+pub fn choose(h: u64, x: u64, y: u64) -> u64
+    ensures { λ r. ⌜ r ≡ cond (eqb h 0) x y ⌝ }
 {
-    let a = sine_at(r / 1125899906842624);
-    let b = cosine_at(r / 1125899906842624);
-    let d = r % 1125899906842624;
-    a + across(b, arc(d)) - dropped(a, sag(d))
+    if h == 0 {
+        return x;
+    }
+    y
 }
 
-// cos r in the same way.
-pub fn cosine(r: u64) -> u64
+// u + p for a parity of 0, u - p for a parity of 1.
+pub fn moved(h: u64, u: u64, p: u64) -> u64
+    requires { ⌜ (u ≤ 2 ^ 58) × (p ≤ 2 ^ 51) × ((h ≡ 0 → ⊥) → p ≤ u) ⌝ }
+    ensures { λ r. ⌜ r ≡ cond (eqb h 0) (u + p) (u - p) ⌝ }
+{
+    if h == 0 {
+        return u + p;
+    }
+    u - p
+}
+
+// sin r for a parity of 0 and cos r for a parity of 1, in units of 2^-58, for r in units of 2^-58, from 0 to 1.
+pub fn part(h: u64, r: u64) -> u64
     requires { ⌜ r ≤ 2 ^ 58 ⌝ }
-    ensures { λ v. ⌜ (v ≡ cosineOf r) × (v ≤ 2 ^ 59) ⌝ }
+    ensures { λ v. ⌜ (v ≡ partOf h r) × (v ≤ 2 ^ 59) ⌝ }
 {
     let a = sine_at(r / 1125899906842624);
     let b = cosine_at(r / 1125899906842624);
     let d = r % 1125899906842624;
-    b - across(a, arc(d)) - dropped(b, sag(d))
+    let u = choose(h, a, b);
+    let w = choose(h, b, a);
+    moved(h, u, across(w, arc(d))) - dropped(u, sag(d))
 }
 
 // v in units of 2^-58 as a float, cut to 2^-51, below zero in the third and fourth quarters.
@@ -78,11 +93,31 @@ pub fn signed(n: u64, v: u64) -> f64
     if q == 0 {
         return 0.0;
     }
-    let f = (q as f64) * f64::from_bits(4377498837804122112);
-    if n % 4 < 2 {
-        return f;
+    (q as f64) * f64::from_bits(4377498837804122112 + n % 4 / 2 * 9223372036854775808)
+}
+
+// |t - 1| for t in units of 2^-58, from 0 to 2.
+pub fn distance(t: u64) -> u64
+    requires { ⌜ t ≤ 2 ^ 59 ⌝ }
+    ensures { λ r. ⌜ (r ≡ distanceOf t) × (r ≤ 2 ^ 58) ⌝ }
+{
+    if t < 288230376151711744 {
+        return 288230376151711744 - t;
     }
-    -f
+    t - 288230376151711744
+}
+
+// The quarter that decides the sign.
+pub fn quarter(n: u64, t: u64) -> u64
+    requires { ⌜ n ≤ 2 ^ 32 ⌝ }
+    ensures { λ r. ⌜ r ≡ quarterOf n t ⌝ }
+{
+    if t < 288230376151711744 {
+        if n % 2 == 0 {
+            return n + 2;
+        }
+    }
+    n
 }
 
 // The sine of n quarter turns and t - 1, for t in units of 2^-58, from 0 to 2.
@@ -90,16 +125,7 @@ pub fn wave(n: u64, t: u64) -> f64
     requires { ⌜ (n ≤ 2 ^ 32) × (t ≤ 2 ^ 59) ⌝ }
     ensures { λ r. ⌜ r ≡ waveOf n t ⌝ }
 {
-    if t < 288230376151711744 {
-        if n % 2 == 0 {
-            return signed(n + 2, sine(288230376151711744 - t));
-        }
-        return signed(n, cosine(288230376151711744 - t));
-    }
-    if n % 2 == 0 {
-        return signed(n, sine(t - 288230376151711744));
-    }
-    signed(n, cosine(t - 288230376151711744))
+    signed(quarter(n, t), part(n % 2, distance(t)))
 }
 
 // The sine of k quarter turns and m, for m in units of 2^-46.
@@ -117,10 +143,8 @@ pub fn turned(x: f64, k: u64) -> f64
     requires { ⌜ Within x 65536 × (k ≤ 2) ⌝ }
     ensures { λ r. ⌜ r ≡ turnedOf x k ⌝ }
 {
-    if x > 1.0 {
-        return far(scaled(x, 46), k);
-    }
-    if x < -1.0 {
+    let b = f64::to_bits(x) % 9223372036854775808;
+    if 4607182418800017408 < b {
         return far(scaled(x, 46), k);
     }
     wave(k, 288230376151711744 + scaled(x, 58))
@@ -132,16 +156,11 @@ pub fn sin(x: f64) -> f64
     if x != x {
         return x;
     }
-    if x > 65536.0 {
+    let b = f64::to_bits(x);
+    if 4679240012837945344 < b % 9223372036854775808 {
         return 0.0 / 0.0;
     }
-    if x < -65536.0 {
-        return 0.0 / 0.0;
-    }
-    if x < 0.0 {
-        return turned(x, 2);
-    }
-    turned(x, 0)
+    turned(x, b / 9223372036854775808 * 2)
 }
 
 pub fn cos(x: f64) -> f64
@@ -150,10 +169,8 @@ pub fn cos(x: f64) -> f64
     if x != x {
         return x;
     }
-    if x > 65536.0 {
-        return 0.0 / 0.0;
-    }
-    if x < -65536.0 {
+    let b = f64::to_bits(x);
+    if 4679240012837945344 < b % 9223372036854775808 {
         return 0.0 / 0.0;
     }
     turned(x, 1)

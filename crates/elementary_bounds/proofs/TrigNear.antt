@@ -11,16 +11,15 @@ use lib.Ieee.{Float, nan, inf, fin, binary64, up, down, round, lt, isNan}
 use lib.Ieee.Exact.{HasValue, round-exact}
 use lib.Ieee.Fits.{down-pos}
 use borrow.Author.Tests.{ne-eqb}
-use Rattle.fixed_point.specs.Float.{Within}
 use Rattle.elementary_bounds.specs.Series.{sinAdding, sinTaking, cosAdding, cosTaking, Near}
 use Rattle.fixed_point.specs.Fixed.{scaledOf}
-use Rattle.fixed_point.specs.Float.{one, minusOne, nought}
-use Rattle.circular_tables.specs.Tables.{sines, cosines}
-use Rattle.circular_functions.specs.Trig.{sineOf, cosineOf, signOf, signedOf, waveOf, quartersOf, leftOf, farOf, turnedOf, reach, minusReach, halfTurn, sinOf, cosOf}
+use Rattle.fixed_point.specs.Float.{Within, over, digit, minusSign, nought}
+use Rattle.circular_functions.specs.Trig.{sineOf, cosineOf, partOf, signOf, signedOf, distanceOf, quarterOf, waveOf, quartersOf, leftOf, farOf, turnedOf, sinOf, cosOf}
 use Rattle.elementary_bounds.proofs.Nearness.{Kernel, near-exact}
-use Rattle.fixed_point.proofs.Range.{within-no-nan, within-scaled, between, not-over, not-under, not-negative, minus-zero}
+use Rattle.fixed_point.proofs.Range.{within-scaled}
+use Rattle.fixed_point.proofs.Bits.{over-within, within-over}
 use Rattle.circular_functions.proofs.TrigBound.{left-in}
-use Rattle.circular_functions.proofs.TrigCases.{wave-even, wave-odd, turned-above, turned-below, turned-near, sin-inside, cos-inside}
+use Rattle.circular_functions.proofs.TrigCases.{either-le, wave-even, wave-odd, turned-far, turned-near, sin-inside, cos-inside}
 use Rattle.elementary_bounds.proofs.TrigKernel.{sine-close, cosine-close, sine-one, cosine-one}
 
 -- ---- the float by its sign and size
@@ -50,15 +49,16 @@ module _ (s : Bool) (m : ℕ) (e : ℤ) (h : Within (fin s m e) 1) where
   M-le = within-scaled 58 1 x h
 
   near-turned : (k : ℕ) → turnedOf x k ≡ waveOf k (2 ^ 58 + M)
-  near-turned k = turned-near x k (not-over s m e 1 h 1 0 (lit≤ {m = 1} {n = 1} tt)) (not-under s m e 1 h 1 0 (lit≤ {m = 1} {n = 1} tt))
+  near-turned k = turned-near x k (within-over 1 1 x (lit≤ {m = 1} {n = 1} tt) h)
 
-  sin-turned : sinOf x ≡ waveOf (halfTurn (lt x nought)) (2 ^ 58 + M)
-  unfolding isNan
-  sin-turned = sin-inside x refl (not-over s m e 1 h 1 16 (lit≤ {m = 1} {n = 65536} tt)) (not-under s m e 1 h 1 16 (lit≤ {m = 1} {n = 65536} tt)) ∙ near-turned (halfTurn (lt x nought))
+  in-reach : over 65536 x ≡ false
+  in-reach = within-over 1 65536 x (lit≤ {m = 1} {n = 65536} tt) h
+
+  sin-turned : sinOf x ≡ waveOf (digit s * 2) (2 ^ 58 + M)
+  sin-turned = sin-inside x in-reach ∙ near-turned (digit s * 2)
 
   cos-turned : cosOf x ≡ waveOf 1 (2 ^ 58 + M)
-  unfolding isNan
-  cos-turned = cos-inside x refl (not-over s m e 1 h 1 16 (lit≤ {m = 1} {n = 65536} tt)) (not-under s m e 1 h 1 16 (lit≤ {m = 1} {n = 65536} tt)) ∙ near-turned 1
+  cos-turned = cos-inside x in-reach ∙ near-turned 1
 
   above : (m : ℕ) → 2 ^ 58 ≤ 2 ^ 58 + m
   above m = omega arith
@@ -89,28 +89,20 @@ module _ (s : Bool) (m : ℕ) (e : ℤ) (h : Within (fin s m e) 1) where
       (down-pos e) (div-add-mod' (m * up e * 2 ^ 58) (down e)) (le-of-lt (mod-lt (m * up e * 2 ^ 58) (down-pos e))) (one-times (m * up e) (down e) h)
 
 -- the sign that sin takes
-sine-zero : sineOf 0 / 128 ≡ 0
-unfolding sines cosines
-sine-zero = refl
-
 sin-sign : (s : Bool) (m : ℕ) (e : ℤ) (h : Within (fin s m e) 1) → HasValue (sinOf (fin s m e)) (signOf s (sineOf (scaledOf 58 (fin s m e)) / 128)) (sineOf (scaledOf 58 (fin s m e)) / 128) (2 ^ 51)
-sin-sign s m e h = go s h (lt (fin s m e) nought) refl
+sin-sign s m e h = go s h
   where
-    q-lt : (s : Bool) → Within (fin s m e) 1 → sineOf (scaledOf 58 (fin s m e)) / 128 < 2 ^ 53
-    q-lt s h = cut-lt (sineOf (scaledOf 58 (fin s m e))) (sine-one (scaledOf 58 (fin s m e)) (M-le s m e h))
+    q : Bool → ℕ
+    q s = sineOf (scaledOf 58 (fin s m e)) / 128
 
-    at : (s : Bool) (h : Within (fin s m e) 1) (b : Bool) → lt (fin s m e) nought ≡ b → (halfTurn b % 2 ≡ 0) → sinOf (fin s m e) ≡ signedOf (halfTurn b) (sineOf (scaledOf 58 (fin s m e)) / 128)
-    at s h b t p = sin-turned s m e h ∙ ap (λ (z : Bool). waveOf (halfTurn z) (2 ^ 58 + scaledOf 58 (fin s m e))) t ∙ sin-signed s m e h (halfTurn b) p
+    at : (s : Bool) (h : Within (fin s m e) 1) → digit s * 2 % 2 ≡ 0 → HasValue (sinOf (fin s m e)) (signOf (leb 2 (digit s * 2 % 4)) (q s)) (q s) (2 ^ 51)
+    at s h p =
+        subst (λ (y : Float). HasValue y (signOf (leb 2 (digit s * 2 % 4)) (q s)) (q s) (2 ^ 51)) (sym (sin-turned s m e h ∙ sin-signed s m e h (digit s * 2) p))
+        (signed-value (digit s * 2) (q s) (cut-lt (sineOf (scaledOf 58 (fin s m e))) (sine-one (scaledOf 58 (fin s m e)) (M-le s m e h))))
 
-    go : (s : Bool) (h : Within (fin s m e) 1) (b : Bool) → lt (fin s m e) nought ≡ b → HasValue (sinOf (fin s m e)) (signOf s (sineOf (scaledOf 58 (fin s m e)) / 128)) (sineOf (scaledOf 58 (fin s m e)) / 128) (2 ^ 51)
-    go false h true t = absurd (subst T (sym t ∙ not-negative m e) tt)
-    go false h false t = subst (λ (y : Float). HasValue y (signOf false (sineOf (scaledOf 58 (fin false m e)) / 128)) (sineOf (scaledOf 58 (fin false m e)) / 128) (2 ^ 51)) (sym (at false h false t refl)) (signed-value 0 (sineOf (scaledOf 58 (fin false m e)) / 128) (q-lt false h))
-    go true h true t = subst (λ (y : Float). HasValue y (signOf true (sineOf (scaledOf 58 (fin true m e)) / 128)) (sineOf (scaledOf 58 (fin true m e)) / 128) (2 ^ 51)) (sym (at true h true t refl)) (signed-value 2 (sineOf (scaledOf 58 (fin true m e)) / 128) (q-lt true h))
-    go true h false t =
-        let q = sineOf (scaledOf 58 (fin true m e)) / 128 in
-        let z : q ≡ 0 = ap (λ (u : ℕ). sineOf u / 128) (minus-zero 58 m e t) ∙ sine-zero in
-        subst (λ (y : Float). HasValue y (signOf true q) q (2 ^ 51)) (sym (at true h false t refl))
-        (subst (λ (u : ℕ). HasValue (signedOf 0 u) (signOf true u) u (2 ^ 51)) (sym z) (refl, refl))
+    go : (s : Bool) (h : Within (fin s m e) 1) → HasValue (sinOf (fin s m e)) (signOf s (q s)) (q s) (2 ^ 51)
+    go true h = at true h refl
+    go false h = at false h refl
 
 -- For x of size at most 1, sin x is q / 2 ^ 51 with the sign of x, for a q that is near the series at the size of x
 pub sin-near : (s : Bool) (m : ℕ) (e : ℤ) → Within (fin s m e) 1
@@ -149,15 +141,11 @@ signed-within n v h = value-within (signedOf n (v / 128)) (signOf (leb 2 (n % 4)
     cut : (v : ℕ) → v ≤ 2 ^ 58 → v / 128 ≤ 2 ^ 51
     cut v h = omega arith
 
-either : (b : Bool) (x y : Float) → Within x 1 → Within y 1 → Within (cond b x y) 1
-either true x y h k = h
-either false x y h k = k
+part-one : (h r : ℕ) → r ≤ 2 ^ 58 → partOf h r ≤ 2 ^ 58
+part-one h r l = either-le (eqb h 0) (sine-one r l) (cosine-one r l)
 
-wave-within : (n t : ℕ) → t ≤ 2 ^ 59 → Within (waveOf n t) 1
-wave-within n t h =
-    either (ltb t (2 ^ 58)) _ _
-    (either (eqb (n % 2) 0) _ _ (signed-within (n + 2) (sineOf (2 ^ 58 - t)) (sine-one (2 ^ 58 - t) (down-in t))) (signed-within n (cosineOf (2 ^ 58 - t)) (cosine-one (2 ^ 58 - t) (down-in t))))
-    (either (eqb (n % 2) 0) _ _ (signed-within n (sineOf (t - 2 ^ 58)) (sine-one (t - 2 ^ 58) (up-in t h))) (signed-within n (cosineOf (t - 2 ^ 58)) (cosine-one (t - 2 ^ 58) (up-in t h))))
+distance-one : (t : ℕ) → t ≤ 2 ^ 59 → distanceOf t ≤ 2 ^ 58
+distance-one t h = either-le (ltb t (2 ^ 58)) (down-in t) (up-in t h)
   where
     down-in : (t : ℕ) → 2 ^ 58 - t ≤ 2 ^ 58
     down-in t = omega arith
@@ -165,35 +153,26 @@ wave-within n t h =
     up-in : (t : ℕ) → t ≤ 2 ^ 59 → t - 2 ^ 58 ≤ 2 ^ 58
     up-in t h = omega arith
 
-turned-within : (x : Float) (k : ℕ) → Within x 65536 → Within (turnedOf x k) 1
-turned-within x k h = go (lt one x) (lt x minusOne) refl refl
-  where
-    far : Within (farOf (scaledOf 46 x) k) 1
-    far = wave-within (quartersOf (scaledOf 46 x) + k) (leftOf (scaledOf 46 x) (quartersOf (scaledOf 46 x))) (left-in (scaledOf 46 x) (within-scaled 46 65536 x h))
+wave-within : (n t : ℕ) → t ≤ 2 ^ 59 → Within (waveOf n t) 1
+wave-within n t h = signed-within (quarterOf n t) (partOf (n % 2) (distanceOf t)) (part-one (n % 2) (distanceOf t) (distance-one t h))
 
+turned-within : (x : Float) (k : ℕ) → Within x 65536 → Within (turnedOf x k) 1
+turned-within x k h = go (over 1 x) refl
+  where
     close : (m : ℕ) → m ≤ 1 * 2 ^ 58 → 2 ^ 58 + m ≤ 2 ^ 59
     close m h = omega arith
 
-    go : (b c : Bool) → lt one x ≡ b → lt x minusOne ≡ c → Within (turnedOf x k) 1
-    go true c p q = subst (λ (y : Float). Within y 1) (sym (turned-above x k p)) far
-    go false true p q = subst (λ (y : Float). Within y 1) (sym (turned-below x k p q)) far
-    go false false p q =
-        subst (λ (y : Float). Within y 1) (sym (turned-near x k p q))
-        (wave-within k (2 ^ 58 + scaledOf 58 x) (close (scaledOf 58 x) (within-scaled 58 1 x (between 1 0 1 0 1 x (within-no-nan x 65536 h) p q (lit≤ {m = 1} {n = 1} tt) (lit≤ {m = 1} {n = 1} tt)))))
+    go : (b : Bool) → over 1 x ≡ b → Within (turnedOf x k) 1
+    go true p =
+        subst (λ (y : Float). Within y 1) (sym (turned-far x k p))
+        (wave-within (quartersOf (scaledOf 46 x) + k) (leftOf (scaledOf 46 x) (quartersOf (scaledOf 46 x))) (left-in (scaledOf 46 x) (within-scaled 46 65536 x h)))
+    go false p =
+        subst (λ (y : Float). Within y 1) (sym (turned-near x k p))
+        (wave-within k (2 ^ 58 + scaledOf 58 x) (close (scaledOf 58 x) (within-scaled 58 1 x (over-within 1 x p))))
 
 -- For x of size at most 65,536, sin x and cos x are at most 1 in size
 pub sin-size : (x : Float) → Within x 65536 → Within (sinOf x) 1
-unfolding isNan
-sin-size nan h = absurd h
-sin-size (inf s) h = absurd h
-sin-size (fin s m e) h =
-    subst (λ (y : Float). Within y 1) (sym (sin-inside (fin s m e) refl (not-over s m e 65536 h 1 16 (lit≤ {m = 65536} {n = 65536} tt)) (not-under s m e 65536 h 1 16 (lit≤ {m = 65536} {n = 65536} tt))))
-    (turned-within (fin s m e) (halfTurn (lt (fin s m e) nought)) h)
+sin-size x h = subst (λ (y : Float). Within y 1) (sym (sin-inside x (within-over 65536 65536 x (lit≤ {m = 65536} {n = 65536} tt) h))) (turned-within x (minusSign x * 2) h)
 
 pub cos-size : (x : Float) → Within x 65536 → Within (cosOf x) 1
-unfolding isNan
-cos-size nan h = absurd h
-cos-size (inf s) h = absurd h
-cos-size (fin s m e) h =
-    subst (λ (y : Float). Within y 1) (sym (cos-inside (fin s m e) refl (not-over s m e 65536 h 1 16 (lit≤ {m = 65536} {n = 65536} tt)) (not-under s m e 65536 h 1 16 (lit≤ {m = 65536} {n = 65536} tt))))
-    (turned-within (fin s m e) 1 h)
+cos-size x h = subst (λ (y : Float). Within y 1) (sym (cos-inside x (within-over 65536 65536 x (lit≤ {m = 65536} {n = 65536} tt) h))) (turned-within x 1 h)

@@ -8,31 +8,31 @@ use Rattle.circular_functions.specs.Trig.{sinOf, cosOf}
 use Rattle.square_root.specs.Root.{sqrtOf}
 
 sin-nan : sinOf nan ≡ nan
-unfolding sinOf isNan
+unfolding sinOf
 sin-nan = refl
 
 sin-zero : sinOf (fin false 0 (pos 0)) ≡ fin false 0 (pos 0)
-unfolding sinOf isNan lt sines cosines
+unfolding sinOf sines cosines
 sin-zero = refl
 
 sin-minus-zero : sinOf (fin true 0 (pos 0)) ≡ fin false 0 (pos 0)
-unfolding sinOf isNan lt sines cosines
+unfolding sinOf sines cosines
 sin-minus-zero = refl
 
 cos-zero : cosOf (fin false 0 (pos 0)) ≡ fin false 1 (pos 0)
-unfolding cosOf isNan lt sines cosines round
+unfolding cosOf sines cosines round
 cos-zero = refl
 
 cos-minus-zero : cosOf (fin true 0 (pos 0)) ≡ fin false 1 (pos 0)
-unfolding cosOf isNan lt sines cosines round
+unfolding cosOf sines cosines round
 cos-minus-zero = refl
 
 sin-up : sinOf (inf false) ≡ nan
-unfolding sinOf isNan lt
+unfolding sinOf
 sin-up = refl
 
 cos-down : cosOf (inf true) ≡ nan
-unfolding cosOf isNan lt
+unfolding cosOf
 cos-down = refl
 
 sqrt-minus-zero : sqrtOf (fin true 0 (pos 0)) ≡ fin true 0 (pos 0)

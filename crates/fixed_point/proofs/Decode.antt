@@ -4,8 +4,9 @@ use mathlib.Core.Logic.{_⊎_, inl, inr}
 use mathlib.Core.Bool.{Bool, true, false, not, cond}
 use Prim.Native.Nat.{ℕ, zero, suc, _+_, _-_, _*_, _/_, _%_, _^_, _≤_, _<_}
 use native.Mathlib.Omega.{arith}
-use native.Mathlib.Nat.{add-comm, mul-assoc, div-eq-of-lt, lt-of-lt-of-le, lt-of-not-le, mod-lt, mul-one, mul-le-mul-right}
-use lib.Dec.{T, eqb}
+use native.Mathlib.Nat.{add-comm, mul-assoc, div-eq-of-lt, lt-of-lt-of-le, lt-of-not-le, mod-lt, mul-one, le-trans, le-of-suc-le-suc, le-add-left}
+use borrow.Author.Tests.{ltb-true, ltb-false}
+use lib.Dec.{T, eqb, ltb, lit≤}
 use lib.Pow.{pow-add, pow-pos, pow-mono, shl-lt, shl-shr, mod-mod-pow}
 use lib.Ieee.{Float, nan, inf, fin, binary64, up, down, odd, fits, isNan, ofFields, ofBits, toBits}
 use lib.Ieee.Bits.{ofBits-toBits}
@@ -13,6 +14,7 @@ use lib.Ieee.Digits.{Equals, odd-val}
 use lib.Ieee.Fits.{down-pos}
 use lib.Ieee.Nearest.{div-same}
 use lib.Ieee.Scale.{finite}
+use Rattle.fixed_point.proofs.Product.{below-mul}
 use Rattle.fixed_point.specs.Fixed.{scaledOf}
 
 -- ---- the value, by the fields
@@ -105,6 +107,34 @@ module _ (x : Float) (fx : T (fits binary64 x)) (h : T (finite x)) where
   pub shifted-down : (k : ℕ) → k ≤ 62 → field + k < 1075 → scaledOf k x ≡ (digits + 2 ^ 52) / 2 ^ (1075 - k - field)
   shifted-down k l g = scaled-value k x (lead field digits) (2 ^ 1074) (pow-pos 1074) value ∙ below field digits k 1074 l refl (mod-lt (toBits binary64 x % 2 ^ 63) (pow-pos 52)) g
 
+  -- one shift serves both: to the left by 11, where nothing is lost, and back to the right
+  pub shifted : (k : ℕ) → k ≤ 62 → field + k ≤ 1085 → scaledOf k x ≡ (digits + 2 ^ 52) * 2048 / 2 ^ (1086 - k - field)
+  shifted k l g = go (ltb (field + k) 1075) refl
+    where
+      left : (f k : ℕ) → k ≤ 62 → 1075 ≤ f + k → f + k ≤ 1085 → 11 ≡ f + k - 1075 + (1086 - k - f)
+      left f k l u g = omega arith
+
+      right : (f k : ℕ) → k ≤ 62 → f + k < 1075 → 1086 - k - f ≡ 11 + (1075 - k - f)
+      right f k l u = omega arith
+
+      go : (b : Bool) → ltb (field + k) 1075 ≡ b → scaledOf k x ≡ (digits + 2 ^ 52) * 2048 / 2 ^ (1086 - k - field)
+      go false e =
+          let u = ltb-false (field + k) 1075 e in
+          shifted-up k l u ∙ sym (up-by (digits + 2 ^ 52) 11 (field + k - 1075) (1086 - k - field) (left field k l u g))
+      go true e =
+          let u = ltb-true (field + k) 1075 e in
+          shifted-down k l u ∙ sym (down-by (digits + 2 ^ 52) 11 (1075 - k - field) (1086 - k - field) (right field k l u))
+
+  -- what is below 2 ^ 63 once it is scaled has no larger exponent
+  pub field-le : (k : ℕ) → k ≤ 62 → scaledOf k x < 2 ^ 63 → field + k ≤ 1085
+  field-le k l h = le-of-suc-le-suc (lt-of-not-le (λ g. no (scaledOf k x) (digits + 2 ^ 52) (2 ^ (field + k - 1075)) (shifted-up k l (le-trans (lit≤ {m = 1075} {n = 1086} tt) g)) (pow-mono {i = 11} (far (field + k) g)) h (below-mul (digits + 2 ^ 52) (2 ^ (field + k - 1075)) {a = 2 ^ 52} {b = 2048} (le-add-left (2 ^ 52) digits) (pow-mono {i = 11} (far (field + k) g)))))
+    where
+      far : (n : ℕ) → 1086 ≤ n → 11 ≤ n - 1075
+      far n h = omega arith
+
+      no : (v q w : ℕ) → v ≡ q * w → 2048 ≤ w → v < 2 ^ 63 → 2 ^ 52 * 2048 ≤ q * w → ⊥
+      no v q w e l h g = omega arith
+
 -- ---- what the code's shifts ask
 
 pub finite-no-nan : (x : Float) → T (finite x) → T (not (isNan x))
@@ -113,14 +143,8 @@ finite-no-nan nan h = h
 finite-no-nan (inf s) h = tt
 finite-no-nan (fin s m e) h = tt
 
-pub small-shift : (q j : ℕ) → 0 < q → q * 2 ^ j < 2 ^ 63 → j < 64
-small-shift q j p h = lt-of-not-le (λ g. no (2 ^ j) q (q * 2 ^ j) (pow-mono g) (mul-le-mul-right (2 ^ j) p) h)
-  where
-    no : (a q b : ℕ) → 2 ^ 64 ≤ a → 1 * a ≤ b → b < 2 ^ 63 → ⊥
-    no a q b g l h = omega arith
-
-pub far-shift : (t n : ℕ) → t < 2 ^ 52 → 64 ≤ n → (t + 2 ^ 52) / 2 ^ n ≡ 0
+pub far-shift : (t n : ℕ) → t < 2 ^ 52 → 64 ≤ n → (t + 2 ^ 52) * 2048 / 2 ^ n ≡ 0
 far-shift t n h g = div-eq-of-lt (lt-of-lt-of-le (sum t h) (pow-mono g))
   where
-    sum : (t : ℕ) → t < 2 ^ 52 → t + 2 ^ 52 < 2 ^ 64
+    sum : (t : ℕ) → t < 2 ^ 52 → (t + 2 ^ 52) * 2048 < 2 ^ 64
     sum t h = omega arith

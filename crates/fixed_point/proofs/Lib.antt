@@ -2,6 +2,7 @@
 pub mod Product
 pub mod Rest
 pub mod Decode
+pub mod Bits
 pub mod Assemble
 pub mod Table
 pub mod Range

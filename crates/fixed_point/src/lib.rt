@@ -24,15 +24,9 @@ pub fn scaled(x: f64, k: u64) -> u64
     ensures { λ r. ⌜ r ≡ scaledOf k x ⌝ }
 {
     let b = f64::to_bits(x) % 9223372036854775808;
-    let e = b / 4503599627370496;
-    let q = b % 4503599627370496 + 4503599627370496;
-    if 1075 <= e + k {
-        let j = e + k - 1075;
-        return q << j;
-    }
-    let n = 1075 - k - e;
+    let n = 1086 - k - b / 4503599627370496;
     if n < 64 {
-        return q >> n;
+        return (b % 4503599627370496 + 4503599627370496) * 2048 >> n;
     }
     0
 }

@@ -1,44 +1,35 @@
 -- `circular_functions::turned` meets its contract. Assumes nothing.
 use mathlib.Core.Path.{_≡_, sym, ap, _∙_, subst}
-use mathlib.Core.Bool.{true, false}
+use mathlib.Core.Bool.{true, false, not}
 use Prim.Native.Nat.{ℕ, _+_, _*_, _^_, _≤_, _<_}
 use native.Mathlib.Omega.{arith}
 use native.Mathlib.Nat.{lt-of-le-of-lt}
 use lib.Dec.{T, lit≤, lit<}
-use lib.Ieee.{Float, ofBits, neg, lt, isNan}
+use lib.Ieee.{Float, binary64, fits, isNan}
 use lib.Ieee.Scale.{finite}
-use Rattle.fixed_point.specs.Float.{Within}
+use Rattle.fixed_point.specs.Float.{Within, over}
 use Rattle.fixed_point.specs.Fixed.{scaledOf}
-use Rattle.fixed_point.specs.Float.{one, minusOne}
-use Rattle.fixed_point.proofs.Range.{between, within-finite, within-no-nan, within-scaled}
-use Rattle.circular_functions.proofs.TrigCases.{turned-above, turned-below, turned-near}
+use Rattle.fixed_point.proofs.Decode.{finite-no-nan}
+use Rattle.fixed_point.proofs.Bits.{over-true, over-false, over-within}
+use Rattle.fixed_point.proofs.Range.{within-finite, within-no-nan, within-scaled}
+use Rattle.circular_functions.proofs.TrigCases.{turned-far, turned-near}
 use Rattle.circular_functions.proofs.turned.Statement.{statement}
 use Rattle.circular_functions.proofs.turned.Tie as tie
 
--- ---- what each place's tests say
+held : (c : tie.Start) → T (fits binary64 (c .args .x))
+held c = subst T (sym (c .good .0 .1)) tt
 
-above : (c : tie.Then1) → lt one (c .before .args .x) ≡ true
-unfolding ofBits
-above c = c .if1 .taken
+float-to-bits-b : tie.Need-float-to-bits-b
+float-to-bits-b c = finite-no-nan (c .args .x) (within-finite (c .args .x) 65536 (c .pre .0))
 
-not-above : (c : tie.Else1) → lt one (c .before .args .x) ≡ false
-unfolding ofBits
-not-above c = c .if1 .left
+beyond : (c : tie.Then1) → over 1 (c .before .args .x) ≡ true
+beyond c = over-true 0 (c .before .args .x) (held (c .before)) (c .if1 .taken)
 
-below : (c : tie.Then2) → lt (c .before .before .args .x) minusOne ≡ true
-unfolding ofBits neg
-below c = c .if2 .taken
+inside : (c : tie.Else1) → over 1 (c .before .args .x) ≡ false
+inside c = over-false 0 (lit≤ {m = 0} {n = 1000} tt) (c .before .args .x) (held (c .before)) (within-no-nan (c .before .args .x) 65536 (c .before .pre .0)) (c .if1 .left)
 
-not-below : (c : tie.Else2) → lt (c .before .before .args .x) minusOne ≡ false
-unfolding ofBits neg
-not-below c = c .if2 .left
-
-in-one : (c : tie.Else2) → Within (c .before .before .args .x) 1
-in-one c =
-    let s = c .before .before in
-    between 1 0 1 0 1 (s .args .x) (within-no-nan (s .args .x) 65536 (s .pre .0)) (not-above (c .before)) (not-below c) (lit≤ {m = 1} {n = 1} tt) (lit≤ {m = 1} {n = 1} tt)
-
--- ---- the needs
+in-one : (c : tie.Else1) → Within (c .before .args .x) 1
+in-one c = over-within 1 (c .before .args .x) (inside c)
 
 -- what `scaled` asks of a number within Q
 reachable : (x : Float) (Q k : ℕ) → Within x Q → k ≤ 62 → Q * 2 ^ k < 2 ^ 63 → T (finite x) × (k ≤ 62) × (scaledOf k x < 2 ^ 63)
@@ -58,55 +49,37 @@ far-requires c κs =
 returns : tie.Need-returns
 returns c =
     let t = c .before .before in
-    let e = turned-above (t .before .args .x) (t .before .args .k) (above t) in
+    let e = turned-far (t .before .args .x) (t .before .args .k) (beyond t) in
     cc e
 
 scaled-requires-2 : tie.Need-scaled-requires-2
-scaled-requires-2 c κs = reachable (c .before .before .args .x) 65536 46 (c .before .before .pre .0) (lit≤ {m = 46} {n = 62} tt) (lit< {m = 65536 * 2 ^ 46} {n = 2 ^ 63} tt)
-
-far-requires-2 : tie.Need-far-requires-2
-far-requires-2 c κs =
-    let s = c .before .before .before in
-    (far-in (c .scaled2 .result) (s .args .x) (c .scaled2 .ensures) (s .pre .0), s .pre .1)
-
-returns-2 : tie.Need-returns-2
-returns-2 c =
-    let t = c .before .before in
-    let s = t .before .before in
-    let e = turned-below (s .args .x) (s .args .k) (not-above (t .before)) (below t) in
-    cc e
-
-scaled-requires-3 : tie.Need-scaled-requires-3
-scaled-requires-3 c κs = reachable (c .before .before .args .x) 1 58 (in-one c) (lit≤ {m = 58} {n = 62} tt) (lit< {m = 1 * 2 ^ 58} {n = 2 ^ 63} tt)
+scaled-requires-2 c κs = reachable (c .before .args .x) 1 58 (in-one c) (lit≤ {m = 58} {n = 62} tt) (lit< {m = 1 * 2 ^ 58} {n = 2 ^ 63} tt)
 
 -- the scaled argument is at most 1
-small : (c : tie.After-scaled3) → c .scaled3 .result ≤ 1 * 2 ^ 58
-small c = subst (λ (n : ℕ). n ≤ 1 * 2 ^ 58) (sym (c .scaled3 .ensures)) (within-scaled 58 1 (c .before .before .before .args .x) (in-one (c .before)))
+small : (c : tie.After-scaled2) → c .scaled2 .result ≤ 1 * 2 ^ 58
+small c = subst (λ (n : ℕ). n ≤ 1 * 2 ^ 58) (sym (c .scaled2 .ensures)) (within-scaled 58 1 (c .before .before .args .x) (in-one (c .before)))
 
 add-wave : tie.Need-add-wave
 add-wave c = omega (arith, small c)
 
 wave-requires : tie.Need-wave-requires
-wave-requires c κs = (omega (arith, c .before .before .before .pre .1), omega (arith, small c))
+wave-requires c κs = (omega (arith, c .before .before .pre .1), omega (arith, small c))
 
-returns-3 : tie.Need-returns-3
-returns-3 c =
+returns-2 : tie.Need-returns-2
+returns-2 c =
     let t = c .before .before in
-    let s = t .before .before in
-    let e = turned-near (s .args .x) (s .args .k) (not-above (t .before)) (not-below t) in
+    let e = turned-near (t .before .args .x) (t .before .args .k) (inside t) in
     cc e
 
 pub turned-spec : {M : Type 1} → statement M
 turned-spec =
     tie.close
     (tie.spec
+    float-to-bits-b
     scaled-requires
     far-requires
     returns
     scaled-requires-2
-    far-requires-2
-    returns-2
-    scaled-requires-3
     add-wave
     wave-requires
-    returns-3)
+    returns-2)

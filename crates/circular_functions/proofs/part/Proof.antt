@@ -1,0 +1,118 @@
+-- `circular_functions::part` meets its contract. Assumes nothing.
+use mathlib.Core.Path.{_≡_, sym, ap, _∙_, subst}
+use mathlib.Core.Bool.{Bool, true, false, cond}
+use Prim.Native.Nat.{ℕ, _+_, _-_, _/_, _%_, _^_, _≤_, _<_}
+use native.Mathlib.Omega.{arith}
+use native.Mathlib.Nat.{le-trans}
+use borrow.Author.Needs.{needs}
+use borrow.Author.Tests.{eq-eqb, ne-eqb}
+use lib.Dec.{T, eqb, lit≤}
+use lib.ListN.{getD}
+use Rattle.circular_functions.specs.Trig.{arcOf, sagOf, acrossOf, droppedOf}
+use Rattle.circular_tables.specs.Tables.{sines, cosines}
+use Rattle.circular_functions.proofs.TrigBound.{sines-le, cosines-le, cosines-ge}
+use Rattle.circular_functions.proofs.TrigCases.{either-le, part-is, part-some, part-le}
+use Rattle.circular_functions.proofs.part.Statement.{statement}
+use Rattle.circular_functions.proofs.part.Tie as tie
+
+clash : true ≡ false → ⊥
+clash e = subst T e tt
+
+-- both entries are at most 1
+sine-one : (c : tie.After-sine-at) → c .sine-at .result ≤ 2 ^ 58
+sine-one c = subst (λ (n : ℕ). n ≤ 2 ^ 58) (sym (c .sine-at .ensures)) (sines-le (c .before .args .r / 2 ^ 50))
+
+cosine-one : (c : tie.After-cosine-at) → c .cosine-at .result ≤ 2 ^ 58
+cosine-one c = subst (λ (n : ℕ). n ≤ 2 ^ 58) (sym (c .cosine-at .ensures)) (cosines-le (c .before .before .args .r / 2 ^ 50))
+
+u-le : (c : tie.After-choose) → c .choose .result ≤ 2 ^ 58
+u-le c = subst (λ (n : ℕ). n ≤ 2 ^ 58) (sym (c .choose .ensures)) (either-le (eqb (c .before .before .before .args .h) 0) (sine-one (c .before .before)) (cosine-one (c .before)))
+
+w-le : (c : tie.After-choose2) → c .choose2 .result ≤ 2 ^ 58
+w-le c = subst (λ (n : ℕ). n ≤ 2 ^ 58) (sym (c .choose2 .ensures)) (either-le (eqb (c .before .before .before .before .args .h) 0) (cosine-one (c .before .before)) (sine-one (c .before .before .before)))
+
+-- for an odd parity the first value is a cosine
+u-ge : (c : tie.After-choose) → (c .before .before .before .args .h ≡ 0 → ⊥) → 2 ^ 57 ≤ c .choose .result
+u-ge c h =
+    let s = c .before .before .before in
+    subst (λ (n : ℕ). 2 ^ 57 ≤ n) (sym (c .choose .ensures ∙ ap (λ (b : Bool). cond b (c .before .before .sine-at .result) (c .before .cosine-at .result)) (ne-eqb (s .args .h) 0 h) ∙ c .before .cosine-at .ensures))
+    (cosines-ge (s .args .r / 2 ^ 50) (entry (s .args .r) (s .pre)))
+  where
+    entry : (r : ℕ) → r ≤ 2 ^ 58 → r / 2 ^ 50 < 257
+    entry r h = omega arith
+
+sine-at-requires : tie.Need-sine-at-requires
+sine-at-requires c κs = search needs
+
+cosine-at-requires : tie.Need-cosine-at-requires
+cosine-at-requires c κs = search needs
+
+choose-requires : tie.Need-choose-requires
+choose-requires c κs = search needs
+
+choose-requires-2 : tie.Need-choose-requires-2
+choose-requires-2 c κs = search needs
+
+arc-requires : tie.Need-arc-requires
+arc-requires c κs = search needs
+
+across-requires : tie.Need-across-requires
+across-requires c κs = (w-le (c .before), c .arc .ensures .1)
+
+moved-requires : tie.Need-moved-requires
+moved-requires c κs =
+    let u = c .before .before .before in
+    (u-le u, c .across .ensures .1, λ h. le-trans (c .across .ensures .1) (le-trans (lit≤ {m = 2 ^ 51} {n = 2 ^ 57} tt) (u-ge u h)))
+
+sag-requires : tie.Need-sag-requires
+sag-requires c κs = search needs
+
+dropped-requires : tie.Need-dropped-requires
+dropped-requires c κs = (u-le (c .before .before .before .before .before), c .sag .ensures .1)
+
+sub-result : tie.Need-sub-result
+sub-result c =
+    let m = c .before .before in
+    let u = m .before .before .before .before in
+    let s = u .before .before .before in
+    let h = s .args .h in
+    subst (λ (n : ℕ). c .dropped .result ≤ n) (sym (m .moved .ensures))
+    (part-some (eqb h 0) (u .choose .result) (m .before .across .result) (c .dropped .result) (c .dropped .ensures .1) (c .dropped .ensures .2) (m .before .across .ensures .1) (λ e. u-ge u (λ z. clash (sym (eq-eqb h 0 z) ∙ e))))
+
+returns : tie.Need-returns
+returns c =
+    let m = c .before .before in
+    let w = m .before .before .before in
+    let u = w .before in
+    let s = u .before .before .before in
+    let b = eqb (s .args .h) 0 in
+    let r = s .args .r in
+    let S = getD sines (r / 2 ^ 50) 0 in
+    let C = getD cosines (r / 2 ^ 50) 0 in
+    let d = r % 2 ^ 50 in
+    let p = m .before .across .result in
+    let e = c .dropped .result in
+    let first : u .choose .result ≡ cond b S C = cc in
+    let other : w .choose2 .result ≡ cond b C S = cc in
+    let moves : p ≡ acrossOf (w .choose2 .result) (arcOf d) = cc in
+    let drops : e ≡ droppedOf (u .choose .result) (sagOf d) = cc in
+    let is = part-is b S C d (u .choose .result) (w .choose2 .result) p e first other moves drops in (
+      ap (λ (n : ℕ). n - e) (m .moved .ensures) ∙ is,
+      subst (λ (n : ℕ). n - e ≤ 2 ^ 59) (sym (m .moved .ensures)) (part-le b (u .choose .result) p e (u-le u) (m .before .across .ensures .1)),
+    )
+
+pub part-spec : {M : Type 1} → statement M
+part-spec =
+    tie.close
+    (tie.spec
+    sine-at-requires
+    cosine-at-requires
+    choose-requires
+    choose-requires-2
+    arc-requires
+    across-requires
+    moved-requires
+    sag-requires
+    dropped-requires
+    sub-result
+    returns)
