@@ -98,16 +98,6 @@ signed-is n q p h = go (n % 4 / 2) refl (half (n % 4) (mod-lt n (lit< {m = 0} {n
 
 -- ---- by the parity
 
-pub parity-zero : (h x y : ℕ) → h ≡ 0 → x ≡ cond (eqb h 0) x y
-parity-zero h x y e = sym (ap (λ (b : Bool). cond b x y) (eq-eqb h 0 e))
-
-pub parity-one : (h x y : ℕ) → (h ≡ 0 → ⊥) → y ≡ cond (eqb h 0) x y
-parity-one h x y e = sym (ap (λ (b : Bool). cond b x y) (ne-eqb h 0 e))
-
-pub either-le : (b : Bool) {x y B : ℕ} → x ≤ B → y ≤ B → cond b x y ≤ B
-either-le true h k = h
-either-le false h k = k
-
 -- what is taken off is there
 pub part-some : (b : Bool) (u p e : ℕ) → e ≤ u → e ≤ 2 ^ 41 → p ≤ 2 ^ 51 → (b ≡ false → 2 ^ 57 ≤ u) → e ≤ cond b (u + p) (u - p)
 part-some true u p e h k l g = omega arith

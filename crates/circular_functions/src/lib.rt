@@ -2,11 +2,11 @@
 // entry there is moved on by a short series.
 use circular_tables::cosine_at;
 use circular_tables::sine_at;
+use fixed_point::choose;
+use fixed_point::offset;
 use fixed_point::scaled;
 ghost use mathlib.Core.Path.{_≡_};
-ghost use mathlib.Core.Bool.{cond};
 ghost use Prim.Native.Nat.{ℕ, _+_, _-_, _*_, _/_, _^_, _<_, _≤_};
-ghost use lib.Dec.{eqb};
 ghost use lib.Ieee.{Float, fin, binary64, isNan};
 ghost use Rattle.fixed_point.specs.Float.{Within};
 ghost use Rattle.circular_functions.specs.Trig.{arcOf, sagOf, acrossOf, droppedOf, partOf, signedOf, distanceOf, quarterOf, waveOf, farOf, turnedOf, sinOf, cosOf};
@@ -49,28 +49,6 @@ pub fn dropped(a: u64, e: u64) -> u64
     e * (a / 134217728) / 4194304
 }
 
-// x for a parity of 0, y for a parity of 1. A function this short becomes a conditional move, where a branch on the parity
-// would be mispredicted half of the time.
-pub fn choose(h: u64, x: u64, y: u64) -> u64
-    ensures { λ r. ⌜ r ≡ cond (eqb h 0) x y ⌝ }
-{
-    if h == 0 {
-        return x;
-    }
-    y
-}
-
-// u + p for a parity of 0, u - p for a parity of 1.
-pub fn moved(h: u64, u: u64, p: u64) -> u64
-    requires { ⌜ (u ≤ 2 ^ 58) × (p ≤ 2 ^ 51) × ((h ≡ 0 → ⊥) → p ≤ u) ⌝ }
-    ensures { λ r. ⌜ r ≡ cond (eqb h 0) (u + p) (u - p) ⌝ }
-{
-    if h == 0 {
-        return u + p;
-    }
-    u - p
-}
-
 // sin r for a parity of 0 and cos r for a parity of 1, in units of 2^-58, for r in units of 2^-58, from 0 to 1.
 pub fn part(h: u64, r: u64) -> u64
     requires { ⌜ r ≤ 2 ^ 58 ⌝ }
@@ -81,7 +59,7 @@ pub fn part(h: u64, r: u64) -> u64
     let d = r % 1125899906842624;
     let u = choose(h, a, b);
     let w = choose(h, b, a);
-    moved(h, u, across(w, arc(d))) - dropped(u, sag(d))
+    offset(h, u, across(w, arc(d))) - dropped(u, sag(d))
 }
 
 // v in units of 2^-58 as a float, cut to 2^-51, below zero in the third and fourth quarters.

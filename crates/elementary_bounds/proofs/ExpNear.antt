@@ -14,17 +14,17 @@ use borrow.Author.Tests.{le-ltb, ltb-false}
 use lib.Ieee.{Float, fin, binary64, up, down, round, lt, isNan}
 use lib.Ieee.Exact.{HasValue, round-exact}
 use lib.Ieee.Scale.{round-same}
-use Rattle.fixed_point.specs.Float.{Within}
+use Rattle.fixed_point.specs.Float.{Within, digit}
 use Rattle.fixed_point.specs.Fixed.{scaledOf}
 use Rattle.natural_exponential.specs.Exp.{kernelOf, assembledOf, insideOf, expOf}
-use Rattle.fixed_point.specs.Float.{nought}
 use Rattle.elementary_bounds.specs.Series.{ev, homogeneous, expAdding, expTaking, Near}
 use Rattle.elementary_bounds.proofs.Nearness.{whole, Kernel, near-exact}
 use Rattle.elementary_bounds.proofs.Series.{shift-is, back, fairs, back-is}
 use Rattle.elementary_bounds.proofs.ExpSeries.{series, lower, lower-is}
 use Rattle.elementary_bounds.proofs.Homogeneous.{rank}
 use Rattle.elementary_bounds.proofs.ExpKernel.{kernel-close, kernel-lt}
-use Rattle.fixed_point.proofs.Range.{within-scaled, not-over, not-under, not-negative, minus-zero}
+use Rattle.fixed_point.proofs.Range.{within-scaled, not-over, not-under}
+use Rattle.fixed_point.proofs.Bits.{within-over}
 use Rattle.natural_exponential.proofs.Cases.{exp-inside}
 
 -- ---- the series: at u / D with the sign s, what is added less what is taken off, over 20! * D ^ 20
@@ -117,22 +117,13 @@ assembled-value v h =
 -- ---- exp itself
 
 -- the tests that lead to the kernel with no reduction
-inside-is : (s : Bool) (m : ℕ) (e : ℤ) → Within (fin s m e) 1 → expOf (fin s m e) ≡ insideOf (lt (fin s m e) nought) (scaledOf 58 (fin s m e))
+inside-is : (s : Bool) (m : ℕ) (e : ℤ) → Within (fin s m e) 1 → expOf (fin s m e) ≡ insideOf (digit s) (scaledOf 58 (fin s m e))
 unfolding isNan
-inside-is s m e h =
-    exp-inside (fin s m e) refl (not-over s m e 1 h 709 0 (lit≤ {m = 1} {n = 709} tt)) (not-under s m e 1 h 177 2 (lit≤ {m = 1} {n = 708} tt)) (not-over s m e 1 h 1 0 (lit≤ {m = 1} {n = 1} tt)) (not-under s m e 1 h 1 0 (lit≤ {m = 1} {n = 1} tt))
+inside-is s m e h = exp-inside (fin s m e) refl (not-over s m e 1 h 709 0 (lit≤ {m = 1} {n = 709} tt)) (not-under s m e 1 h 177 2 (lit≤ {m = 1} {n = 708} tt)) (within-over 1 1 (fin s m e) (lit≤ {m = 1} {n = 1} tt) h)
 
-side-is : (s : Bool) (m : ℕ) (e : ℤ) → insideOf (lt (fin s m e) nought) (scaledOf 58 (fin s m e)) ≡ assembledOf (kernelOf (asked s (scaledOf 58 (fin s m e)))) 1023
-side-is false m e = ap (λ (b : Bool). insideOf b (scaledOf 58 (fin false m e))) (not-negative m e)
-side-is true m e = go (lt (fin true m e) nought) refl
-  where
-    -- at zero it is the same on both sides
-    go : (b : Bool) → lt (fin true m e) nought ≡ b → insideOf (lt (fin true m e) nought) (scaledOf 58 (fin true m e)) ≡ assembledOf (kernelOf (2 ^ 58 - scaledOf 58 (fin true m e))) 1023
-    go true t = ap (λ (b : Bool). insideOf b (scaledOf 58 (fin true m e))) t
-    go false t =
-        ap (λ (b : Bool). insideOf b (scaledOf 58 (fin true m e))) t
-        ∙ ap (λ (z : ℕ). assembledOf (kernelOf (2 ^ 58 + z)) 1023) (minus-zero 58 m e t)
-        ∙ sym (ap (λ (z : ℕ). assembledOf (kernelOf (2 ^ 58 - z)) 1023) (minus-zero 58 m e t))
+side-is : (s : Bool) (m : ℕ) → insideOf (digit s) m ≡ assembledOf (kernelOf (asked s m)) 1023
+side-is false m = refl
+side-is true m = refl
 
 -- For x of size at most 1, exp x is q / 2 ^ 51 for a q that is near the series at x
 pub exp-near : (s : Bool) (m : ℕ) (e : ℤ) → Within (fin s m e) 1
@@ -144,7 +135,7 @@ exp-near s m e h =
     let l : M ≤ 2 ^ 58 = within-scaled 58 1 (fin s m e) h in
     let t = asked s M in (
       kernelOf t / 128,
-      subst (λ (y : Float). HasValue y false (kernelOf t / 128) (2 ^ 51)) (sym (inside-is s m e h ∙ side-is s m e)) (assembled-value (kernelOf t) (kernel-lt t (asked-in s M l))),
+      subst (λ (y : Float). HasValue y false (kernelOf t / 128) (2 ^ 51)) (sym (inside-is s m e h ∙ side-is s M)) (assembled-value (kernelOf t) (kernel-lt t (asked-in s M l))),
       near-series s M n E (n * 2 ^ 58 % E) (down-pos e) (div-add-mod' (n * 2 ^ 58) E) (le-of-lt (mod-lt (n * 2 ^ 58) (down-pos e))) (one-times n E h) l,
     )
   where

@@ -16,10 +16,11 @@ use Rattle.fixed_point.specs.Fixed.{scaledOf}
 use Rattle.fixed_point.specs.Float.{Within, over, digit, minusSign, nought}
 use Rattle.circular_functions.specs.Trig.{sineOf, cosineOf, partOf, signOf, signedOf, distanceOf, quarterOf, waveOf, quartersOf, leftOf, farOf, turnedOf, sinOf, cosOf}
 use Rattle.elementary_bounds.proofs.Nearness.{Kernel, near-exact}
+use Rattle.fixed_point.proofs.Choice.{either-le}
 use Rattle.fixed_point.proofs.Range.{within-scaled}
 use Rattle.fixed_point.proofs.Bits.{over-within, within-over}
 use Rattle.circular_functions.proofs.TrigBound.{left-in}
-use Rattle.circular_functions.proofs.TrigCases.{either-le, wave-even, wave-odd, turned-far, turned-near, sin-inside, cos-inside}
+use Rattle.circular_functions.proofs.TrigCases.{wave-even, wave-odd, turned-far, turned-near, sin-inside, cos-inside}
 use Rattle.elementary_bounds.proofs.TrigKernel.{sine-close, cosine-close, sine-one, cosine-one}
 
 -- ---- the float by its sign and size

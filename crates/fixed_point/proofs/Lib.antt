@@ -1,6 +1,7 @@
 -- Laws that several proofs cite.
 pub mod Product
 pub mod Rest
+pub mod Choice
 pub mod Decode
 pub mod Bits
 pub mod Assemble

@@ -9,7 +9,7 @@ use lib.Dec.{T, ltb}
 use lib.IntN.{ℤ, pos, negsuc}
 use lib.Ieee.{Float, nan, inf, fin, up, down, ne, lt, isNan}
 use lib.Ieee.Scale.{finite}
-use Rattle.fixed_point.specs.Float.{Within}
+use Rattle.fixed_point.specs.Float.{Within, minusSign}
 use Rattle.fixed_point.specs.Fixed.{scaledOf}
 use Rattle.fixed_point.specs.Float.{one, minusOne, nought}
 
@@ -38,14 +38,13 @@ between a i b j Q (inf true) n h k A B = clash k
 between a i b j Q (fin false m e) n h k A B = widen (m * up e) (down e) (a * 2 ^ i) Q (plain (m * up e) a (2 ^ i) (down e) (ltb-false (a * 2 ^ i * down e) (m * up e * 1) h)) A
 between a i b j Q (fin true m e) n h k A B = widen (m * up e) (down e) (b * 2 ^ j) Q (plain (m * up e) b (2 ^ j) (down e) (ltb-false (b * 2 ^ j * down e) (m * up e * 1) k)) B
 
--- below -1, the test below is enough
-pub under : (b j : ℕ) (x : Float) → lt x (fin true 1 (pos 0)) ≡ true → lt x (fin true b (pos j)) ≡ false → Within x (b * 2 ^ j)
+-- with a minus sign, the test below is enough
+pub minus-within : (b j : ℕ) (x : Float) → T (finite x) → (minusSign x ≡ 0 → ⊥) → lt x (fin true b (pos j)) ≡ false → Within x (b * 2 ^ j)
 unfolding lt
-under b j nan n k = clash (sym n)
-under b j (inf false) n k = clash (sym n)
-under b j (inf true) n k = clash k
-under b j (fin false m e) n k = clash (sym n)
-under b j (fin true m e) n k = plain (m * up e) b (2 ^ j) (down e) (ltb-false (b * 2 ^ j * down e) (m * up e * 1) k)
+minus-within b j nan f n k = absurd f
+minus-within b j (inf s) f n k = absurd f
+minus-within b j (fin false m e) f n k = absurd (n refl)
+minus-within b j (fin true m e) f n k = plain (m * up e) b (2 ^ j) (down e) (ltb-false (b * 2 ^ j * down e) (m * up e * 1) k)
 
 pub within-finite : (x : Float) (Q : ℕ) → Within x Q → T (finite x)
 within-finite nan Q h = h

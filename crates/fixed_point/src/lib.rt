@@ -4,7 +4,7 @@ ghost use Prim.Native.Nat.{ℕ, _+_, _*_, _/_, _^_, _<_, _≤_};
 ghost use lib.Dec.{T};
 ghost use lib.Ieee.{Float, fin, binary64, isNan};
 ghost use lib.Ieee.Scale.{finite};
-ghost use Rattle.fixed_point.specs.Fixed.{highOf, scaledOf};
+ghost use Rattle.fixed_point.specs.Fixed.{highOf, scaledOf, chooseOf, offsetOf};
 
 // The upper half of a * b, for a and b below 2^63.
 pub fn high(a: u64, b: u64) -> u64
@@ -29,4 +29,26 @@ pub fn scaled(x: f64, k: u64) -> u64
         return (b % 4503599627370496 + 4503599627370496) * 2048 >> n;
     }
     0
+}
+
+// x where h is 0, and y elsewhere. A function this short becomes a conditional move; a branch would be mispredicted where
+// h is a sign or a parity.
+pub fn choose(h: u64, x: u64, y: u64) -> u64
+    ensures { λ r. ⌜ r ≡ chooseOf h x y ⌝ }
+{
+    if h == 0 {
+        return x;
+    }
+    y
+}
+
+// u + p where h is 0, and u - p elsewhere.
+pub fn offset(h: u64, u: u64, p: u64) -> u64
+    requires { ⌜ (u + p < 2 ^ 64) × ((h ≡ 0 → ⊥) → p ≤ u) ⌝ }
+    ensures { λ r. ⌜ r ≡ offsetOf h u p ⌝ }
+{
+    if h == 0 {
+        return u + p;
+    }
+    u - p
 }

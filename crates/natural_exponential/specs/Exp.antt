@@ -1,12 +1,12 @@
 -- exp as arithmetic on whole numbers.
 use Prim.Native.Nat.{ℕ, zero, suc, _+_, _-_, _*_, _/_, _%_, _^_}
-use mathlib.Core.Bool.{Bool, true, false, cond}
+use mathlib.Core.Bool.{true, false, cond}
 use mathlib.Core.List.{List, [], _∷_}
 use lib.ListN.{getD}
 use lib.IntN.{pos}
 use lib.Ieee.{Float, nan, inf, fin, binary64, round, lt, isNan}
-use Rattle.fixed_point.specs.Float.{one, minusOne, nought}
-use Rattle.fixed_point.specs.Fixed.{highOf, scaledOf, termOf}
+use Rattle.fixed_point.specs.Float.{over, minusSign, nought}
+use Rattle.fixed_point.specs.Fixed.{highOf, scaledOf, termOf, chooseOf, offsetOf}
 
 -- e ^ (i / 32 - 1) in units of 2 ^ -60, for i from 0 to 64
 unfoldable pub coarse : List ℕ
@@ -64,18 +64,22 @@ assembledOf v k = round binary64 false (v / 128 * 2 ^ k) (2 ^ 1074)
 abbrev pub timesOf : ℕ → ℕ
 timesOf m = m / 2 ^ 32 * 3098164009 / 2 ^ 52
 
--- e ^ m for m in units of 2 ^ -53: m less n times log 2, whose digits are 6243314768165359 and 6 / 32 more; 2 ^ n is left to the exponent
-abbrev pub risenOf : ℕ → ℕ → Float
-risenOf m n = assembledOf (kernelOf ((2 ^ 53 + m - n * 6243314768165359) * 32 - n * 6)) (1023 + n)
+-- m less n times log 2 for a plus sign, n times log 2 less m for a minus sign, and 1 more, in units of 2 ^ -53;
+-- the digits of log 2 are 6243314768165359 and 6 / 32 more
+abbrev pub gapOf : ℕ → ℕ → ℕ → ℕ
+gapOf s m n = 2 ^ 53 + chooseOf s m (n * 6243314768165359) - chooseOf s (n * 6243314768165359) m
 
--- e ^ -m
-abbrev pub fallenOf : ℕ → ℕ → Float
-fallenOf m n = assembledOf (kernelOf ((2 ^ 53 + n * 6243314768165359 - m) * 32 + n * 6)) (1023 - n)
+-- the same in units of 2 ^ -58, with the 6 / 32
+abbrev pub restOf : ℕ → ℕ → ℕ → ℕ
+restOf s m n = offsetOf (1 - s) (gapOf s m n * 32) (n * 6)
 
--- e ^ x for x from -1 to 1
-abbrev pub insideOf : Bool → ℕ → Float
-insideOf true m = assembledOf (kernelOf (2 ^ 58 - m)) 1023
-insideOf false m = assembledOf (kernelOf (2 ^ 58 + m)) 1023
+-- e ^ m, or e ^ -m, for m in units of 2 ^ -53: 2 ^ n, or 2 ^ -n, is left to the exponent
+abbrev pub reducedOf : ℕ → ℕ → Float
+reducedOf s m = assembledOf (kernelOf (restOf s m (timesOf m + s))) (offsetOf s 1023 (timesOf m + s))
+
+-- e ^ m, or e ^ -m, for m in units of 2 ^ -58, from 0 to 1
+abbrev pub insideOf : ℕ → ℕ → Float
+insideOf s m = assembledOf (kernelOf (offsetOf s (2 ^ 58) m)) 1023
 
 -- 709 and -708
 abbrev pub most : Float
@@ -89,6 +93,5 @@ expOf x =
     cond (isNan x) nan
     (cond (lt most x) (inf false)
     (cond (lt x least) nought
-    (cond (lt one x) (risenOf (scaledOf 53 x) (timesOf (scaledOf 53 x)))
-    (cond (lt x minusOne) (fallenOf (scaledOf 53 x) (timesOf (scaledOf 53 x) + 1))
-    (insideOf (lt x nought) (scaledOf 58 x))))))
+    (cond (over 1 x) (reducedOf (minusSign x) (scaledOf 53 x))
+    (insideOf (minusSign x) (scaledOf 58 x)))))

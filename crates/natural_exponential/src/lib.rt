@@ -1,5 +1,7 @@
 // exp on f64, by whole numbers alone.
+use fixed_point::choose;
 use fixed_point::high;
+use fixed_point::offset;
 use fixed_point::scaled;
 ghost use mathlib.Core.Path.{_≡_};
 ghost use Prim.Native.Nat.{ℕ, _+_, _*_, _/_, _^_, _<_, _≤_};
@@ -7,7 +9,7 @@ ghost use lib.Dec.{T};
 ghost use lib.ListN.{getD};
 ghost use lib.Ieee.{Float, fin, binary64, isNan};
 ghost use lib.Ieee.Scale.{finite};
-ghost use Rattle.natural_exponential.specs.Exp.{coarse, fine, growthOf, grownOf, kernelOf, assembledOf, timesOf, risenOf, fallenOf, insideOf, expOf};
+ghost use Rattle.natural_exponential.specs.Exp.{coarse, fine, growthOf, grownOf, kernelOf, assembledOf, reducedOf, expOf};
 
 // The tables are functions that match on the index: an array constant that is indexed by a variable is built on the
 // stack at each use, and a match becomes a table in read-only memory.
@@ -173,24 +175,16 @@ pub fn assembled(v: u64, k: u64) -> f64
     f * f64::from_bits(k * 4503599627370496)
 }
 
-// e^m for m in units of 2^-53.
-pub fn risen(m: u64) -> f64
-    requires { ⌜ m ≤ 709 * 2 ^ 53 ⌝ }
-    ensures { λ r. ⌜ r ≡ risenOf m (timesOf m) ⌝ }
+// e^m for a plus sign and e^-m for a minus sign, for m in units of 2^-53.
+pub fn reduced(s: u64, m: u64) -> f64
+    requires { ⌜ (s ≤ 1) × (m ≤ 709 * 2 ^ 53) × ((s ≡ 0 → ⊥) → m ≤ 708 * 2 ^ 53) ⌝ }
+    ensures { λ r. ⌜ r ≡ reducedOf s m ⌝ }
 {
-    let n = m / 4294967296 * 3098164009 / 4503599627370496;
-    let t = (9007199254740992 + m - n * 6243314768165359) * 32 - n * 6;
-    assembled(kernel(t), 1023 + n)
-}
-
-// e^-m for m in units of 2^-53.
-pub fn fallen(m: u64) -> f64
-    requires { ⌜ m ≤ 708 * 2 ^ 53 ⌝ }
-    ensures { λ r. ⌜ r ≡ fallenOf m (timesOf m + 1) ⌝ }
-{
-    let n = m / 4294967296 * 3098164009 / 4503599627370496 + 1;
-    let t = (9007199254740992 + n * 6243314768165359 - m) * 32 + n * 6;
-    assembled(kernel(t), 1023 - n)
+    let n = m / 4294967296 * 3098164009 / 4503599627370496 + s;
+    let u = n * 6243314768165359;
+    let d = 9007199254740992 + choose(s, m, u) - choose(s, u, m);
+    let t = offset(1 - s, d * 32, n * 6);
+    assembled(kernel(t), offset(s, 1023, n))
 }
 
 pub fn exp(x: f64) -> f64
@@ -205,15 +199,10 @@ pub fn exp(x: f64) -> f64
     if x < -708.0 {
         return 0.0;
     }
-    if x > 1.0 {
-        return risen(scaled(x, 53));
+    let b = f64::to_bits(x);
+    let s = b / 9223372036854775808;
+    if 4607182418800017408 < b % 9223372036854775808 {
+        return reduced(s, scaled(x, 53));
     }
-    if x < -1.0 {
-        return fallen(scaled(x, 53));
-    }
-    let m = scaled(x, 58);
-    if x < 0.0 {
-        return assembled(kernel(288230376151711744 - m), 1023);
-    }
-    assembled(kernel(288230376151711744 + m), 1023)
+    assembled(kernel(offset(s, 288230376151711744, scaled(x, 58))), 1023)
 }

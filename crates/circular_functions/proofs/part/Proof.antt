@@ -11,7 +11,8 @@ use lib.ListN.{getD}
 use Rattle.circular_functions.specs.Trig.{arcOf, sagOf, acrossOf, droppedOf}
 use Rattle.circular_tables.specs.Tables.{sines, cosines}
 use Rattle.circular_functions.proofs.TrigBound.{sines-le, cosines-le, cosines-ge}
-use Rattle.circular_functions.proofs.TrigCases.{either-le, part-is, part-some, part-le}
+use Rattle.circular_functions.proofs.TrigCases.{part-is, part-some, part-le}
+use Rattle.fixed_point.proofs.Choice.{either-le}
 use Rattle.circular_functions.proofs.part.Statement.{statement}
 use Rattle.circular_functions.proofs.part.Tie as tie
 
@@ -59,10 +60,10 @@ arc-requires c κs = search needs
 across-requires : tie.Need-across-requires
 across-requires c κs = (w-le (c .before), c .arc .ensures .1)
 
-moved-requires : tie.Need-moved-requires
-moved-requires c κs =
+offset-requires : tie.Need-offset-requires
+offset-requires c κs =
     let u = c .before .before .before in
-    (u-le u, c .across .ensures .1, λ h. le-trans (c .across .ensures .1) (le-trans (lit≤ {m = 2 ^ 51} {n = 2 ^ 57} tt) (u-ge u h)))
+    (omega (arith, u-le u, c .across .ensures .1), λ h. le-trans (c .across .ensures .1) (le-trans (lit≤ {m = 2 ^ 51} {n = 2 ^ 57} tt) (u-ge u h)))
 
 sag-requires : tie.Need-sag-requires
 sag-requires c κs = search needs
@@ -76,7 +77,7 @@ sub-result c =
     let u = m .before .before .before .before in
     let s = u .before .before .before in
     let h = s .args .h in
-    subst (λ (n : ℕ). c .dropped .result ≤ n) (sym (m .moved .ensures))
+    subst (λ (n : ℕ). c .dropped .result ≤ n) (sym (m .offset .ensures))
     (part-some (eqb h 0) (u .choose .result) (m .before .across .result) (c .dropped .result) (c .dropped .ensures .1) (c .dropped .ensures .2) (m .before .across .ensures .1) (λ e. u-ge u (λ z. clash (sym (eq-eqb h 0 z) ∙ e))))
 
 returns : tie.Need-returns
@@ -97,8 +98,8 @@ returns c =
     let moves : p ≡ acrossOf (w .choose2 .result) (arcOf d) = cc in
     let drops : e ≡ droppedOf (u .choose .result) (sagOf d) = cc in
     let is = part-is b S C d (u .choose .result) (w .choose2 .result) p e first other moves drops in (
-      ap (λ (n : ℕ). n - e) (m .moved .ensures) ∙ is,
-      subst (λ (n : ℕ). n - e ≤ 2 ^ 59) (sym (m .moved .ensures)) (part-le b (u .choose .result) p e (u-le u) (m .before .across .ensures .1)),
+      ap (λ (n : ℕ). n - e) (m .offset .ensures) ∙ is,
+      subst (λ (n : ℕ). n - e ≤ 2 ^ 59) (sym (m .offset .ensures)) (part-le b (u .choose .result) p e (u-le u) (m .before .across .ensures .1)),
     )
 
 pub part-spec : {M : Type 1} → statement M
@@ -111,7 +112,7 @@ part-spec =
     choose-requires-2
     arc-requires
     across-requires
-    moved-requires
+    offset-requires
     sag-requires
     dropped-requires
     sub-result
