@@ -13,8 +13,8 @@ extern "C" {
 }
 
 const COUNT: usize = 4096;
-const ROUNDS: usize = 200;
-const REPEATS: usize = 7;
+const ROUNDS: usize = 4;
+const REPEATS: usize = 200;
 
 struct Random(u64);
 
@@ -31,43 +31,41 @@ impl Random {
     }
 }
 
-// The best of several repeats, in nanoseconds per call.
 fn throughput<F: Fn(f64) -> f64>(f: F, xs: &[f64]) -> f64 {
-    let mut best = f64::MAX;
-    for _ in 0..REPEATS {
-        let start = Instant::now();
-        for _ in 0..ROUNDS {
-            let mut sum = 0.0;
-            for &x in xs {
-                sum += f(x);
-            }
-            black_box(sum);
+    let start = Instant::now();
+    for _ in 0..ROUNDS {
+        let mut sum = 0.0;
+        for &x in xs {
+            sum += f(x);
         }
-        best = best.min(start.elapsed().as_nanos() as f64 / (ROUNDS * xs.len()) as f64);
+        black_box(sum);
     }
-    best
+    start.elapsed().as_nanos() as f64 / (ROUNDS * xs.len()) as f64
 }
 
 fn latency<F: Fn(f64) -> f64>(f: F, xs: &[f64]) -> f64 {
-    let mut best = f64::MAX;
     let none = black_box(0u64);
-    for _ in 0..REPEATS {
-        let start = Instant::now();
-        let mut last = 0.0f64;
-        for _ in 0..ROUNDS {
-            for &x in xs {
-                last = f(f64::from_bits(x.to_bits() | (last.to_bits() & none)));
-            }
+    let start = Instant::now();
+    let mut last = 0.0f64;
+    for _ in 0..ROUNDS {
+        for &x in xs {
+            last = f(f64::from_bits(x.to_bits() | (last.to_bits() & none)));
         }
-        black_box(last);
-        best = best.min(start.elapsed().as_nanos() as f64 / (ROUNDS * xs.len()) as f64);
     }
-    best
+    black_box(last);
+    start.elapsed().as_nanos() as f64 / (ROUNDS * xs.len()) as f64
 }
 
+// The best of many short repeats, ours and theirs in turn, so that another program's load falls on both.
 fn line<F: Fn(f64) -> f64, G: Fn(f64) -> f64>(name: &str, ours: F, theirs: G, xs: &[f64]) {
-    let (a, b) = (throughput(&ours, xs), throughput(&theirs, xs));
-    let (c, d) = (latency(&ours, xs), latency(&theirs, xs));
+    let mut best = [f64::MAX; 4];
+    for _ in 0..REPEATS {
+        let now = [throughput(&ours, xs), throughput(&theirs, xs), latency(&ours, xs), latency(&theirs, xs)];
+        for k in 0..4 {
+            best[k] = best[k].min(now[k]);
+        }
+    }
+    let [a, b, c, d] = best;
     println!("| {name} | {a:.1} | {b:.1} | {:.2} | {c:.1} | {d:.1} | {:.2} |", a / b, c / d);
 }
 

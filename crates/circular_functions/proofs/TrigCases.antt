@@ -6,36 +6,14 @@ use native.Mathlib.Omega.{arith}
 use native.Mathlib.Nat.{mod-lt, not-suc-le-zero, le-of-suc-le-suc}
 use borrow.Author.Tests.{lt-ltb, le-ltb, eq-eqb, ne-eqb, le-leb, lt-leb}
 use lib.Dec.{T, leb, ltb, eqb, lit<}
-use lib.IntN.{ℤ, pos, negsuc}
-use lib.Ieee.{Format, Float, nan, inf, fin, binary64, up, down, neg, mul, odd, units, round, size, prec, low, emax, nanBits, ofBits, ofInt}
-use lib.Count.{trailingZeros}
-use Rattle.fixed_point.specs.Fixed.{scaledOf}
+use lib.IntN.{pos, negsuc}
+use lib.Ieee.{Float, nan, binary64, neg, mul, round, nanBits, ofBits, ofInt}
+use Rattle.fixed_point.specs.Fixed.{scaledOf, apartOf}
 use Rattle.fixed_point.specs.Float.{over, minusSign, nought}
 use Rattle.fixed_point.proofs.Assemble.{fraction-is}
-use Rattle.circular_functions.specs.Trig.{arcOf, sagOf, acrossOf, droppedOf, sineFrom, cosineFrom, sineOf, cosineOf, signedOf, distanceOf, quarterOf, waveOf, farOf, turnedOf, sinOf, cosOf}
-
--- ---- the negative of a rounded number is the negative number rounded
-
-neg-cond : (b : Bool) (x y x' y' : Float) → neg x ≡ x' → neg y ≡ y' → neg (cond b x y) ≡ cond b x' y'
-neg-cond true x y x' y' e f = e
-neg-cond false x y x' y' e f = f
-
-neg-odd : (d q k l : ℕ) → neg (odd d false q k l) ≡ odd d true q k l
-unfolding neg odd
-neg-odd d zero k l = refl
-neg-odd d (suc q) k l = refl
-
-neg-inf : neg (inf false) ≡ inf true
-unfolding neg
-neg-inf = refl
-
-neg-units : (f : Format) (q k : ℕ) → neg (units f false q k) ≡ units f true q k
-unfolding units
-neg-units f q k = neg-cond (ltb (q * 2 ^ k) (2 ^ (low f + suc (emax f)))) (odd (suc (prec f)) false q k (low f)) (inf false) (odd (suc (prec f)) true q k (low f)) (inf true) (neg-odd (suc (prec f)) q k (low f)) neg-inf
-
-pub neg-round : (f : Format) (a b : ℕ) → neg (round f false a b) ≡ round f true a b
-unfolding round
-neg-round f a b = neg-units f _ _
+use Rattle.fixed_point.proofs.Choice.{either-le}
+use Rattle.fixed_point.proofs.Negative.{neg-round, mul-minus}
+use Rattle.circular_functions.specs.Trig.{arcOf, sagOf, acrossOf, droppedOf, sineFrom, cosineFrom, sineOf, cosineOf, signedOf, quarterOf, waveOf, farOf, turnedOf, sinOf, cosOf}
 
 -- ---- the sign
 
@@ -47,23 +25,6 @@ signed-plus n q h k = simp (ne-eqb q 0 h, lt-leb 2 (n % 4) k)
 
 pub signed-minus : (n q : ℕ) → (q ≡ 0 → ⊥) → 2 ≤ n % 4 → signedOf n q ≡ round binary64 true q (2 ^ 51)
 signed-minus n q h k = simp (ne-eqb q 0 h, le-leb 2 (n % 4) k)
-
-neg-neg : (x : Float) → neg (neg x) ≡ x
-unfolding neg
-neg-neg nan = refl
-neg-neg (inf true) = refl
-neg-neg (inf false) = refl
-neg-neg (fin true m e) = refl
-neg-neg (fin false m e) = refl
-
--- a product with the negative of a power of two
-mul-minus : (x : Float) (e : ℤ) → mul binary64 x (fin true 1 e) ≡ neg (mul binary64 x (fin false 1 e))
-unfolding mul neg
-mul-minus nan e = refl
-mul-minus (inf true) e = refl
-mul-minus (inf false) e = refl
-mul-minus (fin true m i) e = sym (ap neg (sym (neg-round binary64 (m * up i * (1 * up e)) (down i * down e))) ∙ neg-neg (round binary64 false (m * up i * (1 * up e)) (down i * down e)))
-mul-minus (fin false m i) e = sym (neg-round binary64 (m * up i * (1 * up e)) (down i * down e))
 
 -- 2 ^ -51 with the sign bit s
 abbrev pub factor : ℕ → ℕ
@@ -116,12 +77,11 @@ part-is false S C d u w p e f g i j = cc
 
 -- ---- the quarters
 
-module _ (t : ℕ) where
-  pub distance-below : t < 2 ^ 58 → distanceOf t ≡ 2 ^ 58 - t
-  distance-below h = simp (lt-ltb t (2 ^ 58) h)
-
-  pub distance-above : 2 ^ 58 ≤ t → distanceOf t ≡ t - 2 ^ 58
-  distance-above h = simp (le-ltb t (2 ^ 58) h)
+pub rest-one : (t : ℕ) → t ≤ 2 ^ 59 → apartOf t (2 ^ 58) ≤ 2 ^ 58
+rest-one t h =
+    let a : 2 ^ 58 - t ≤ 2 ^ 58 = omega arith in
+    let b : t - 2 ^ 58 ≤ 2 ^ 58 = omega arith in
+    either-le (ltb t (2 ^ 58)) a b
 
 module _ (n t : ℕ) where
   pub quarter-low-even : t < 2 ^ 58 → n % 2 ≡ 0 → quarterOf n t ≡ n + 2

@@ -5,7 +5,7 @@ use lib.ListN.{getD}
 use lib.Dec.{leb, ltb, eqb}
 use lib.Ieee.{Float, nan, binary64, round}
 use Rattle.circular_tables.specs.Tables.{sines, cosines}
-use Rattle.fixed_point.specs.Fixed.{scaledOf}
+use Rattle.fixed_point.specs.Fixed.{scaledOf, apartOf}
 use Rattle.fixed_point.specs.Float.{over, minusSign, nought}
 
 -- d ^ 2 in units of 2 ^ -48, for s = d * 2 ^ 40
@@ -61,17 +61,13 @@ signOf s (suc q) = s
 abbrev pub signedOf : ℕ → ℕ → Float
 signedOf n q = cond (eqb q 0) nought (round binary64 (leb 2 (n % 4)) q (2 ^ 51))
 
--- |t - 1| for t in units of 2 ^ -58
-abbrev pub distanceOf : ℕ → ℕ
-distanceOf t = cond (ltb t (2 ^ 58)) (2 ^ 58 - t) (t - 2 ^ 58)
-
 -- the quarter that decides the sign: a sine below 0 has a half turn more
 abbrev pub quarterOf : ℕ → ℕ → ℕ
 quarterOf n t = cond (ltb t (2 ^ 58)) (cond (eqb (n % 2) 0) (n + 2) n) n
 
 -- the sine of n quarter turns and t - 1, for t in units of 2 ^ -58, from 0 to 2
 abbrev pub waveOf : ℕ → ℕ → Float
-waveOf n t = signedOf (quarterOf n t) (partOf (n % 2) (distanceOf t) / 128)
+waveOf n t = signedOf (quarterOf n t) (partOf (n % 2) (apartOf t (2 ^ 58)) / 128)
 
 -- how many quarter turns are nearest to m, in units of 2 ^ -46
 abbrev pub quartersOf : ℕ → ℕ

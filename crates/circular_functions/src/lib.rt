@@ -2,6 +2,7 @@
 // entry there is moved on by a short series.
 use circular_tables::cosine_at;
 use circular_tables::sine_at;
+use fixed_point::apart;
 use fixed_point::choose;
 use fixed_point::offset;
 use fixed_point::scaled;
@@ -9,7 +10,7 @@ ghost use mathlib.Core.Path.{_≡_};
 ghost use Prim.Native.Nat.{ℕ, _+_, _-_, _*_, _/_, _^_, _<_, _≤_};
 ghost use lib.Ieee.{Float, fin, binary64, isNan};
 ghost use Rattle.fixed_point.specs.Float.{Within};
-ghost use Rattle.circular_functions.specs.Trig.{arcOf, sagOf, acrossOf, droppedOf, partOf, signedOf, distanceOf, quarterOf, waveOf, farOf, turnedOf, sinOf, cosOf};
+ghost use Rattle.circular_functions.specs.Trig.{arcOf, sagOf, acrossOf, droppedOf, partOf, signedOf, quarterOf, waveOf, farOf, turnedOf, sinOf, cosOf};
 
 // sin d in units of 2^-50, for d in units of 2^-58, below 2^50: d - d^3/6.
 pub fn arc(d: u64) -> u64
@@ -74,17 +75,6 @@ pub fn signed(n: u64, v: u64) -> f64
     (q as f64) * f64::from_bits(4377498837804122112 + n % 4 / 2 * 9223372036854775808)
 }
 
-// |t - 1| for t in units of 2^-58, from 0 to 2.
-pub fn distance(t: u64) -> u64
-    requires { ⌜ t ≤ 2 ^ 59 ⌝ }
-    ensures { λ r. ⌜ (r ≡ distanceOf t) × (r ≤ 2 ^ 58) ⌝ }
-{
-    if t < 288230376151711744 {
-        return 288230376151711744 - t;
-    }
-    t - 288230376151711744
-}
-
 // The quarter that decides the sign.
 pub fn quarter(n: u64, t: u64) -> u64
     requires { ⌜ n ≤ 2 ^ 32 ⌝ }
@@ -103,7 +93,7 @@ pub fn wave(n: u64, t: u64) -> f64
     requires { ⌜ (n ≤ 2 ^ 32) × (t ≤ 2 ^ 59) ⌝ }
     ensures { λ r. ⌜ r ≡ waveOf n t ⌝ }
 {
-    signed(quarter(n, t), part(n % 2, distance(t)))
+    signed(quarter(n, t), part(n % 2, apart(t, 288230376151711744)))
 }
 
 // The sine of k quarter turns and m, for m in units of 2^-46.

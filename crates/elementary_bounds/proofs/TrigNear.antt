@@ -12,15 +12,15 @@ use lib.Ieee.Exact.{HasValue, round-exact}
 use lib.Ieee.Fits.{down-pos}
 use borrow.Author.Tests.{ne-eqb}
 use Rattle.elementary_bounds.specs.Series.{sinAdding, sinTaking, cosAdding, cosTaking, Near}
-use Rattle.fixed_point.specs.Fixed.{scaledOf}
+use Rattle.fixed_point.specs.Fixed.{scaledOf, apartOf}
 use Rattle.fixed_point.specs.Float.{Within, over, digit, minusSign, nought}
-use Rattle.circular_functions.specs.Trig.{sineOf, cosineOf, partOf, signOf, signedOf, distanceOf, quarterOf, waveOf, quartersOf, leftOf, farOf, turnedOf, sinOf, cosOf}
+use Rattle.circular_functions.specs.Trig.{sineOf, cosineOf, partOf, signOf, signedOf, quarterOf, waveOf, quartersOf, leftOf, farOf, turnedOf, sinOf, cosOf}
 use Rattle.elementary_bounds.proofs.Nearness.{Kernel, near-exact}
 use Rattle.fixed_point.proofs.Choice.{either-le}
 use Rattle.fixed_point.proofs.Range.{within-scaled}
 use Rattle.fixed_point.proofs.Bits.{over-within, within-over}
 use Rattle.circular_functions.proofs.TrigBound.{left-in}
-use Rattle.circular_functions.proofs.TrigCases.{wave-even, wave-odd, turned-far, turned-near, sin-inside, cos-inside}
+use Rattle.circular_functions.proofs.TrigCases.{rest-one, wave-even, wave-odd, turned-far, turned-near, sin-inside, cos-inside}
 use Rattle.elementary_bounds.proofs.TrigKernel.{sine-close, cosine-close, sine-one, cosine-one}
 
 -- ---- the float by its sign and size
@@ -145,17 +145,8 @@ signed-within n v h = value-within (signedOf n (v / 128)) (signOf (leb 2 (n % 4)
 part-one : (h r : ℕ) → r ≤ 2 ^ 58 → partOf h r ≤ 2 ^ 58
 part-one h r l = either-le (eqb h 0) (sine-one r l) (cosine-one r l)
 
-distance-one : (t : ℕ) → t ≤ 2 ^ 59 → distanceOf t ≤ 2 ^ 58
-distance-one t h = either-le (ltb t (2 ^ 58)) (down-in t) (up-in t h)
-  where
-    down-in : (t : ℕ) → 2 ^ 58 - t ≤ 2 ^ 58
-    down-in t = omega arith
-
-    up-in : (t : ℕ) → t ≤ 2 ^ 59 → t - 2 ^ 58 ≤ 2 ^ 58
-    up-in t h = omega arith
-
 wave-within : (n t : ℕ) → t ≤ 2 ^ 59 → Within (waveOf n t) 1
-wave-within n t h = signed-within (quarterOf n t) (partOf (n % 2) (distanceOf t)) (part-one (n % 2) (distanceOf t) (distance-one t h))
+wave-within n t h = signed-within (quarterOf n t) (partOf (n % 2) (apartOf t (2 ^ 58))) (part-one (n % 2) (apartOf t (2 ^ 58)) (rest-one t h))
 
 turned-within : (x : Float) (k : ℕ) → Within x 65536 → Within (turnedOf x k) 1
 turned-within x k h = go (over 1 x) refl

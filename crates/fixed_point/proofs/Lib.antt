@@ -7,3 +7,4 @@ pub mod Bits
 pub mod Assemble
 pub mod Table
 pub mod Range
+pub mod Negative

@@ -1,7 +1,7 @@
 -- Whole numbers made from floats, and products of them, as contracts say them.
 use Prim.Native.Nat.{ℕ, _+_, _-_, _*_, _/_, _^_}
 use mathlib.Core.Bool.{cond}
-use lib.Dec.{eqb}
+use lib.Dec.{eqb, ltb}
 use lib.Ieee.{Float, nan, inf, fin, up, down}
 
 -- the upper half of a product of 128 bits
@@ -25,3 +25,7 @@ chooseOf h x y = cond (eqb h 0) x y
 -- u + p where h is 0, and u - p elsewhere
 abbrev pub offsetOf : ℕ → ℕ → ℕ → ℕ
 offsetOf h u p = chooseOf h (u + p) (u - p)
+
+-- |p - n|
+abbrev pub apartOf : ℕ → ℕ → ℕ
+apartOf p n = cond (ltb p n) (n - p) (p - n)

@@ -3,7 +3,7 @@ use Prim.Native.Nat.{ℕ, zero, suc, _+_, _-_, _*_, _/_, _%_, _^_}
 use mathlib.Core.Bool.{Bool, true, false, cond}
 use mathlib.Core.List.{List, [], _∷_}
 use lib.ListN.{getD}
-use lib.Dec.{leb, ltb, eqb}
+use lib.Dec.{ltb}
 use lib.IntN.{pos, negsuc}
 use lib.Ieee.{Float, nan, inf, fin, binary64, ofInt, toBits, mul, neg, lt, eq, isNan}
 use Rattle.fixed_point.specs.Fixed.{termOf}
@@ -69,7 +69,7 @@ abbrev pub fractionOf : ℕ → Float
 fractionOf d = mul binary64 (ofInt binary64 (pos d)) (fin false 1 (negsuc 52))
 
 abbrev pub differenceOf : ℕ → ℕ → Float
-differenceOf p n = cond (leb n p) (fractionOf (p - n)) (neg (fractionOf (n - p)))
+differenceOf p n = cond (ltb p n) (neg (fractionOf (n - p))) (fractionOf (p - n))
 
 -- by how much y times its reciprocal r falls short of 1, for y in units of 2 ^ -52 and r in units of 2 ^ -10; in units of 2 ^ -58
 abbrev pub shortOf : ℕ → ℕ → ℕ
@@ -79,11 +79,9 @@ shortOf t r = (2 ^ 62 - (t + 2 ^ 52) * r) / 16
 abbrev pub withinOf : ℕ → ℕ
 withinOf t = (getD logarithms (t / 2 ^ 45) 0 + 2 ^ 58 - slipOf (shortOf t (getD reciprocals (t / 2 ^ 45) 0))) / 32
 
--- the logarithm of (1 + t / 2 ^ 52) * 2 ^ (e - 1023); log 2 is 6243314768165359 / 2 ^ 53
+-- the logarithm of (1 + t / 2 ^ 52) * 2 ^ (e - 1023), by e times log 2 and 1023 times log 2; log 2 is 6243314768165359 / 2 ^ 53
 abbrev pub digitsOf : ℕ → ℕ → Float
-digitsOf e t =
-    cond (ltb e 1023) (differenceOf (withinOf t) ((1023 - e) * 6243314768165359 + 2 ^ 53))
-    (differenceOf ((e - 1023) * 6243314768165359 + withinOf t) (2 ^ 53))
+digitsOf e t = differenceOf (e * 6243314768165359 + withinOf t) (1023 * 6243314768165359 + 2 ^ 53)
 
 unfoldable pub logOf : Float → Float
 logOf x =

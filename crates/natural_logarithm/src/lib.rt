@@ -1,5 +1,7 @@
 // log on f64, by whole numbers alone. The digits are multiplied by a short reciprocal from a table, which leaves a number
 // little below 1, and a short series gives its logarithm.
+use fixed_point::apart;
+use fixed_point::below;
 use std::num::nearest_u64_to_f64;
 ghost use mathlib.Core.Path.{_≡_};
 ghost use mathlib.Core.Bool.{not};
@@ -178,14 +180,14 @@ pub fn slip(z: u64) -> u64
     z + q * lean(s) / 1048576
 }
 
-// (p - n) / 2^53 as a float.
+// (p - n) / 2^53 as a float. The remainder changes nothing: it tells the compiler that the number has no sign bit.
 pub fn difference(p: u64, n: u64) -> f64
+    requires { ⌜ (p < n + 2 ^ 63) × (n < 2 ^ 63) ⌝ }
     ensures { λ r. ⌜ r ≡ differenceOf p n ⌝ }
 {
-    if n <= p {
-        return nearest_u64_to_f64(p - n) * f64::from_bits(4368491638549381120);
-    }
-    -(nearest_u64_to_f64(n - p) * f64::from_bits(4368491638549381120))
+    let d = apart(p, n) % 9223372036854775808;
+    let s = below(p, n);
+    nearest_u64_to_f64(d) * f64::from_bits(4368491638549381120 + s * 9223372036854775808)
 }
 
 // The logarithm of (1 + t / 2^52) * 2^(e - 1023).
@@ -196,10 +198,7 @@ pub fn digits(e: u64, t: u64) -> f64
     let i = t / 35184372088832;
     let z = (4611686018427387904 - (t + 4503599627370496) * reciprocal_at(i)) / 16;
     let w = (logarithm_at(i) + 288230376151711744 - slip(z)) / 32;
-    if e < 1023 {
-        return difference(w, (1023 - e) * 6243314768165359 + 9007199254740992);
-    }
-    difference((e - 1023) * 6243314768165359 + w, 9007199254740992)
+    difference(e * 6243314768165359 + w, 6395918207087903249)
 }
 
 pub fn log(x: f64) -> f64

@@ -1,17 +1,19 @@
 -- `circular_functions::wave` meets its contract. Assumes nothing.
-use mathlib.Core.Path.{_≡_}
+use mathlib.Core.Path.{_≡_, sym, subst}
+use Prim.Native.Nat.{ℕ, _^_, _≤_}
 use borrow.Author.Needs.{needs}
+use Rattle.circular_functions.proofs.TrigCases.{rest-one}
 use Rattle.circular_functions.proofs.wave.Statement.{statement}
 use Rattle.circular_functions.proofs.wave.Tie as tie
 
 quarter-requires : tie.Need-quarter-requires
 quarter-requires c κs = search needs
 
-distance-requires : tie.Need-distance-requires
-distance-requires c κs = search needs
+apart-requires : tie.Need-apart-requires
+apart-requires c κs = search needs
 
 part-requires : tie.Need-part-requires
-part-requires c κs = search needs
+part-requires c κs = subst (λ (r : ℕ). r ≤ 2 ^ 58) (sym (c .apart .ensures)) (rest-one (c .before .before .args .t) (c .before .before .pre .1))
 
 signed-requires : tie.Need-signed-requires
 signed-requires c κs = search needs
@@ -21,4 +23,4 @@ returns c = cc
 
 pub wave-spec : {M : Type 1} → statement M
 wave-spec =
-    tie.close (tie.spec quarter-requires distance-requires part-requires signed-requires returns)
+    tie.close (tie.spec quarter-requires apart-requires part-requires signed-requires returns)

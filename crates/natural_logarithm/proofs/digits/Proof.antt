@@ -7,7 +7,6 @@ use lib.ListN.{getD}
 use Rattle.natural_logarithm.specs.Log.{reciprocals, shortOf}
 use Rattle.fixed_point.proofs.Product.{below-mul}
 use Rattle.natural_logarithm.proofs.LogBound.{reciprocals-le, logarithms-le, short-some, short-le}
-use Rattle.natural_logarithm.proofs.LogCases.{digits-below, digits-above}
 use Rattle.natural_logarithm.proofs.digits.Statement.{statement}
 use Rattle.natural_logarithm.proofs.digits.Tie as tie
 
@@ -49,59 +48,24 @@ slip-requires c κs = left-le (c .before)
 sub-w : tie.Need-sub-w
 sub-w c = omega (arith, c .slip .ensures .1)
 
-sub-difference : tie.Need-sub-difference
-sub-difference c = search needs
+-- less than 1 and log 2, and 1 more
+w-lt : (c : tie.After-slip) → (c .before .logarithm-at .result + 2 ^ 58 - c .slip .result) / 32 ≤ 2 ^ 54
+w-lt c = cut (c .before .logarithm-at .result) (c .slip .result) (entry-le (c .before))
+  where
+    cut : (a s : ℕ) → a ≤ 2 ^ 58 → (a + 2 ^ 58 - s) / 32 ≤ 2 ^ 54
+    cut a s h = omega arith
 
 mul-difference : tie.Need-mul-difference
 mul-difference c = search needs
 
 add-difference : tie.Need-add-difference
-add-difference c = search needs
+add-difference c = omega (arith, w-lt c)
 
 difference-requires : tie.Need-difference-requires
-difference-requires c κs = search needs
+difference-requires c κs = (omega (arith, w-lt c, c .before .before .before .pre .0), omega arith)
 
 returns : tie.Need-returns
-returns c =
-    let b = c .before in
-    let s = b .before .before .before .before in
-    let e = digits-below (s .args .e) (s .args .t) (b .if1 .taken) in
-    cc e
-
-mul-difference-2 : tie.Need-mul-difference-2
-mul-difference-2 c = search needs
-
-add-difference-2 : tie.Need-add-difference-2
-add-difference-2 c = search needs
-
-difference-requires-2 : tie.Need-difference-requires-2
-difference-requires-2 c κs = search needs
-
-returns-2 : tie.Need-returns-2
-returns-2 c =
-    let b = c .before in
-    let s = b .before .before .before .before in
-    let e = digits-above (s .args .e) (s .args .t) (b .if1 .left) in
-    cc e
+returns c = cc
 
 pub digits-spec : {M : Type 1} → statement M
-digits-spec =
-    tie.close
-    (tie.spec
-    add-z
-    reciprocal-at-requires
-    mul-z
-    sub-z
-    logarithm-at-requires
-    add-w
-    slip-requires
-    sub-w
-    sub-difference
-    mul-difference
-    add-difference
-    difference-requires
-    returns
-    mul-difference-2
-    add-difference-2
-    difference-requires-2
-    returns-2)
+digits-spec = tie.close (tie.spec add-z reciprocal-at-requires mul-z sub-z logarithm-at-requires add-w slip-requires sub-w mul-difference add-difference difference-requires returns)
