@@ -5,7 +5,6 @@ pub mod ExpKernel
 pub mod Homogeneous
 pub mod Nearness
 pub mod ExpNear
-pub mod ExpValues
 pub mod LogSeries
 pub mod LogKernel
 pub mod LogSum
@@ -15,4 +14,4 @@ pub mod LogValues
 pub mod TrigSeries
 pub mod TrigKernel
 pub mod TrigNear
-pub mod TrigValues
+pub mod Proved

@@ -17,6 +17,7 @@ use Rattle.natural_logarithm.specs.Log.{withinOf, differenceOf, digitsOf, logOf
 use Rattle.fixed_point.proofs.Decode.{lead, field, digits, value}
 use Rattle.elementary_bounds.proofs.Homogeneous.{mul-pow}
 use Rattle.fixed_point.proofs.Range.{not-negative}
+use Rattle.natural_logarithm.proofs.LogBound.{within-ge, within-le}
 use Rattle.natural_logarithm.proofs.LogCases.{digits-above, digits-below, log-digits}
 use Rattle.elementary_bounds.proofs.LogSum.{series-scaled, near-scaled}
 use Rattle.elementary_bounds.proofs.LogNear.{near-above, near-below}
@@ -37,6 +38,10 @@ near-raised p n a b m x =
 
     low : (M S B S' B' : ℕ) → S' ≡ M * S → B' ≡ B * M → p * (166966608033225 * B) ≤ 2 ^ 53 * S + (n + 512) * (166966608033225 * B) → p * (166966608033225 * B') ≤ 2 ^ 53 * S' + (n + 512) * (166966608033225 * B')
     low M S B S' B' e f h = omega (arith, ap (λ (z : ℕ). n * z) f, ap (λ (z : ℕ). p * z) f, mul-le-mul-left M h)
+
+-- the logarithm of the digits and 1 more, in units of 2 ^ -53
+abbrev pub Bounded : ℕ → Type 0
+Bounded w = (8929000000000000 ≤ w) × (w ≤ 15300000000000000)
 
 -- ---- the exponent
 
@@ -103,12 +108,13 @@ module _ (m : ℕ) (e : ℤ) (fx : T (fits binary64 (fin false m e))) where
       wide n P E h k = omega (arith, mul-le-mul-left n k)
 
   -- For x from 1 to 2, 1 left out and 2 too, log x is (w - 2 ^ 53) / 2 ^ 53, near the series at (x - 1) / (x + 1)
-  pub log-near-above : eq x one ≡ false → E ≤ n → n < 2 * E → (w : ℕ) × (logOf x ≡ differenceOf w (2 ^ 53)) × NearLog w (2 ^ 53) (n - E) (n + E)
+  pub log-near-above : eq x one ≡ false → E ≤ n → n < 2 * E → (w : ℕ) × Bounded w × (logOf x ≡ differenceOf w (2 ^ 53)) × NearLog w (2 ^ 53) (n - E) (n + E)
   log-near-above d h k =
       let g = field-is 1022 (from n E (2 ^ 1074) h) (to n E (2 ^ 1074) (pow-pos 1074) k) in
       let v = value x fx tt ∙ ap (λ (z : ℕ). lead z t * E) g in
       let c = cancel n t E (2 ^ 1022) (pow-pos 1022) v in (
         withinOf t,
+        (within-ge t t-lt, within-le t t-lt),
         digits-is (double n E h) d ∙ ap (λ (z : ℕ). digitsOf z t) g ∙ digits-above 1023 t (leb→le 1023 1023 tt) ∙ ap (λ (z : ℕ). differenceOf z (2 ^ 53)) (zero-add (withinOf t)),
         near-scaled (withinOf t) (2 ^ 53) (n - E) (n + E) (2 ^ 52) (pow-pos 52)
             (subst (λ (a : ℕ). NearLog (withinOf t) (2 ^ 53) a ((n + E) * 2 ^ 52)) (top n t E h c)
@@ -134,12 +140,13 @@ module _ (m : ℕ) (e : ℤ) (fx : T (fits binary64 (fin false m e))) where
       bottom n t E c = omega arith
 
   -- For x from 1 / 2 to 1, 1 left out, log x is (w - p) / 2 ^ 53, where p - w is near the series at (1 - x) / (1 + x)
-  pub log-near-below : eq x one ≡ false → E ≤ 2 * n → n < E → (w : ℕ) × (logOf x ≡ differenceOf w (6243314768165359 + 2 ^ 53)) × NearLog (6243314768165359 + 2 ^ 53) w (E - n) (n + E)
+  pub log-near-below : eq x one ≡ false → E ≤ 2 * n → n < E → (w : ℕ) × Bounded w × (logOf x ≡ differenceOf w (6243314768165359 + 2 ^ 53)) × NearLog (6243314768165359 + 2 ^ 53) w (E - n) (n + E)
   log-near-below d h k =
       let g = field-is 1021 (from n E (2 ^ 1073) h) (to n E (2 ^ 1074) (pow-pos 1074) k) in
       let v = value x fx tt ∙ ap (λ (z : ℕ). lead z t * E) g in
       let c = cancel n t E (2 ^ 1021) (pow-pos 1021) v in (
         withinOf t,
+        (within-ge t t-lt, within-le t t-lt),
         digits-is h d ∙ ap (λ (z : ℕ). digitsOf z t) g ∙ digits-below 1022 t (leb→le 1023 1023 tt),
         near-scaled (6243314768165359 + 2 ^ 53) (withinOf t) (E - n) (n + E) (2 ^ 53) (pow-pos 53)
             (subst (λ (a : ℕ). NearLog (6243314768165359 + 2 ^ 53) (withinOf t) a ((n + E) * 2 ^ 53)) (top n t E t-lt c)

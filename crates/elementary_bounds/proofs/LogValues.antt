@@ -1,4 +1,4 @@
--- log at 2 and at its special arguments, and its value where it is at most 1 in size. Assumes nothing.
+-- log at 2, and its value where it is at most 1 in size. Assumes nothing.
 use mathlib.Core.Path.{_≡_, refl, sym, ap, _∙_, subst}
 use mathlib.Core.Bool.{Bool, true, false, not, cond}
 use Prim.Native.Nat.{ℕ, zero, suc, _+_, _-_, _*_, _/_, _%_, _^_, _≤_, _<_}
@@ -16,38 +16,12 @@ use Rattle.elementary_bounds.specs.Series.{NearLog}
 use Rattle.natural_logarithm.specs.Log.{reciprocals, logarithms, fractionOf, differenceOf, logOf}
 use Rattle.natural_logarithm.proofs.LogCases.{difference-plus, difference-minus}
 
--- ---- special arguments
-
-log-nan : logOf nan ≡ nan
-unfolding logOf isNan
-log-nan = refl
-
-log-up : logOf (inf false) ≡ inf false
-unfolding logOf isNan lt eq
-log-up = refl
-
-log-down : logOf (inf true) ≡ nan
-unfolding logOf isNan lt
-log-down = refl
-
-log-zero : logOf (fin false 0 (pos 0)) ≡ inf true
-unfolding logOf isNan lt
-log-zero = refl
-
-log-minus-zero : logOf (fin true 0 (pos 0)) ≡ inf true
-unfolding logOf isNan lt
-log-minus-zero = refl
-
-log-one : logOf (fin false 1 (pos 0)) ≡ fin false 0 (pos 0)
-unfolding logOf isNan lt eq
-log-one = refl
-
 -- at 2, where z is 1 / 3
-log-two : logOf (fin false 1 (pos 1)) ≡ differenceOf 15250514022906408 (2 ^ 53)
+pub log-two : logOf (fin false 1 (pos 1)) ≡ differenceOf 15250514022906408 (2 ^ 53)
 unfolding logOf isNan lt eq toBits reciprocals logarithms
 log-two = refl
 
-log-two-near : NearLog 15250514022906408 (2 ^ 53) 1 3
+pub log-two-near : NearLog 15250514022906408 (2 ^ 53) 1 3
 log-two-near = record { above = leb→le _ _ tt; under = leb→le _ _ tt }
 
 -- ---- the value, exact where the difference is below 1
@@ -55,7 +29,7 @@ log-two-near = record { above = leb→le _ _ tt; under = leb→le _ _ tt }
 two-power : HasValue (fin false 1 (negsuc 52)) false 1 (2 ^ 53)
 two-power = (refl, refl)
 
-fraction-value : (d : ℕ) → d < 2 ^ 53 → HasValue (fractionOf d) false (d * 1) (1 * 2 ^ 53)
+pub fraction-value : (d : ℕ) → d < 2 ^ 53 → HasValue (fractionOf d) false (d * 1) (1 * 2 ^ 53)
 unfolding ofInt mul
 fraction-value zero h = round-exact binary64 false (0 * 1 * (1 * 1)) (1 * 2 ^ 53) 0 1021 (pow-pos 53) h (lt-of-lt-of-le (shl-lt 53 1021 h) (pow-mono {i = 1074} {j = 2098} (lit≤ {m = 1074} {n = 2098} tt))) refl
 fraction-value (suc d) h =

@@ -11,7 +11,7 @@ use lib.Ieee.Fits.{and-l, and-r}
 use Rattle.fixed_point.proofs.Product.{below-mul}
 use Rattle.fixed_point.proofs.Table.{at-most}
 use Rattle.fixed_point.specs.Fixed.{termOf}
-use Rattle.natural_logarithm.specs.Log.{reciprocals, logarithms, leanOf, squareOf, slipOf, shortOf}
+use Rattle.natural_logarithm.specs.Log.{reciprocals, logarithms, leanOf, squareOf, slipOf, shortOf, withinOf}
 
 -- ---- the short series
 
@@ -62,6 +62,9 @@ module _ (z : ℕ) (h : z ≤ 2470000000000000) where
   pub slip-le : slipOf z ≤ 2 ^ 57
   slip-le = omega (arith, slip-product)
 
+  pub slip-less : slipOf z ≤ 2500000000000000
+  slip-less = omega (arith, slip-product)
+
 -- ---- the tables
 
 pub reciprocals-le : (i : ℕ) → getD reciprocals i 0 ≤ 1023
@@ -71,6 +74,11 @@ reciprocals-le i = at-most 1023 reciprocals i tt
 pub logarithms-le : (i : ℕ) → getD logarithms i 0 ≤ 2 ^ 58
 unfolding logarithms
 logarithms-le i = at-most (2 ^ 58) logarithms i tt
+
+-- log 2 is below 0.694
+pub logarithms-less : (i : ℕ) → getD logarithms i 0 ≤ 200000000000000000
+unfolding logarithms
+logarithms-less i = at-most 200000000000000000 logarithms i tt
 
 -- the reciprocals by division
 abbrev divided : ℕ → List ℕ → Bool
@@ -131,3 +139,15 @@ module _ (t : ℕ) (h : t < 2 ^ 52) where
 
       less : (p q : ℕ) → q ≤ p → 2 ^ 62 ≤ q + 39520000000000000 → (2 ^ 62 - p) / 16 ≤ 2470000000000000
       less p q h k = omega arith
+
+  pub within-ge : 8929000000000000 ≤ withinOf t
+  within-ge = less (getD logarithms (t / 2 ^ 45) 0) (slipOf (shortOf t r)) (slip-less (shortOf t r) short-le)
+    where
+      less : (a s : ℕ) → s ≤ 2500000000000000 → 8929000000000000 ≤ (a + 2 ^ 58 - s) / 32
+      less a s h = omega arith
+
+  pub within-le : withinOf t ≤ 15300000000000000
+  within-le = more (getD logarithms (t / 2 ^ 45) 0) (slipOf (shortOf t r)) (logarithms-less (t / 2 ^ 45))
+    where
+      more : (a s : ℕ) → a ≤ 200000000000000000 → (a + 2 ^ 58 - s) / 32 ≤ 15300000000000000
+      more a s h = omega arith
