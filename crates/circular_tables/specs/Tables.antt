@@ -2,7 +2,7 @@
 use Prim.Native.Nat.{ℕ}
 use mathlib.Core.List.{List, [], _∷_}
 
--- sin (i / 256) in units of 2 ^ -58, for i from 0 to 256
+-- sin (i / 256) in units of 2 ^ -58, for i from 0 to 256. Made by scripts/elementary/generate.py.
 unfoldable pub sines : List ℕ
 sines =
     0 ∷ 1125897043533277 ∷ 2251776907262907 ∷ 3377622411647383 ∷ 4503416377669482 ∷
@@ -58,7 +58,7 @@ sines =
     238821262867128429 ∷ 239449801384698548 ∷ 240074686192904216 ∷ 240695907756772080 ∷ 241313456597225390 ∷
     241927323291228634 ∷ 242537498471931328 ∷ []
 
--- cos (i / 256)
+-- cos (i / 256). Made by scripts/elementary/generate.py.
 unfoldable pub cosines : List ℕ
 cosines =
     288230376151711744 ∷ 288228177131252393 ∷ 288221580103428687 ∷ 288210585168903155 ∷ 288195192495444969 ∷

@@ -5,7 +5,7 @@ ghost use Prim.Native.Nat.{_<_};
 ghost use lib.ListN.{getD};
 ghost use Rattle.circular_tables.specs.Tables.{sines, cosines};
 
-// sin (i/256) in units of 2^-58.
+// sin (i/256) in units of 2^-58. Made by scripts/elementary/generate.py.
 pub fn sine_at(i: u64) -> u64
     requires { ⌜ i < 257 ⌝ }
     ensures { λ r. ⌜ r ≡ getD sines i 0 ⌝ }
@@ -272,7 +272,7 @@ pub fn sine_at(i: u64) -> u64
     }
 }
 
-// cos (i/256) in units of 2^-58.
+// cos (i/256) in units of 2^-58. Made by scripts/elementary/generate.py.
 pub fn cosine_at(i: u64) -> u64
     requires { ⌜ i < 257 ⌝ }
     ensures { λ r. ⌜ r ≡ getD cosines i 0 ⌝ }

@@ -12,7 +12,7 @@ use Rattle.elementary_bounds.proofs.Series.{shift, fitting, fitted, Clo
 abbrev pub series : List ℕ
 series = homogeneous (2 ^ 58) factors
 
--- the same series about -1: at t for -1 + t / D
+-- the same series about -1: at t for -1 + t / D. Made by scripts/elementary/generate.py.
 abbrev pub lower : List ℕ
 lower = homogeneous (2 ^ 58) (895014631192902121 ∷ 895014631192902120 ∷ 447507315596451070 ∷ 149169105198816960 ∷ 37292276299704525 ∷ 7458455259939936 ∷ 1243075876659240 ∷ 177582268088640 ∷ 22197783520770 ∷ 2466420377200 ∷ 246642054516 ∷ 22421988160 ∷ 1868513010 ∷ 143722080 ∷ 10271400 ∷ 682176 ∷ 43605 ∷ 2280 ∷ 190 ∷ 0 ∷ 1 ∷ [])
 

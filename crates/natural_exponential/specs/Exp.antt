@@ -8,7 +8,7 @@ use lib.Ieee.{Float, nan, inf, fin, binary64, round, lt, isNan}
 use Rattle.fixed_point.specs.Float.{over, minusSign, nought}
 use Rattle.fixed_point.specs.Fixed.{highOf, scaledOf, termOf, chooseOf, offsetOf}
 
--- e ^ (i / 32 - 1) in units of 2 ^ -60, for i from 0 to 64
+-- e ^ (i / 32 - 1) in units of 2 ^ -60, for i from 0 to 64. Made by scripts/elementary/generate.py.
 unfoldable pub coarse : List ℕ
 coarse =
     424136118829305329 ∷ 437599644484391802 ∷ 451490548320722307 ∷ 465822396778060300 ∷ 480609186941194960 ∷
@@ -25,7 +25,7 @@ coarse =
     2365641327742554711 ∷ 2440734844405804922 ∷ 2518212085169037341 ∷ 2598148717557723135 ∷ 2680622811042428951 ∷
     2765714913284738872 ∷ 2853508128803481745 ∷ 2944088200138092618 ∷ 3037543591588375832 ∷ 3133965575612453542 ∷ []
 
--- e ^ (j / 1024) in units of 2 ^ -62, for j from 0 to 31
+-- e ^ (j / 1024) in units of 2 ^ -62, for j from 0 to 31. Made by scripts/elementary/generate.py.
 unfoldable pub fine : List ℕ
 fine =
     4611686018427387904 ∷ 4616191817794016631 ∷ 4620702019504571460 ∷ 4625216627860316266 ∷ 4629735647166717428 ∷

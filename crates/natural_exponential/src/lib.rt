@@ -14,7 +14,7 @@ ghost use Rattle.natural_exponential.specs.Exp.{coarse, fine, growthOf, 
 // The tables are functions that match on the index: an array constant that is indexed by a variable is built on the
 // stack at each use, and a match becomes a table in read-only memory.
 
-// e^(i/32 - 1) in units of 2^-60.
+// e^(i/32 - 1) in units of 2^-60. Made by scripts/elementary/generate.py.
 pub fn coarse_at(i: u64) -> u64
     requires { ⌜ i < 65 ⌝ }
     ensures { λ r. ⌜ r ≡ getD coarse i 0 ⌝ }
@@ -89,7 +89,7 @@ pub fn coarse_at(i: u64) -> u64
     }
 }
 
-// e^(i/1024) in units of 2^-62.
+// e^(i/1024) in units of 2^-62. Made by scripts/elementary/generate.py.
 pub fn fine_at(i: u64) -> u64
     requires { ⌜ i < 32 ⌝ }
     ensures { λ r. ⌜ r ≡ getD fine i 0 ⌝ }

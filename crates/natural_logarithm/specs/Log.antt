@@ -10,7 +10,7 @@ use Rattle.fixed_point.specs.Fixed.{termOf}
 use Rattle.fixed_point.specs.Float.{one, nought}
 use Rattle.fixed_point.specs.Float.{tiny}
 
--- 2 ^ 10 / (1 + (i + 1) / 128), cut to a whole number, for i from 0 to 127
+-- 2 ^ 10 / (1 + (i + 1) / 128), cut to a whole number, for i from 0 to 127. Made by scripts/elementary/generate.py.
 unfoldable pub reciprocals : List ℕ
 reciprocals =
     1016 ∷ 1008 ∷ 1000 ∷ 992 ∷ 985 ∷ 978 ∷ 970 ∷ 963 ∷ 956 ∷ 949 ∷ 942 ∷ 936 ∷ 929 ∷ 923 ∷ 916 ∷ 910 ∷
@@ -22,7 +22,7 @@ reciprocals =
     582 ∷ 579 ∷ 577 ∷ 574 ∷ 572 ∷ 569 ∷ 567 ∷ 564 ∷ 562 ∷ 560 ∷ 557 ∷ 555 ∷ 553 ∷ 550 ∷ 548 ∷ 546 ∷
     543 ∷ 541 ∷ 539 ∷ 537 ∷ 534 ∷ 532 ∷ 530 ∷ 528 ∷ 526 ∷ 524 ∷ 522 ∷ 520 ∷ 518 ∷ 516 ∷ 514 ∷ 512 ∷ []
 
--- the logarithm of 2 ^ 10 over that number, in units of 2 ^ -58
+-- the logarithm of 2 ^ 10 over that number, in units of 2 ^ -58. Made by scripts/elementary/generate.py.
 unfoldable pub logarithms : List ℕ
 logarithms =
     2260641989816120 ∷ 4539154852698183 ∷ 6835823387921086 ∷ 9150939257538696 ∷ 11192032898932003 ∷

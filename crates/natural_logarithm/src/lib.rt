@@ -19,7 +19,7 @@ pub fn reciprocal_at(i: u64) -> u64
     131072 / (129 + i)
 }
 
-// The logarithm of 2^10 over that number, in units of 2^-58.
+// The logarithm of 2^10 over that number, in units of 2^-58. Made by scripts/elementary/generate.py.
 pub fn logarithm_at(i: u64) -> u64
     requires { ⌜ i < 128 ⌝ }
     ensures { λ r. ⌜ r ≡ getD logarithms i 0 ⌝ }
