@@ -13,7 +13,7 @@ use lib.Ieee.Back.{whole-unique}
 use lib.Ieee.Exact.{HasValue}
 use lib.Ieee.Fits.{and-l, and-r, down-pos}
 use Rattle.fixed_point.specs.Float.{Within, over, one, nought, tiny}
-use Rattle.fixed_point.proofs.Range.{not-negative}
+use Rattle.fixed_point.proofs.Range.{not-negative, passes-left, passes-right}
 use Rattle.natural_exponential.specs.Exp.{coarse, fine, expOf, most, least}
 use Rattle.natural_exponential.proofs.Cases.{exp-most, exp-least}
 use Rattle.natural_logarithm.specs.Log.{fractionOf, differenceOf, logOf}
@@ -254,21 +254,6 @@ pub ExpZero-is : ExpZero
 unfolding expOf isNan lt coarse fine round
 ExpZero-is true = refl
 ExpZero-is false = refl
-
--- what passes a test is no NaN
-passes-left : (x y : Float) → lt x y ≡ true → isNan x ≡ false
-unfolding lt isNan
-passes-left nan y h = clash (sym h)
-passes-left (inf s) y h = refl
-passes-left (fin s m e) y h = refl
-
-passes-right : (x y : Float) → lt x y ≡ true → isNan y ≡ false
-unfolding lt isNan
-passes-right nan nan h = clash (sym h)
-passes-right (inf s) nan h = clash (sym h)
-passes-right (fin s m e) nan h = clash (sym h)
-passes-right x (inf s) h = refl
-passes-right x (fin s m e) h = refl
 
 not-both : (x : Float) → lt x least ≡ true → lt most x ≡ false
 unfolding lt

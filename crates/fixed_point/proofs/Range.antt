@@ -23,6 +23,21 @@ is-nan nan e = e
 is-nan (inf s) e = refl
 is-nan (fin s m e) h = refl
 
+-- what passes a test is no NaN
+pub passes-left : (x y : Float) → lt x y ≡ true → isNan x ≡ false
+unfolding lt isNan
+passes-left nan y h = clash (sym h)
+passes-left (inf s) y h = refl
+passes-left (fin s m e) y h = refl
+
+pub passes-right : (x y : Float) → lt x y ≡ true → isNan y ≡ false
+unfolding lt isNan
+passes-right nan nan h = clash (sym h)
+passes-right (inf s) nan h = clash (sym h)
+passes-right (fin s m e) nan h = clash (sym h)
+passes-right x (inf s) h = refl
+passes-right x (fin s m e) h = refl
+
 widen : (p d a Q : ℕ) → p ≤ a * d → a ≤ Q → p ≤ Q * d
 widen p d a Q h k = le-trans h (mul-le-mul-right d k)
 

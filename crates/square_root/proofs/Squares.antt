@@ -3,12 +3,12 @@ use mathlib.Core.Path.{_≡_, refl, sym, ap, _∙_, subst}
 use mathlib.Core.Logic.{_⊎_, inl, inr}
 use Prim.Native.Nat.{ℕ, zero, suc, _+_, _-_, _*_, _/_, _%_, _^_, _<_, _≤_, zero-le}
 use native.Mathlib.Omega.{arith}
-use native.Mathlib.Nat.{eq-or-lt-of-le, le-div-iff-mul-le, div-lt-iff-lt-mul, lt-of-le-of-lt, le-trans, mul-le-mul, pow-succ', zero-add}
+use native.Mathlib.Nat.{eq-or-lt-of-le, le-div-iff-mul-le, div-lt-iff-lt-mul, lt-of-le-of-lt, le-trans, mul-le-mul, pow-succ', zero-add, not-suc-le-zero}
 use lib.Pow.{pow-pos}
 use lib.Dec.{T, ltb→lt}
 use mathlib.Core.Bool.{Bool, true, false, cond, not, _&&_}
 use borrow.Author.Tests.{lt-ltb, le-ltb, ne-eqb, leb-true, leb-false}
-use lib.Dec.{eqb, leb, leb→le}
+use lib.Dec.{eqb, leb, leb→le, lit≤}
 use Rattle.fixed_point.proofs.Product.{below-mul}
 use lib.Ieee.{binary64, nanBits}
 use Rattle.square_root.specs.Root.{Over, Nearest, digitsOf, nearestOf}
@@ -42,6 +42,35 @@ one-less a r h k = subst (λ (z : ℕ). a * 2 ^ 54 ≤ z * z) (same r h) k
   where
     same : (r : ℕ) → 1 ≤ r → 2 * r - 1 ≡ 2 * (r - 1) + 1
     same r h = omega arith
+
+-- one square settles a guess of 53 digits
+below-square : (g : ℕ) → 1 ≤ g → (2 * g - 1) * (2 * g - 1) + 4 * g ≡ 4 * (g * g) + 1
+below-square zero h = absurd (not-suc-le-zero h)
+below-square (suc g) h = ap (λ (n : ℕ). n * n + 4 * suc g) (odd g) ∙ omega arith
+  where
+    odd : (g : ℕ) → 2 * suc g - 1 ≡ 2 * g + 1
+    odd g = omega arith
+
+upper-part : (g p : ℕ) → p ≡ g * 1024 * (g * 1024) / 2 ^ 64 → (p * 2 ^ 44 ≤ g * g) × (g * g < p * 2 ^ 44 + 2 ^ 44)
+upper-part g p e = (omega arith, omega arith)
+
+cut : (g : ℕ) → g / 2 ^ 44 * 2 ^ 44 ≤ g
+cut g = omega arith
+
+pub settled : (a g p : ℕ) → 2 ^ 52 ≤ g → g < 2 ^ 53 → p ≡ g * 1024 * (g * 1024) / 2 ^ 64 → p < a * 256 + g / 2 ^ 44 → a * 256 ≤ p + g / 2 ^ 44 → Nearest a g
+settled a g p l m e u v =
+    let h = upper-part g p e in
+    record {
+      over = over (g * g) (g / 2 ^ 44) (h .0) v (cut g) refl;
+      under = under ((2 * g - 1) * (2 * g - 1)) (g * g) (g / 2 ^ 44) (h .1) u (cut g) (below-square g (le-trans (lit≤ {m = 1} {n = 2 ^ 52} tt) l));
+      small = (omega arith, m);
+    }
+  where
+    over : (s q : ℕ) → p * 2 ^ 44 ≤ s → a * 256 ≤ p + q → q * 2 ^ 44 ≤ g → s ≡ g * g → a * 2 ^ 54 ≤ (2 * g + 1) * (2 * g + 1)
+    over s q h v c f = omega arith
+
+    under : (t s q : ℕ) → s < p * 2 ^ 44 + 2 ^ 44 → p < a * 256 + q → q * 2 ^ 44 ≤ g → t + 4 * g ≡ 4 * s + 1 → t < a * 2 ^ 54
+    under t s q h u c f = omega arith
 
 -- ---- the nearest root by its digits
 

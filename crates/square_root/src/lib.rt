@@ -1,6 +1,5 @@
 // The square root: the whole number nearest to the root of a * 2^52, by squares compared. The first guess may be any.
 use fixed_point::high;
-use std::num::truncating_f64_to_u64;
 ghost use mathlib.Core.Path.{_≡_};
 ghost use Prim.Native.Nat.{ℕ, _+_, _-_, _*_, _/_, _^_, _<_, _≤_};
 ghost use lib.Dec.{T};
@@ -29,7 +28,7 @@ pub fn raised(a: u64, guess: u64) -> u64
 }
 
 // Lowered again until it is at most half too large.
-pub fn nearest(a: u64, guess: u64) -> u64
+pub fn lowered(a: u64, guess: u64) -> u64
     requires { ⌜ (a + 2 ≤ 2 ^ 54) × (1 ≤ a) × (guess < 2 ^ 53) ⌝ }
     ensures { λ r. ⌜ Nearest a r ⌝ }
 {
@@ -40,27 +39,44 @@ pub fn nearest(a: u64, guess: u64) -> u64
     r
 }
 
-// A number near the root of a * 2^52, by Newton's steps on floats. Nothing is promised of it but its size: `nearest` corrects it.
-pub fn guess(a: u64) -> u64
-    requires { ⌜ a < 2 ^ 54 ⌝ }
-    ensures { λ r. ⌜ r < 2 ^ 53 ⌝ }
+// The nearest root. One square settles nearly every guess: a * 2^52 is at most guess^2 + guess and above guess^2 - guess,
+// each by its upper digits.
+pub fn nearest(a: u64, guess: u64) -> u64
+    requires { ⌜ (a + 2 ≤ 2 ^ 54) × (1 ≤ a) × (2 ^ 52 ≤ guess) × (guess < 2 ^ 53) ⌝ }
+    ensures { λ r. ⌜ Nearest a r ⌝ }
 {
-    let z = ((a / 2) as f64) * f64::from_bits(4377498837804122112);
-    let h = z * 0.5;
-    let y0 = 1.731236 + z * (z * (0.435038 + z * (0.00681 * z - 0.087187)) - 1.088586);
-    let y1 = y0 * (1.5 - h * y0 * y0);
-    let y2 = y1 * (1.5 - h * y1 * y1);
-    let g = z * y2;
-    let w = (g + 0.5 * y2 * (z - g * g)) * 4503599627370496.0;
-    if w > -1.0 {
-        if w < 18446744073709551616.0 {
-            let r = truncating_f64_to_u64(w);
-            if r < 9007199254740992 {
-                return r;
-            }
+    let p = high(guess * 1024, guess * 1024);
+    let q = guess / 17592186044416;
+    if p < a * 256 + q {
+        if a * 256 <= p + q {
+            return guess;
         }
     }
-    4503599627370496
+    lowered(a, guess)
+}
+
+// A number near the root of z in units of 2^-52, by Newton's steps on floats. Nothing is promised of it but its size:
+// `nearest` corrects it. The polynomial is split so that its terms do not wait for each other; g has 26 digits, so that its
+// square and what z is more are exact.
+pub fn guess(z: f64) -> u64
+    ensures { λ r. ⌜ (2 ^ 52 ≤ r) × (r < 2 ^ 53) ⌝ }
+{
+    let w = z * z;
+    let h = z * 0.5;
+    let y0 = (1.731236 - 1.088586 * z) + w * ((0.435038 - 0.087187 * z) + 0.00681 * w);
+    let y1 = y0 * (1.5 - h * y0 * y0);
+    let y2 = y1 * (1.5 - h * y1 * y1);
+    let g = (z * y2 + 201326592.0) - 201326592.0;
+    let k = y2 * 0.5;
+    let d = k * (z - g * g);
+    let r = g + (d + d * d * k);
+    if r < 1.0 {
+        return 4503599627370496;
+    }
+    if r < 2.0 {
+        return f64::to_bits(r) % 4503599627370496 + 4503599627370496;
+    }
+    9007199254740991
 }
 
 // The root of x over 2^k, for a positive x that is not below 2^-1022.
@@ -70,9 +86,10 @@ pub fn root(x: f64, k: u64) -> f64
 {
     let b = f64::to_bits(x) % 9223372036854775808;
     let e = b / 4503599627370496;
-    let q = b % 4503599627370496 + 4503599627370496;
-    let a = q * (2 - e % 2);
-    let r = nearest(a, guess(a));
+    let t = b % 4503599627370496;
+    let a = (t + 4503599627370496) * (2 - e % 2);
+    let z = f64::from_bits((1024 - e % 2) * 4503599627370496 + t);
+    let r = nearest(a, guess(z));
     f64::from_bits(((e + 1021) / 2 - k) * 4503599627370496 + r)
 }
 

@@ -1,71 +1,55 @@
 -- `square_root::nearest` meets its contract. Assumes nothing.
-use Prim.Native.Nat.{ℕ, _+_, _-_, _*_, _/_, _^_, _<_, _≤_}
 use native.Mathlib.Omega.{arith}
-use Rattle.square_root.proofs.Squares.{some, one-less, reached, missed}
+use borrow.Author.Needs.{needs}
+use Rattle.square_root.proofs.Squares.{settled}
 use Rattle.square_root.proofs.nearest.Statement.{statement}
 use Rattle.square_root.proofs.nearest.Tie as tie
-use Rattle.square_root.proofs.nearest.Reads as reads
-use Rattle.square_root.proofs.nearest.Lts as lts
-use Rattle.square_root.proofs.raised.Reads as raised-reads
-use Rattle.square_root.proofs.square.Reads as square-reads
 
-abbrev Inv-loop : tie.InvT-loop
-Inv-loop a guess r₀ r = (r < 2 ^ 53) × (1 ≤ r) × (a * 2 ^ 54 ≤ (2 * r + 1) * (2 * r + 1))
+mul-high : tie.Need-mul-high
+mul-high c = search needs
 
-abbrev μ-loop : tie.MeasureT-loop
-μ-loop a guess r₀ r = r
+mul-high-2 : tie.Need-mul-high-2
+mul-high-2 c = search needs
 
-raised-requires : tie.Need-raised-requires Inv-loop μ-loop
-raised-requires c κs = (c .pre .0, c .pre .2)
+high-requires : tie.Need-high-requires
+high-requires c κs = search needs
 
-loop-holds : tie.Need-loop-holds Inv-loop μ-loop
-loop-holds c =
-    (c .raised .ensures .0, some (c .before .args .a) (c .raised .result) (c .before .pre .1) (c .raised .ensures .1 .over), c .raised .ensures .1 .over)
+mul-if1 : tie.Need-mul-if1
+mul-if1 c = search needs
 
-mul-square : tie.Need-mul-square Inv-loop μ-loop
-mul-square c = omega (arith, c .loop .inv .0)
+add-if1 : tie.Need-add-if1
+add-if1 c = search needs
 
-sub-square : tie.Need-sub-square Inv-loop μ-loop
-sub-square c = omega (arith, c .loop .inv .1)
+mul-if2 : tie.Need-mul-if2
+mul-if2 c = search needs
 
-square-requires : tie.Need-square-requires Inv-loop μ-loop
-square-requires c κs = omega (arith, c .loop .inv .0)
+add-if2 : tie.Need-add-if2
+add-if2 c = omega (arith, c .if1 .taken, c .before .before .pre .0, c .before .before .pre .3)
 
-sub-r : tie.Need-sub-r Inv-loop μ-loop
-sub-r c = c .before .before .loop .inv .1
-
-loop-less : tie.Need-loop-less Inv-loop μ-loop
-loop-less c = omega (arith, c .before .before .loop .inv .1)
-
-loop-again : tie.Need-loop-again Inv-loop μ-loop
-loop-again c =
-    let l = c .before .before in
-    let a = l .before .before .args .a in
-    let r = l .loop .r in
-    let o = one-less a r (l .loop .inv .1) (reached a (2 * r - 1) (c .before .square .result) (c .before .square .ensures) (c .if1 .taken)) in
-    (omega (arith, l .loop .inv .0), some a (r - 1) (l .before .before .pre .1) o, o)
-
-returns : tie.Need-returns Inv-loop μ-loop
+returns : tie.Need-returns
 returns c =
-    let l = c .before .before in
-    record {
-      over = l .loop .inv .2;
-      under = missed (l .before .before .args .a) (2 * l .loop .r - 1) (c .before .square .result) (c .before .square .ensures) (c .if1 .left);
-      small = (l .loop .inv .1, l .loop .inv .0);
-    }
+    let t = c .before in
+    let h = t .before in
+    let s = h .before in
+    settled (s .args .a) (s .args .guess) (h .high .result) (s .pre .2) (s .pre .3) (h .high .ensures) (t .if1 .taken) (c .if2 .taken)
+
+lowered-requires : tie.Need-lowered-requires
+lowered-requires c κs = search needs
+
+returns-2 : tie.Need-returns-2
+returns-2 c = search needs
 
 pub nearest-spec : {M : Type 1} → statement M
 nearest-spec =
     tie.close
     (tie.spec
-    Inv-loop
-    μ-loop
-    raised-requires
-    loop-holds
-    mul-square
-    sub-square
-    square-requires
-    sub-r
-    loop-less
-    loop-again
-    returns)
+    mul-high
+    mul-high-2
+    high-requires
+    mul-if1
+    add-if1
+    mul-if2
+    add-if2
+    returns
+    lowered-requires
+    returns-2)

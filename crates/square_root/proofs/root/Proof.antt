@@ -31,8 +31,8 @@ module _ (c : tie.Start) where
 float-to-bits-b : tie.Need-float-to-bits-b
 float-to-bits-b c = search needs
 
-add-q : tie.Need-add-q
-add-q c = search needs
+add-a : tie.Need-add-a
+add-a c = search needs
 
 sub-a : tie.Need-sub-a
 sub-a c = search needs
@@ -40,11 +40,26 @@ sub-a c = search needs
 mul-a : tie.Need-mul-a
 mul-a c = omega (arith, a-le c)
 
+sub-z : tie.Need-sub-z
+sub-z c = search needs
+
+mul-z : tie.Need-mul-z
+mul-z c = search needs
+
+add-z : tie.Need-add-z
+add-z c = search needs
+
+float-from-bits-z : tie.Need-float-from-bits-z
+float-from-bits-z c = subst (λ (t : Bool). T (not t)) (sym (no-nan-bits ((1024 - b c / 2 ^ 52 % 2) * 2 ^ 52 + b c % 2 ^ 52) (small (b c)))) tt
+  where
+    small : (n : ℕ) → (1024 - n / 2 ^ 52 % 2) * 2 ^ 52 + n % 2 ^ 52 < 2047 * 2 ^ 52
+    small n = omega arith
+
 guess-requires : tie.Need-guess-requires
-guess-requires c κs = omega (arith, a-le c)
+guess-requires c κs = search needs
 
 nearest-requires : tie.Need-nearest-requires
-nearest-requires c κs = (omega (arith, a-le (c .before)), a-ge (c .before), c .guess .ensures)
+nearest-requires c κs = (omega (arith, a-le (c .before)), a-ge (c .before), c .guess .ensures .0, c .guess .ensures .1)
 
 add-result : tie.Need-add-result
 add-result c = search needs
@@ -77,9 +92,13 @@ root-spec =
     tie.close
     (tie.spec
     float-to-bits-b
-    add-q
+    add-a
     sub-a
     mul-a
+    sub-z
+    mul-z
+    add-z
+    float-from-bits-z
     guess-requires
     nearest-requires
     add-result
