@@ -14,4 +14,5 @@ pub mod LogValues
 pub mod TrigSeries
 pub mod TrigKernel
 pub mod TrigNear
+pub mod RootNear
 pub mod Proved

@@ -26,10 +26,11 @@ use Rattle.square_root.proofs.RootCases.{sqrt-negative}
 use Rattle.elementary.specs.Pow.{wholeOf, powOf}
 use Rattle.elementary.proofs.PowCases.{pow-two}
 use Rattle.elementary_bounds.specs.Series.{NearLog}
-use Rattle.elementary_bounds.specs.Theorems.{numerator, denominator, HasDifference, ExpNear, SinNear, CosNear, LogNear, SinSize, CosSize, ExpZero, ExpEnds, LogEnds, SinCosZero, SinBeyond, CosBeyond, SqrtEnds, PowTwo, PowRules}
+use Rattle.elementary_bounds.specs.Theorems.{numerator, denominator, HasDifference, ExpNear, SinNear, CosNear, LogNear, SinSize, CosSize, SqrtNear, ExpZero, ExpEnds, LogEnds, SinCosZero, SinBeyond, CosBeyond, SqrtEnds, PowTwo, PowRules}
 use Rattle.elementary_bounds.proofs.ExpNear.{exp-near}
 use Rattle.elementary_bounds.proofs.TrigNear.{sin-near, cos-near, sin-size, cos-size}
 use Rattle.elementary_bounds.proofs.LogFloat.{Bounded, near-raised, log-near-above, log-near-below}
+use Rattle.elementary_bounds.proofs.RootNear.{root-near}
 use Rattle.elementary_bounds.proofs.LogValues.{log-two, log-two-near, fraction-value}
 
 clash : {X : Type 0} → true ≡ false → X
@@ -247,6 +248,20 @@ SinSize-is = sin-size
 
 pub CosSize-is : CosSize
 CosSize-is = cos-size
+
+-- ---- the square root
+
+pub SqrtNear-is : SqrtNear
+SqrtNear-is nan fx s h = absurd (no (2 ^ 1022) h)
+  where
+    no : (P : ℕ) → 1 ≤ 0 * P → ⊥
+    no P h = omega arith
+SqrtNear-is (inf s) fx t h = absurd (no (2 ^ 1022) h)
+  where
+    no : (P : ℕ) → 1 ≤ 0 * P → ⊥
+    no P h = omega arith
+SqrtNear-is (fin true m e) fx s h = clash s
+SqrtNear-is (fin false m e) fx s h = root-near m e fx h
 
 -- ---- special values
 
