@@ -7,7 +7,7 @@ use lib.ListN.{getD}
 use Rattle.fixed_point.proofs.Product.{below-mul}
 use Rattle.fixed_point.proofs.Table.{at-most, at-least}
 use Rattle.circular_tables.specs.Tables.{sines, cosines}
-use Rattle.circular_functions.specs.Trig.{squareOf, cubeOf, fourthOf, arcOf, sagOf, acrossOf, droppedOf, quartersOf, leftOf}
+use Rattle.circular_functions.specs.Trig.{squareOf, cubeOf, fourthOf, cubicOf, versineOf, scalingOf, decrementOf, quartersOf, leftOf}
 
 pub sines-le : (i : ℕ) → getD sines i 0 ≤ 2 ^ 58
 unfolding sines
@@ -56,11 +56,11 @@ module _ (d : ℕ) (h : d < 2 ^ 50) where
   pub fourth-le : fourthOf (squareOf (d / 2 ^ 18)) ≤ squareOf (d / 2 ^ 18)
   fourth-le = omega (arith, mul-le-mul-left (squareOf (d / 2 ^ 18)) fine-le)
 
-  pub arc-le : arcOf d ≤ 2 ^ 42
-  arc-le = omega arith
+  pub cubic-le : cubicOf d ≤ 2 ^ 42
+  cubic-le = omega arith
 
-  pub sag-le : sagOf d ≤ 2 ^ 32
-  sag-le = omega (arith, square-le)
+  pub versine-le : versineOf d ≤ 2 ^ 32
+  versine-le = omega (arith, square-le)
 
 -- ---- the two products with a table's entry
 
@@ -71,18 +71,18 @@ module _ (a p : ℕ) (h : a ≤ 2 ^ 58) (k : p ≤ 2 ^ 42) where
   pub lower-le : p * (a / 2 ^ 16 % 2 ^ 22) ≤ 4398046511104 * 4194303
   lower-le = below-mul 4398046511104 4194303 k (omega arith)
 
-  pub across-le : acrossOf a p ≤ 2 ^ 51
-  across-le = omega (arith, upper-le, lower-le)
+  pub scaling-le : scalingOf a p ≤ 2 ^ 51
+  scaling-le = omega (arith, upper-le, lower-le)
 
 module _ (a e : ℕ) (h : a ≤ 2 ^ 58) (k : e ≤ 2 ^ 32) where
   pub drop-product : e * (a / 2 ^ 27) ≤ 4294967296 * 2147483648
   drop-product = below-mul 4294967296 2147483648 k (omega arith)
 
-  pub dropped-less : droppedOf a e ≤ a
-  dropped-less = omega (arith, mul-le-mul-right (a / 2 ^ 27) k)
+  pub decrement-less : decrementOf a e ≤ a
+  decrement-less = omega (arith, mul-le-mul-right (a / 2 ^ 27) k)
 
-  pub dropped-le : droppedOf a e ≤ 2 ^ 41
-  dropped-le = omega (arith, drop-product)
+  pub decrement-le : decrementOf a e ≤ 2 ^ 41
+  decrement-le = omega (arith, drop-product)
 
 -- ---- the reduction: a is m / 2 ^ 31, and n the number of quarter turns
 

@@ -13,7 +13,7 @@ use Rattle.fixed_point.specs.Float.{over, minusSign, nought}
 use Rattle.fixed_point.proofs.Assemble.{fraction-is}
 use Rattle.fixed_point.proofs.Choice.{either-le}
 use Rattle.fixed_point.proofs.Negative.{neg-round, mul-minus}
-use Rattle.circular_functions.specs.Trig.{arcOf, sagOf, acrossOf, droppedOf, sineFrom, cosineFrom, sineOf, cosineOf, signedOf, quarterOf, waveOf, farOf, turnedOf, sinOf, cosOf}
+use Rattle.circular_functions.specs.Trig.{cubicOf, versineOf, scalingOf, decrementOf, sineFrom, cosineFrom, sineOf, cosineOf, signedOf, quarterOf, sinusoidOf, reducedOf, turnedOf, sinOf, cosOf}
 
 -- ---- the sign
 
@@ -71,7 +71,7 @@ pub part-le : (b : Bool) (u p e : ℕ) → u ≤ 2 ^ 58 → p ≤ 2 ^ 51 → con
 part-le true u p e h k = omega arith
 part-le false u p e h k = omega arith
 
-pub part-is : (b : Bool) (S C d u w p e : ℕ) → u ≡ cond b S C → w ≡ cond b C S → p ≡ acrossOf w (arcOf d) → e ≡ droppedOf u (sagOf d) → cond b (u + p) (u - p) - e ≡ cond b (sineFrom S C d) (cosineFrom S C d)
+pub part-is : (b : Bool) (S C d u w p e : ℕ) → u ≡ cond b S C → w ≡ cond b C S → p ≡ scalingOf w (cubicOf d) → e ≡ decrementOf u (versineOf d) → cond b (u + p) (u - p) - e ≡ cond b (sineFrom S C d) (cosineFrom S C d)
 part-is true S C d u w p e f g i j = cc
 part-is false S C d u w p e f g i j = cc
 
@@ -93,19 +93,19 @@ module _ (n t : ℕ) where
   pub quarter-high : 2 ^ 58 ≤ t → quarterOf n t ≡ n
   quarter-high h = simp (le-ltb t (2 ^ 58) h)
 
-  pub wave-even : 2 ^ 58 ≤ t → n % 2 ≡ 0 → waveOf n t ≡ signedOf n (sineOf (t - 2 ^ 58) / 128)
-  wave-even h e = simp (le-ltb t (2 ^ 58) h, eq-eqb (n % 2) 0 e)
+  pub sinusoid-even : 2 ^ 58 ≤ t → n % 2 ≡ 0 → sinusoidOf n t ≡ signedOf n (sineOf (t - 2 ^ 58) / 128)
+  sinusoid-even h e = simp (le-ltb t (2 ^ 58) h, eq-eqb (n % 2) 0 e)
 
-  pub wave-odd : 2 ^ 58 ≤ t → (n % 2 ≡ 0 → ⊥) → waveOf n t ≡ signedOf n (cosineOf (t - 2 ^ 58) / 128)
-  wave-odd h e = simp (le-ltb t (2 ^ 58) h, ne-eqb (n % 2) 0 e)
+  pub sinusoid-odd : 2 ^ 58 ≤ t → (n % 2 ≡ 0 → ⊥) → sinusoidOf n t ≡ signedOf n (cosineOf (t - 2 ^ 58) / 128)
+  sinusoid-odd h e = simp (le-ltb t (2 ^ 58) h, ne-eqb (n % 2) 0 e)
 
 -- ---- near and far
 
 module _ (x : Float) (k : ℕ) where
-  pub turned-far : over 1 x ≡ true → turnedOf x k ≡ farOf (scaledOf 46 x) k
-  turned-far a = simp a
+  pub turned-reduced : over 1 x ≡ true → turnedOf x k ≡ reducedOf (scaledOf 46 x) k
+  turned-reduced a = simp a
 
-  pub turned-near : over 1 x ≡ false → turnedOf x k ≡ waveOf k (2 ^ 58 + scaledOf 58 x)
+  pub turned-near : over 1 x ≡ false → turnedOf x k ≡ sinusoidOf k (2 ^ 58 + scaledOf 58 x)
   turned-near a = simp a
 
 -- ---- the whole

@@ -21,26 +21,26 @@ abbrev pub fourthOf : ℕ → ℕ
 fourthOf q = q * (178956971 * q / 2 ^ 40) / 2 ^ 39
 
 -- sin d in units of 2 ^ -50, for d in units of 2 ^ -58: d - d ^ 3 / 6
-abbrev pub arcOf : ℕ → ℕ
-arcOf d = (d - cubeOf (d / 2 ^ 18)) / 2 ^ 8
+abbrev pub cubicOf : ℕ → ℕ
+cubicOf d = (d - cubeOf (d / 2 ^ 18)) / 2 ^ 8
 
 -- 1 - cos d in units of 2 ^ -49: d ^ 2 / 2 - d ^ 4 / 24
-abbrev pub sagOf : ℕ → ℕ
-sagOf d = squareOf (d / 2 ^ 18) - fourthOf (squareOf (d / 2 ^ 18))
+abbrev pub versineOf : ℕ → ℕ
+versineOf d = squareOf (d / 2 ^ 18) - fourthOf (squareOf (d / 2 ^ 18))
 
 -- a * p in units of 2 ^ -58, for p in units of 2 ^ -50, and a * e for e in units of 2 ^ -49
-abbrev pub acrossOf : ℕ → ℕ → ℕ
-acrossOf a p = (p * (a / 2 ^ 38) + p * (a / 2 ^ 16 % 2 ^ 22) / 2 ^ 22) / 2 ^ 12
+abbrev pub scalingOf : ℕ → ℕ → ℕ
+scalingOf a p = (p * (a / 2 ^ 38) + p * (a / 2 ^ 16 % 2 ^ 22) / 2 ^ 22) / 2 ^ 12
 
-abbrev pub droppedOf : ℕ → ℕ → ℕ
-droppedOf a e = e * (a / 2 ^ 27) / 2 ^ 22
+abbrev pub decrementOf : ℕ → ℕ → ℕ
+decrementOf a e = e * (a / 2 ^ 27) / 2 ^ 22
 
 -- sin r and cos r in units of 2 ^ -58, for r in units of 2 ^ -58, from 0 to 1
 abbrev pub sineFrom : ℕ → ℕ → ℕ → ℕ
-sineFrom a b d = a + acrossOf b (arcOf d) - droppedOf a (sagOf d)
+sineFrom a b d = a + scalingOf b (cubicOf d) - decrementOf a (versineOf d)
 
 abbrev pub cosineFrom : ℕ → ℕ → ℕ → ℕ
-cosineFrom a b d = b - acrossOf a (arcOf d) - droppedOf b (sagOf d)
+cosineFrom a b d = b - scalingOf a (cubicOf d) - decrementOf b (versineOf d)
 
 abbrev pub sineOf : ℕ → ℕ
 sineOf r = sineFrom (getD sines (r / 2 ^ 50) 0) (getD cosines (r / 2 ^ 50) 0) (r % 2 ^ 50)
@@ -66,8 +66,8 @@ abbrev pub quarterOf : ℕ → ℕ → ℕ
 quarterOf n t = cond (ltb t (2 ^ 58)) (cond (eqb (n % 2) 0) (n + 2) n) n
 
 -- the sine of n quarter turns and t - 1, for t in units of 2 ^ -58, from 0 to 2
-abbrev pub waveOf : ℕ → ℕ → Float
-waveOf n t = signedOf (quarterOf n t) (partOf (n % 2) (apartOf t (2 ^ 58)) / 128)
+abbrev pub sinusoidOf : ℕ → ℕ → Float
+sinusoidOf n t = signedOf (quarterOf n t) (partOf (n % 2) (apartOf t (2 ^ 58)) / 128)
 
 -- how many quarter turns are nearest to m, in units of 2 ^ -46
 abbrev pub quartersOf : ℕ → ℕ
@@ -78,12 +78,12 @@ abbrev pub leftOf : ℕ → ℕ → ℕ
 leftOf m n = (m + 2 ^ 46 - n * 110534964875444) * 4096 - n * 1629119075 / 2 ^ 20
 
 -- the sine of k quarter turns and m
-abbrev pub farOf : ℕ → ℕ → Float
-farOf m k = waveOf (quartersOf m + k) (leftOf m (quartersOf m))
+abbrev pub reducedOf : ℕ → ℕ → Float
+reducedOf m k = sinusoidOf (quartersOf m + k) (leftOf m (quartersOf m))
 
 -- the sine of k quarter turns and |x|
 abbrev pub turnedOf : Float → ℕ → Float
-turnedOf x k = cond (over 1 x) (farOf (scaledOf 46 x) k) (waveOf k (2 ^ 58 + scaledOf 58 x))
+turnedOf x k = cond (over 1 x) (reducedOf (scaledOf 46 x) k) (sinusoidOf k (2 ^ 58 + scaledOf 58 x))
 
 -- NaN for a NaN and beyond 65,536; a half turn more for a minus sign
 unfoldable pub sinOf : Float → Float

@@ -10,12 +10,12 @@ ghost use mathlib.Core.Path.{_≡_};
 ghost use Prim.Native.Nat.{ℕ, _+_, _-_, _*_, _/_, _^_, _<_, _≤_};
 ghost use lib.Ieee.{Float, fin, binary64, isNan};
 ghost use Rattle.fixed_point.specs.Float.{Within};
-ghost use Rattle.circular_functions.specs.Trig.{arcOf, sagOf, acrossOf, droppedOf, partOf, signedOf, quarterOf, waveOf, farOf, turnedOf, sinOf, cosOf};
+ghost use Rattle.circular_functions.specs.Trig.{cubicOf, versineOf, scalingOf, decrementOf, partOf, signedOf, quarterOf, sinusoidOf, reducedOf, turnedOf, sinOf, cosOf};
 
 // sin d in units of 2^-50, for d in units of 2^-58, below 2^50: d - d^3/6.
-pub fn arc(d: u64) -> u64
+pub fn cubic(d: u64) -> u64
     requires { ⌜ d < 2 ^ 50 ⌝ }
-    ensures { λ r. ⌜ (r ≡ arcOf d) × (r ≤ 2 ^ 42) ⌝ }
+    ensures { λ r. ⌜ (r ≡ cubicOf d) × (r ≤ 2 ^ 42) ⌝ }
 {
     let s = d / 262144;
     let q = s * s / 4294967296;
@@ -23,9 +23,9 @@ pub fn arc(d: u64) -> u64
 }
 
 // 1 - cos d in units of 2^-49: d^2/2 - d^4/24.
-pub fn sag(d: u64) -> u64
+pub fn versine(d: u64) -> u64
     requires { ⌜ d < 2 ^ 50 ⌝ }
-    ensures { λ r. ⌜ (r ≡ sagOf d) × (r ≤ 2 ^ 32) ⌝ }
+    ensures { λ r. ⌜ (r ≡ versineOf d) × (r ≤ 2 ^ 32) ⌝ }
 {
     let s = d / 262144;
     let q = s * s / 4294967296;
@@ -33,9 +33,9 @@ pub fn sag(d: u64) -> u64
 }
 
 // a * p in units of 2^-58, for a in units of 2^-58 and p in units of 2^-50.
-pub fn across(a: u64, p: u64) -> u64
+pub fn scaling(a: u64, p: u64) -> u64
     requires { ⌜ (a ≤ 2 ^ 58) × (p ≤ 2 ^ 42) ⌝ }
-    ensures { λ r. ⌜ (r ≡ acrossOf a p) × (r ≤ 2 ^ 51) ⌝ }
+    ensures { λ r. ⌜ (r ≡ scalingOf a p) × (r ≤ 2 ^ 51) ⌝ }
 {
     let a1 = a / 274877906944;
     let a0 = a / 65536 % 4194304;
@@ -43,9 +43,9 @@ pub fn across(a: u64, p: u64) -> u64
 }
 
 // a * e in units of 2^-58, for a in units of 2^-58 and e in units of 2^-49.
-pub fn dropped(a: u64, e: u64) -> u64
+pub fn decrement(a: u64, e: u64) -> u64
     requires { ⌜ (a ≤ 2 ^ 58) × (e ≤ 2 ^ 32) ⌝ }
-    ensures { λ r. ⌜ (r ≡ droppedOf a e) × (r ≤ a) × (r ≤ 2 ^ 41) ⌝ }
+    ensures { λ r. ⌜ (r ≡ decrementOf a e) × (r ≤ a) × (r ≤ 2 ^ 41) ⌝ }
 {
     e * (a / 134217728) / 4194304
 }
@@ -60,7 +60,7 @@ pub fn part(h: u64, r: u64) -> u64
     let d = r % 1125899906842624;
     let u = choose(h, a, b);
     let w = choose(h, b, a);
-    offset(h, u, across(w, arc(d))) - dropped(u, sag(d))
+    offset(h, u, scaling(w, cubic(d))) - decrement(u, versine(d))
 }
 
 // v in units of 2^-58 as a float, cut to 2^-51, below zero in the third and fourth quarters.
@@ -89,21 +89,21 @@ pub fn quarter(n: u64, t: u64) -> u64
 }
 
 // The sine of n quarter turns and t - 1, for t in units of 2^-58, from 0 to 2.
-pub fn wave(n: u64, t: u64) -> f64
+pub fn sinusoid(n: u64, t: u64) -> f64
     requires { ⌜ (n ≤ 2 ^ 32) × (t ≤ 2 ^ 59) ⌝ }
-    ensures { λ r. ⌜ r ≡ waveOf n t ⌝ }
+    ensures { λ r. ⌜ r ≡ sinusoidOf n t ⌝ }
 {
     signed(quarter(n, t), part(n % 2, apart(t, 288230376151711744)))
 }
 
 // The sine of k quarter turns and m, for m in units of 2^-46.
-pub fn far(m: u64, k: u64) -> f64
+pub fn reduced(m: u64, k: u64) -> f64
     requires { ⌜ (m ≤ 65536 * 2 ^ 46) × (k ≤ 2) ⌝ }
-    ensures { λ r. ⌜ r ≡ farOf m k ⌝ }
+    ensures { λ r. ⌜ r ≡ reducedOf m k ⌝ }
 {
     let n = (m / 2147483648 * 2734261102 + 70368744177664) / 140737488355328;
     let t = (m + 70368744177664 - n * 110534964875444) * 4096 - n * 1629119075 / 1048576;
-    wave(n + k, t)
+    sinusoid(n + k, t)
 }
 
 // The sine of k quarter turns and |x|.
@@ -113,9 +113,9 @@ pub fn turned(x: f64, k: u64) -> f64
 {
     let b = f64::to_bits(x) % 9223372036854775808;
     if 4607182418800017408 < b {
-        return far(scaled(x, 46), k);
+        return reduced(scaled(x, 46), k);
     }
-    wave(k, 288230376151711744 + scaled(x, 58))
+    sinusoid(k, 288230376151711744 + scaled(x, 58))
 }
 
 pub fn sin(x: f64) -> f64

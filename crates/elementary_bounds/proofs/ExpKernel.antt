@@ -7,9 +7,9 @@ use native.Mathlib.Nat.{le-trans, le-of-lt, le-of-eq, le-of-mul-le-mul-left, mul
 use lib.Dec.{T, leb, leb→le}
 use lib.ListN.{getD}
 use lib.Pow.{pow-pos, shr-shr, mod-pow-add}
-use Rattle.natural_exponential.specs.Exp.{coarse, fine, tailOf, bendOf, growthOf, grownOf, kernelOf}
+use Rattle.natural_exponential.specs.Exp.{coarse, fine, tailOf, remainderOf, expm1Of, compoundedOf, kernelOf}
 use Rattle.fixed_point.specs.Fixed.{highOf, termOf}
-use Rattle.natural_exponential.proofs.Bound.{coarse-le, fine-le, high-le, bend-product, upper-le, lower-le}
+use Rattle.natural_exponential.proofs.Bound.{coarse-le, fine-le, high-le, remainder-product, upper-le, lower-le}
 use Rattle.elementary_bounds.specs.Series.{ev}
 use Rattle.elementary_bounds.proofs.Nearness.{whole, slice}
 use Rattle.elementary_bounds.proofs.Series.{times, gap, slope, dilate, Below, start, term, cut-close, ev-mono}
@@ -17,7 +17,7 @@ use Rattle.elementary_bounds.proofs.ExpSeries.{lower, series, short, co
 
 -- ---- the bend: d ^ 2 / 2 + d ^ 3 / 6 + d ^ 4 / 24
 
--- the exact polynomial that bendOf cuts down, over 2 ^ 142, and the series' own terms
+-- the exact polynomial that remainderOf cuts down, over 2 ^ 142, and the series' own terms
 abbrev bent : List ℕ
 bent = 0 ∷ 0 ∷ 2147483648 * (1 * 2 ^ 42 * 2 ^ 42) ∷ 715827883 * (1 * 2 ^ 42) ∷ 178956971 ∷ []
 
@@ -27,21 +27,21 @@ bends = 0 ∷ 0 ∷ 1216451004088320000 * (2 ^ 58) ^ 18 ∷ 405483668029440000 *
 nested : (a b c m₁ m₂ m₃ m₄ s : ℕ) → 0 * m₄ + s * (0 * m₃ + s * (a * m₂ + s * (b * m₁ + s * c))) ≡ ev (0 ∷ 0 ∷ a * m₂ ∷ b * m₁ ∷ c ∷ []) s
 nested a b c m₁ m₂ m₃ m₄ s = omega arith
 
-bend-below : (s : ℕ) → s < 2 ^ 32 → Below (bendOf s) 193 (ev bent s) (2 ^ 142)
-bend-below s h =
+remainder-below : (s : ℕ) → s < 2 ^ 32 → Below (remainderOf s) 193 (ev bent s) (2 ^ 142)
+remainder-below s h =
     let b₁ = term 715827883 (2 ^ 42) s 178956971 0 0 178956971 1 (pow-pos 42) (omega arith) (start 178956971) in
     let b₂ = term 2147483648 (2 ^ 42) s (termOf 715827883 42 s 178956971) 1 1 _ _ (pow-pos 42) (omega arith) b₁ in
     let b₃ = term 0 (2 ^ 32) s (tailOf s) 2 2 _ _ (pow-pos 32) (omega arith) b₂ in
     let b₃' = subst (λ (z : ℕ). Below z 3 (0 * (1 * 2 ^ 42 * 2 ^ 42 * 2 ^ 32) + s * (2147483648 * (1 * 2 ^ 42 * 2 ^ 42) + s * (715827883 * (1 * 2 ^ 42) + s * 178956971))) (1 * 2 ^ 42 * 2 ^ 42 * 2 ^ 32)) (zero-add (s * tailOf s / 2 ^ 32)) b₃ in
     let b₄ = term 0 (2 ^ 26) s (s * tailOf s / 2 ^ 32) 3 192 _ _ (pow-pos 26) (omega arith) b₃' in
-    subst (λ (z : ℕ). Below z 193 (ev bent s) (2 ^ 142)) (zero-add (bendOf s))
-    (subst (λ (z : ℕ). Below (0 + bendOf s) 193 z (2 ^ 142)) (nested 2147483648 715827883 178956971 (1 * 2 ^ 42) (1 * 2 ^ 42 * 2 ^ 42) (1 * 2 ^ 42 * 2 ^ 42 * 2 ^ 32) (1 * 2 ^ 42 * 2 ^ 42 * 2 ^ 32 * 2 ^ 26) s) b₄)
+    subst (λ (z : ℕ). Below z 193 (ev bent s) (2 ^ 142)) (zero-add (remainderOf s))
+    (subst (λ (z : ℕ). Below (0 + remainderOf s) 193 z (2 ^ 142)) (nested 2147483648 715827883 178956971 (1 * 2 ^ 42) (1 * 2 ^ 42 * 2 ^ 42) (1 * 2 ^ 42 * 2 ^ 42 * 2 ^ 32) (1 * 2 ^ 42 * 2 ^ 42 * 2 ^ 32 * 2 ^ 26) s) b₄)
 
 -- the bend in all: L * y is at most L above the terms, and they at most 259 * L above it
-bend-close : (d : ℕ) → d < 2 ^ 48 → (slice * bendOf (d / 2 ^ 16) ≤ ev bends d + slice) × (ev bends d ≤ slice * (bendOf (d / 2 ^ 16) + 259))
-bend-close d h =
-    let y = bendOf (d / 2 ^ 16) in
-    let c = cut-close bends bent (2 ^ 16) (2 ^ 32) slice 1 (2 ^ 142) 193 1 65 y d (pow-pos 16) (pow-pos 142) h (bend-below (d / 2 ^ 16) (omega arith))
+remainder-close : (d : ℕ) → d < 2 ^ 48 → (slice * remainderOf (d / 2 ^ 16) ≤ ev bends d + slice) × (ev bends d ≤ slice * (remainderOf (d / 2 ^ 16) + 259))
+remainder-close d h =
+    let y = remainderOf (d / 2 ^ 16) in
+    let c = cut-close bends bent (2 ^ 16) (2 ^ 32) slice 1 (2 ^ 142) 193 1 65 y d (pow-pos 16) (pow-pos 142) h (remainder-below (d / 2 ^ 16) (omega arith))
     (leb→le (gap (times (2 ^ 142) (dilate (2 ^ 16) 1 bends)) (times (slice * 1) bent) (2 ^ 32)) (2 ^ 142 * (1 * slice)) tt) (leb→le (2 ^ 16 * slope bends (2 ^ 48)) (65 * slice) tt) in
     (low slice y (ev bends d) (c .0), top slice y (ev bends d) (c .1))
   where
@@ -56,12 +56,12 @@ bend-close d h =
 short-split : (a b c e f d : ℕ) → a + d * (b + d * (c + d * (e + d * (f + d * 0)))) ≡ a + d * b + (0 + d * (0 + d * (c + d * (e + d * (f + d * 0)))))
 short-split a b c e f d = omega arith
 
--- with g = d + bendOf (d / 2 ^ 16), the short series is W + L * g, at most L too small and 259 * L too large
-short-close : (d : ℕ) → d < 2 ^ 48 → (whole + slice * (d + bendOf (d / 2 ^ 16)) ≤ ev short d + slice) × (ev short d ≤ whole + slice * (d + bendOf (d / 2 ^ 16) + 259))
+-- with g = d + remainderOf (d / 2 ^ 16), the short series is W + L * g, at most L too small and 259 * L too large
+short-close : (d : ℕ) → d < 2 ^ 48 → (whole + slice * (d + remainderOf (d / 2 ^ 16)) ≤ ev short d + slice) × (ev short d ≤ whole + slice * (d + remainderOf (d / 2 ^ 16) + 259))
 short-close d h =
     let e : ev short d ≡ whole + d * slice + ev bends d = short-split whole slice (1216451004088320000 * (2 ^ 58) ^ 18) (405483668029440000 * (2 ^ 58) ^ 17) (101370917007360000 * (2 ^ 58) ^ 16) d in
-    let b = bend-close d h in
-    (low (ev short d) whole slice d (bendOf (d / 2 ^ 16)) (ev bends d) e (b .0), top (ev short d) whole slice d (bendOf (d / 2 ^ 16)) (ev bends d) e (b .1))
+    let b = remainder-close d h in
+    (low (ev short d) whole slice d (remainderOf (d / 2 ^ 16)) (ev bends d) e (b .0), top (ev short d) whole slice d (remainderOf (d / 2 ^ 16)) (ev bends d) e (b .1))
   where
     low : (S W L d y A : ℕ) → S ≡ W + d * L + A → L * y ≤ A + L → W + L * (d + y) ≤ S + L
     low S W L d y A e b = omega arith
@@ -71,9 +71,9 @@ short-close d h =
 
 -- ---- c + c * p
 
--- F, by which grownOf exceeds c: p * (c / 2 ^ 16) / 2 ^ 35
-grown-by : (c p : ℕ) → (((p * (c / 2 ^ 38) + p * (c / 2 ^ 16 % 2 ^ 22) / 2 ^ 22) / 2 ^ 13) * 2 ^ 35 ≤ p * (c / 2 ^ 16)) × (p * (c / 2 ^ 16) < ((p * (c / 2 ^ 38) + p * (c / 2 ^ 16 % 2 ^ 22) / 2 ^ 22) / 2 ^ 13) * 2 ^ 35 + 2 ^ 35)
-grown-by c p =
+-- F, by which compoundedOf exceeds c: p * (c / 2 ^ 16) / 2 ^ 35
+compounded-by : (c p : ℕ) → (((p * (c / 2 ^ 38) + p * (c / 2 ^ 16 % 2 ^ 22) / 2 ^ 22) / 2 ^ 13) * 2 ^ 35 ≤ p * (c / 2 ^ 16)) × (p * (c / 2 ^ 16) < ((p * (c / 2 ^ 38) + p * (c / 2 ^ 16 % 2 ^ 22) / 2 ^ 22) / 2 ^ 13) * 2 ^ 35 + 2 ^ 35)
+compounded-by c p =
     let e : c / 2 ^ 38 * 2 ^ 22 + c / 2 ^ 16 % 2 ^ 22 ≡ c / 2 ^ 16 = ap (λ (z : ℕ). z * 2 ^ 22 + c / 2 ^ 16 % 2 ^ 22) (sym (shr-shr c 16 22)) ∙ div-add-mod' (c / 2 ^ 16) (2 ^ 22) in
     parts p (c / 2 ^ 16) (c / 2 ^ 38) (c / 2 ^ 16 % 2 ^ 22) (ap (λ (z : ℕ). p * z) e)
   where
@@ -87,13 +87,13 @@ grown-by c p =
         (le-trans (n .0) (le-of-eq f), subst (λ (z : ℕ). z < ((p * u + p * v / 2 ^ 22) / 2 ^ 13) * 2 ^ 35 + 2 ^ 35) f (n .1))
 
 -- c * g lies at or above F * 2 ^ 58, by at most 2 ^ 68
-grown-close : (c g : ℕ) → c ≤ 808000000000000000 → g / 2 ^ 7 ≤ 2200097350000
-    → ((grownOf c (g / 2 ^ 7) - c) * 2 ^ 58 ≤ c * g) × (c * g ≤ (grownOf c (g / 2 ^ 7) - c) * 2 ^ 58 + 2 ^ 68)
-grown-close c g h k =
+compounded-close : (c g : ℕ) → c ≤ 808000000000000000 → g / 2 ^ 7 ≤ 2200097350000
+    → ((compoundedOf c (g / 2 ^ 7) - c) * 2 ^ 58 ≤ c * g) × (c * g ≤ (compoundedOf c (g / 2 ^ 7) - c) * 2 ^ 58 + 2 ^ 68)
+compounded-close c g h k =
     let p = g / 2 ^ 7 in
     let F = (p * (c / 2 ^ 38) + p * (c / 2 ^ 16 % 2 ^ 22) / 2 ^ 22) / 2 ^ 13 in
-    let e : grownOf c p - c ≡ F = cancel c F in
-    let b = grown-by c p in
+    let e : compoundedOf c p - c ≡ F = cancel c F in
+    let b = compounded-by c p in
     let x = low c g F p (c / 2 ^ 16) (c / 2 ^ 16 * 2 ^ 16) (b .0) (omega arith) (omega arith) (omega arith) in
     let y = top c g F p (c / 2 ^ 16) (c % 2 ^ 16) (g % 2 ^ 7) (b .1) (sym (div-add-mod' c (2 ^ 16))) (sym (div-add-mod' g (2 ^ 7))) h k (mod-lt c (pow-pos 16)) (mod-lt g (pow-pos 7)) in
     subst (λ (z : ℕ). (z * 2 ^ 58 ≤ c * g) × (c * g ≤ z * 2 ^ 58 + 2 ^ 68)) (sym e) (x, y)
@@ -123,15 +123,15 @@ rise-low : (L c G F H : ℕ) → L * 2 ^ 58 + L * G ≤ H + L → F * 2 ^ 58 ≤
 rise-low L c G F H a b d = omega (arith, mul-le-mul-left c a, mul-le-mul-left L b, mul-le-mul-left L d)
 
 module _ (c d : ℕ) (h : d < 2 ^ 48) (k : c ≤ 808000000000000000) where
-  growth-le : growthOf d ≤ 2200097350000
-  growth-le = omega (arith, bend-product d h)
+  expm1-le : expm1Of d ≤ 2200097350000
+  expm1-le = omega (arith, remainder-product d h)
 
-  by-short : (c * ev short d ≤ (grownOf c (growthOf d) + 1801) * whole) × (grownOf c (growthOf d) * whole ≤ c * ev short d + 3 * whole)
+  by-short : (c * ev short d ≤ (compoundedOf c (expm1Of d) + 1801) * whole) × (compoundedOf c (expm1Of d) * whole ≤ c * ev short d + 3 * whole)
   by-short =
-      let G = d + bendOf (d / 2 ^ 16) in
-      let K = grownOf c (growthOf d) in
+      let G = d + remainderOf (d / 2 ^ 16) in
+      let K = compoundedOf c (expm1Of d) in
       let s = short-close d h in
-      let g = grown-close c G k growth-le in
+      let g = compounded-close c G k expm1-le in
       let e : c + (K - c) ≡ K = back c _ in (
         subst (λ (z : ℕ). c * ev short d ≤ (z + 1801) * whole) e (rise-up slice c G (K - c) (ev short d) (s .1) (g .1) k),
         subst (λ (z : ℕ). z * whole ≤ c * ev short d + 3 * whole) e (rise-low slice c G (K - c) (ev short d) (s .0) (g .0) k),
@@ -201,8 +201,8 @@ kernel-lt t h =
     let c = highOf (getD coarse (t / 2 ^ 53) 0) (getD fine (t / 2 ^ 48 % 32) 0) in
     let d = t % 2 ^ 48 in
     let k = high-le (coarse-le (t / 2 ^ 53)) (fine-le (t / 2 ^ 48 % 32)) in
-    let g = growth-le c d (mod-lt t (pow-pos 48)) k in
-    small c (growthOf d) k g
+    let g = expm1-le c d (mod-lt t (pow-pos 48)) k in
+    small c (expm1Of d) k g
   where
-    small : (c p : ℕ) → c ≤ 808000000000000000 → p ≤ 2200097350000 → grownOf c p < 2 ^ 60
+    small : (c p : ℕ) → c ≤ 808000000000000000 → p ≤ 2200097350000 → compoundedOf c p < 2 ^ 60
     small c p k g = omega (arith, upper-le c p k g, lower-le c p k g)

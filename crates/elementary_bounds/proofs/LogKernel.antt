@@ -8,26 +8,26 @@ use lib.Dec.{T, leb, leb→le}
 use lib.Pow.{pow-pos, shr-shr}
 use Rattle.elementary_bounds.specs.Series.{ev}
 use Rattle.fixed_point.specs.Fixed.{termOf}
-use Rattle.natural_logarithm.specs.Log.{leanOf, squareOf, slipOf}
+use Rattle.natural_logarithm.specs.Log.{tailOf, squareOf, log1mOf}
 use Rattle.fixed_point.proofs.Product.{below-mul}
 use Rattle.elementary_bounds.proofs.Series.{times, gap, slope, dilate, Below, start, term, cut-close}
-use Rattle.natural_logarithm.proofs.LogBound.{s-le, lean-le, square-le}
-use Rattle.elementary_bounds.proofs.LogSeries.{leans, slips}
+use Rattle.natural_logarithm.proofs.LogBound.{s-le, tail-le, square-le}
+use Rattle.elementary_bounds.proofs.LogSeries.{tails, log1ms}
 
 -- ---- 1 / 2 + z / 3 + .. + z ^ 5 / 7, cut down
 
--- the exact polynomial that leanOf cuts down, over 2 ^ 190
+-- the exact polynomial that tailOf cuts down, over 2 ^ 190
 abbrev nests : List ℕ
 nests = 4294967296 * 2 ^ 190 ∷ 2863311530 * 2 ^ 152 ∷ 2147483648 * 2 ^ 114 ∷ 1717986918 * 2 ^ 76 ∷ 1431655765 * 2 ^ 38 ∷ 1227133513 ∷ []
 
-lean-below : (s : ℕ) → s ≤ 2355575561 → Below (leanOf s) 2 (ev nests s) (2 ^ 190)
-lean-below s h =
+tail-below : (s : ℕ) → s ≤ 2355575561 → Below (tailOf s) 2 (ev nests s) (2 ^ 190)
+tail-below s h =
     let b₁ = term 1431655765 (2 ^ 38) s 1227133513 0 0 1227133513 1 (pow-pos 38) (none s) (start 1227133513) in
     let b₂ = term 1717986918 (2 ^ 38) s (termOf 1431655765 38 s 1227133513) 1 1 _ _ (pow-pos 38) (omega arith) b₁ in
     let b₃ = term 2147483648 (2 ^ 38) s (termOf 1717986918 38 s (termOf 1431655765 38 s 1227133513)) 2 1 _ _ (pow-pos 38) (omega arith) b₂ in
     let b₄ = term 2863311530 (2 ^ 38) s (termOf 2147483648 38 s (termOf 1717986918 38 s (termOf 1431655765 38 s 1227133513))) 2 1 _ _ (pow-pos 38) (omega arith) b₃ in
     let b₅ = term 4294967296 (2 ^ 38) s (termOf 2863311530 38 s (termOf 2147483648 38 s (termOf 1717986918 38 s (termOf 1431655765 38 s 1227133513)))) 2 1 _ _ (pow-pos 38) (omega arith) b₄ in
-    subst (λ (z : ℕ). Below (leanOf s) 2 z (2 ^ 190)) (nested s 4294967296 2863311530 2147483648 1717986918 1431655765 1227133513 (2 ^ 190) (2 ^ 152) (2 ^ 114) (2 ^ 76) (2 ^ 38)) b₅
+    subst (λ (z : ℕ). Below (tailOf s) 2 z (2 ^ 190)) (nested s 4294967296 2863311530 2147483648 1717986918 1431655765 1227133513 (2 ^ 190) (2 ^ 152) (2 ^ 114) (2 ^ 76) (2 ^ 38)) b₅
   where
     none : (s : ℕ) → s * 0 ≤ 0 * 2 ^ 38
     none s = omega arith
@@ -50,18 +50,18 @@ module _ (Z : ℕ) (h : Z / 16 ≤ 2470000000000000) where
   q = squareOf s l
 
   abbrev y : ℕ
-  y = leanOf s
+  y = tailOf s
 
   s-is : Z / 2 ^ 24 ≡ s
   s-is = sym (shr-shr Z 4 20)
 
-  -- in units of 1 / 64 of leanOf's own
-  lean-close : (420 * 2 ^ 271 * (64 * y) ≤ ev leans Z + 1 * (420 * 2 ^ 271)) × (ev leans Z ≤ 420 * 2 ^ 271 * (64 * y + 130))
-  lean-close =
-      cut-close leans nests (2 ^ 24) 2355575562 (420 * 2 ^ 271) 64 (2 ^ 190) 2 1 1 y Z (pow-pos 24) (pow-pos 190) (small Z h)
-      (subst (λ (u : ℕ). Below y 2 (ev nests u) (2 ^ 190)) (sym s-is) (lean-below s (s-le z h)))
-      (leb→le (gap (times (2 ^ 190) (dilate (2 ^ 24) 1 leans)) (times (420 * 2 ^ 271 * 64) nests) 2355575562) (2 ^ 190 * (1 * (420 * 2 ^ 271))) tt)
-      (leb→le (2 ^ 24 * slope leans (2355575562 * 2 ^ 24)) (1 * (420 * 2 ^ 271)) tt)
+  -- in units of 1 / 64 of tailOf's own
+  tail-close : (420 * 2 ^ 271 * (64 * y) ≤ ev tails Z + 1 * (420 * 2 ^ 271)) × (ev tails Z ≤ 420 * 2 ^ 271 * (64 * y + 130))
+  tail-close =
+      cut-close tails nests (2 ^ 24) 2355575562 (420 * 2 ^ 271) 64 (2 ^ 190) 2 1 1 y Z (pow-pos 24) (pow-pos 190) (small Z h)
+      (subst (λ (u : ℕ). Below y 2 (ev nests u) (2 ^ 190)) (sym s-is) (tail-below s (s-le z h)))
+      (leb→le (gap (times (2 ^ 190) (dilate (2 ^ 24) 1 tails)) (times (420 * 2 ^ 271 * 64) nests) 2355575562) (2 ^ 190 * (1 * (420 * 2 ^ 271))) tt)
+      (leb→le (2 ^ 24 * slope tails (2355575562 * 2 ^ 24)) (1 * (420 * 2 ^ 271)) tt)
     where
       small : (Z : ℕ) → Z / 16 ≤ 2470000000000000 → Z < 2355575562 * 2 ^ 24
       small Z h = omega arith
@@ -109,14 +109,14 @@ module _ (Z : ℕ) (h : Z / 16 ≤ 2470000000000000) where
 
   -- ---- both, over 420 * 2 ^ 376, and then over 420 * 2 ^ 434
 
-  pub slip-close : (420 * 2 ^ 434 * slipOf z ≤ 2 ^ 58 * ev slips Z + 39 * (420 * 2 ^ 434)) × (2 ^ 58 * ev slips Z ≤ 420 * 2 ^ 434 * (slipOf z + 9140))
-  slip-close =
+  pub log1m-close : (420 * 2 ^ 434 * log1mOf z ≤ 2 ^ 58 * ev log1ms Z + 39 * (420 * 2 ^ 434)) × (2 ^ 58 * ev log1ms Z ≤ 420 * 2 ^ 434 * (log1mOf z + 9140))
+  log1m-close =
       let F = q * y / 2 ^ 20 in
-      let X = ev leans Z in (
-        lift-low (2 ^ 58) (420 * 2 ^ 376) (slipOf z) (ev slips Z)
-            (low-end (420 * 2 ^ 350) Z z q y F X (cut (q * y) .0) (first-low Z) (low-product (420 * 2 ^ 271) (2 ^ 79) Z q y X square-low (lean-close .0)) (square-le z h)),
-        lift-top (2 ^ 58) (420 * 2 ^ 376) (slipOf z) (ev slips Z)
-            (top-end (420 * 2 ^ 333) Z z q y F X (cut (q * y) .1) (first-top Z) (top-product (420 * 2 ^ 271) (2 ^ 62) Z q y X square-up (lean-close .1)) (square-le z h) (lean-le s (s-le z h))),
+      let X = ev tails Z in (
+        lift-low (2 ^ 58) (420 * 2 ^ 376) (log1mOf z) (ev log1ms Z)
+            (low-end (420 * 2 ^ 350) Z z q y F X (cut (q * y) .0) (first-low Z) (low-product (420 * 2 ^ 271) (2 ^ 79) Z q y X square-low (tail-close .0)) (square-le z h)),
+        lift-top (2 ^ 58) (420 * 2 ^ 376) (log1mOf z) (ev log1ms Z)
+            (top-end (420 * 2 ^ 333) Z z q y F X (cut (q * y) .1) (first-top Z) (top-product (420 * 2 ^ 271) (2 ^ 62) Z q y X square-up (tail-close .1)) (square-le z h) (tail-le s (s-le z h))),
       )
     where
       cut : (x : ℕ) → (x / 2 ^ 20 * 2 ^ 20 ≤ x) × (x ≤ x / 2 ^ 20 * 2 ^ 20 + 2 ^ 20)

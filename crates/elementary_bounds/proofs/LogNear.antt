@@ -8,11 +8,11 @@ use lib.Dec.{T, leb, leb→le}
 use lib.ListN.{getD}
 use lib.Pow.{pow-pos}
 use Rattle.elementary_bounds.specs.Series.{ev, homogeneous, logSeries, NearLog}
-use Rattle.natural_logarithm.specs.Log.{reciprocals, logarithms, slipOf, shortOf, withinOf}
+use Rattle.natural_logarithm.specs.Log.{reciprocals, logarithms, log1mOf, shortOf, withinOf}
 use Rattle.elementary_bounds.proofs.Series.{shift, shift-is, times, times-is, plus, plus-is, dilate, dilate-is, ev-mono}
-use Rattle.natural_logarithm.proofs.LogBound.{Inside, reciprocals-inside, short-le, slip-le}
-use Rattle.elementary_bounds.proofs.LogSeries.{Balanced, upper, lowerAdding, lowerTaking, single, moved-is, slips, units, slipAt, entryAt, turnAt, allowance, upper-fits, lower-fits}
-use Rattle.elementary_bounds.proofs.LogKernel.{slip-close}
+use Rattle.natural_logarithm.proofs.LogBound.{Inside, reciprocals-inside, short-le, log1m-le}
+use Rattle.elementary_bounds.proofs.LogSeries.{Balanced, upper, lowerAdding, lowerTaking, single, moved-is, log1ms, units, log1mAt, entryAt, turnAt, allowance, upper-fits, lower-fits}
+use Rattle.elementary_bounds.proofs.LogKernel.{log1m-close}
 use Rattle.elementary_bounds.proofs.LogSum.{upper-is, lower-is}
 
 -- ---- from the pieces to the digits. M is 420 * 2 ^ 434, P is 2 ^ 58, c is 166966608033225, b is (y + 1) ^ 39, S, A and O the series' parts, E the exact slip and k the code's
@@ -58,7 +58,7 @@ module _ (t : ℕ) (h : t < 2 ^ 52) where
   Z = 2 ^ 62 - (t + 2 ^ 52) * r
 
   abbrev k : ℕ
-  k = slipOf (shortOf t r)
+  k = log1mOf (shortOf t r)
 
   i-lt : i < 128
   i-lt = omega arith
@@ -75,10 +75,10 @@ module _ (t : ℕ) (h : t < 2 ^ 52) where
       short : (t : ℕ) → suc (t / 2 ^ 45) * 2 ^ 45 - t ≤ 2 ^ 45
       short t = omega arith
 
-  slip-at : ev (slipAt i) v ≡ 2 ^ 58 * 166966608033225 * ev slips Z
-  slip-at =
-      times-is (2 ^ 58 * 166966608033225) (dilate r 1 (shift (2 ^ 62 - (suc i * 2 ^ 45 + 2 ^ 52) * r) slips)) v
-      ∙ ap (λ (z : ℕ). 2 ^ 58 * 166966608033225 * z) (dilate-is r 1 (shift (2 ^ 62 - (suc i * 2 ^ 45 + 2 ^ 52) * r) slips) v ∙ once (ev (shift (2 ^ 62 - (suc i * 2 ^ 45 + 2 ^ 52) * r) slips) (v * r)) ∙ shift-is (2 ^ 62 - (suc i * 2 ^ 45 + 2 ^ 52) * r) slips (v * r) ∙ ap (ev slips) (back (suc i * 2 ^ 45) t v r v-is (ends (suc i * 2 ^ 45) r (reciprocals-inside i i-lt .0))))
+  log1m-at : ev (log1mAt i) v ≡ 2 ^ 58 * 166966608033225 * ev log1ms Z
+  log1m-at =
+      times-is (2 ^ 58 * 166966608033225) (dilate r 1 (shift (2 ^ 62 - (suc i * 2 ^ 45 + 2 ^ 52) * r) log1ms)) v
+      ∙ ap (λ (z : ℕ). 2 ^ 58 * 166966608033225 * z) (dilate-is r 1 (shift (2 ^ 62 - (suc i * 2 ^ 45 + 2 ^ 52) * r) log1ms) v ∙ once (ev (shift (2 ^ 62 - (suc i * 2 ^ 45 + 2 ^ 52) * r) log1ms) (v * r)) ∙ shift-is (2 ^ 62 - (suc i * 2 ^ 45 + 2 ^ 52) * r) log1ms (v * r) ∙ ap (ev log1ms) (back (suc i * 2 ^ 45) t v r v-is (ends (suc i * 2 ^ 45) r (reciprocals-inside i i-lt .0))))
     where
       once : (n : ℕ) → 1 * n ≡ n
       once n = omega arith
@@ -95,14 +95,14 @@ module _ (t : ℕ) (h : t < 2 ^ 52) where
       low : (c t : ℕ) → c + t / 2 ^ 45 * 2 ^ 45 ≤ c + t
       low c t = omega arith
 
-  close : (420 * 2 ^ 434 * k ≤ 2 ^ 58 * ev slips Z + 39 * (420 * 2 ^ 434)) × (2 ^ 58 * ev slips Z ≤ 420 * 2 ^ 434 * (k + 9140))
-  close = slip-close Z (short-le t h)
+  close : (420 * 2 ^ 434 * k ≤ 2 ^ 58 * ev log1ms Z + 39 * (420 * 2 ^ 434)) × (2 ^ 58 * ev log1ms Z ≤ 420 * 2 ^ 434 * (k + 9140))
+  close = log1m-close Z (short-le t h)
 
   M-pos : 0 < 420 * 2 ^ 434
   M-pos = leb→le 1 (420 * 2 ^ 434) tt
 
   cuts : (32 * withinOf t + k ≤ entry + 2 ^ 58) × (entry + 2 ^ 58 ≤ 32 * withinOf t + 32 + k)
-  cuts = cut-in entry k (slip-le (shortOf t r) (short-le t h))
+  cuts = cut-in entry k (log1m-le (shortOf t r) (short-le t h))
 
   -- (y + 1) ^ 39 over 166966608033225, for y = 1 + t / 2 ^ 52 and for half of that
   abbrev pub upperUnit : ℕ
@@ -116,14 +116,14 @@ module _ (t : ℕ) (h : t < 2 ^ 52) where
   upper-near =
       let S = ev (homogeneous (2 ^ 53) upper) t in
       let b = ev (shift (2 ^ 53) (single 39)) t in
-      let f = subst (λ (j : ℕ). Balanced (420 * 2 ^ 492) (homogeneous (2 ^ 53) upper) [] (shift (2 ^ 53) (single 39)) (slipAt j) (entryAt j) t v (allowance (2 ^ 53) j)) (zero-add i) (upper-fits i i-lt t v (v-is ∙ ap (λ (j : ℕ). suc j * 2 ^ 45) (sym (zero-add i))) v-le) in
-      let f' = subst (λ (z : ℕ). (420 * 2 ^ 492 * S + b * z ≤ 420 * 2 ^ 492 * 0 + b * (units * entry + v * 0) + allowance (2 ^ 53) i) × (420 * 2 ^ 492 * 0 + b * (units * entry + v * 0) ≤ 420 * 2 ^ 492 * S + b * z + allowance (2 ^ 53) i)) slip-at f in
+      let f = subst (λ (j : ℕ). Balanced (420 * 2 ^ 492) (homogeneous (2 ^ 53) upper) [] (shift (2 ^ 53) (single 39)) (log1mAt j) (entryAt j) t v (allowance (2 ^ 53) j)) (zero-add i) (upper-fits i i-lt t v (v-is ∙ ap (λ (j : ℕ). suc j * 2 ^ 45) (sym (zero-add i))) v-le) in
+      let f' = subst (λ (z : ℕ). (420 * 2 ^ 492 * S + b * z ≤ 420 * 2 ^ 492 * 0 + b * (units * entry + v * 0) + allowance (2 ^ 53) i) × (420 * 2 ^ 492 * 0 + b * (units * entry + v * 0) ≤ 420 * 2 ^ 492 * S + b * z + allowance (2 ^ 53) i)) log1m-at f in
       upper-cut upperUnit S entry k (withinOf t) (cuts .0) (cuts .1)
-      (le-of-mul-le-mul-left (upper-up (2 ^ 58) (420 * 2 ^ 434) 166966608033225 b S entry k (ev slips Z) v (allowance (2 ^ 53) i) (f' .0) (allowed (2 ^ 53)) (close .0)) M-pos)
-      (le-of-mul-le-mul-left (upper-low (2 ^ 58) (420 * 2 ^ 434) 166966608033225 b S entry k (ev slips Z) v (allowance (2 ^ 53) i) (f' .1) (allowed (2 ^ 53)) (close .1)) M-pos)
+      (le-of-mul-le-mul-left (upper-up (2 ^ 58) (420 * 2 ^ 434) 166966608033225 b S entry k (ev log1ms Z) v (allowance (2 ^ 53) i) (f' .0) (allowed (2 ^ 53)) (close .0)) M-pos)
+      (le-of-mul-le-mul-left (upper-low (2 ^ 58) (420 * 2 ^ 434) 166966608033225 b S entry k (ev log1ms Z) v (allowance (2 ^ 53) i) (f' .1) (allowed (2 ^ 53)) (close .1)) M-pos)
 
-  turn-at : ev (turnAt i) v ≡ units * (32 * 6243314768165359) + v * 0 + 2 ^ 58 * 166966608033225 * ev slips Z
-  turn-at = plus-is (units * (32 * 6243314768165359) ∷ []) (slipAt i) v ∙ ap (λ (z : ℕ). units * (32 * 6243314768165359) + v * 0 + z) slip-at
+  turn-at : ev (turnAt i) v ≡ units * (32 * 6243314768165359) + v * 0 + 2 ^ 58 * 166966608033225 * ev log1ms Z
+  turn-at = plus-is (units * (32 * 6243314768165359) ∷ []) (log1mAt i) v ∙ ap (λ (z : ℕ). units * (32 * 6243314768165359) + v * 0 + z) log1m-at
 
   -- and so for half of it, below 0
   pub lower-near : (2 ^ 53 * ev (homogeneous (2 ^ 52) lowerAdding) t + withinOf t * lowerUnit ≤ 2 ^ 53 * ev (homogeneous (2 ^ 52) lowerTaking) t + (6243314768165359 + 2 ^ 53 + 512) * lowerUnit)
@@ -135,8 +135,8 @@ module _ (t : ℕ) (h : t < 2 ^ 52) where
       let f = subst (λ (j : ℕ). Balanced (420 * 2 ^ 492) (homogeneous (2 ^ 52) lowerAdding) (homogeneous (2 ^ 52) lowerTaking) (shift (3 * 2 ^ 52) (single 39)) (entryAt j) (turnAt j) t v (allowance (3 * 2 ^ 52) j)) (zero-add i) (lower-fits i i-lt t v (v-is ∙ ap (λ (j : ℕ). suc j * 2 ^ 45) (sym (zero-add i))) v-le) in
       let f' = subst (λ (z : ℕ). (420 * 2 ^ 492 * A + b * (units * entry + v * 0) ≤ 420 * 2 ^ 492 * O + b * z + allowance (3 * 2 ^ 52) i) × (420 * 2 ^ 492 * O + b * z ≤ 420 * 2 ^ 492 * A + b * (units * entry + v * 0) + allowance (3 * 2 ^ 52) i)) turn-at f in
       lower-cut lowerUnit A O entry 6243314768165359 k (withinOf t) (cuts .0) (cuts .1)
-      (le-of-mul-le-mul-left (lower-up (2 ^ 58) (420 * 2 ^ 434) 166966608033225 b A O entry (32 * 6243314768165359) k (ev slips Z) v (allowance (3 * 2 ^ 52) i) (f' .0) (allowed (3 * 2 ^ 52)) (close .1)) M-pos)
-      (le-of-mul-le-mul-left (lower-low (2 ^ 58) (420 * 2 ^ 434) 166966608033225 b A O entry (32 * 6243314768165359) k (ev slips Z) v (allowance (3 * 2 ^ 52) i) (f' .1) (allowed (3 * 2 ^ 52)) (close .0)) M-pos)
+      (le-of-mul-le-mul-left (lower-up (2 ^ 58) (420 * 2 ^ 434) 166966608033225 b A O entry (32 * 6243314768165359) k (ev log1ms Z) v (allowance (3 * 2 ^ 52) i) (f' .0) (allowed (3 * 2 ^ 52)) (close .1)) M-pos)
+      (le-of-mul-le-mul-left (lower-low (2 ^ 58) (420 * 2 ^ 434) 166966608033225 b A O entry (32 * 6243314768165359) k (ev log1ms Z) v (allowance (3 * 2 ^ 52) i) (f' .1) (allowed (3 * 2 ^ 52)) (close .0)) M-pos)
 
   -- ---- the same by the series' own terms
 

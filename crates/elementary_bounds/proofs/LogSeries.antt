@@ -102,26 +102,26 @@ pub moved-is : (c n u : ℕ) → ev (shift c (single n)) u ≡ (c + u) ^ n
 moved-is c n u = shift-is c (single n) u ∙ single-is n (c + u)
 
 -- 1 / 2 + z / 3 + .. + z ^ 5 / 7 for z in units of 2 ^ -62, over 420 * 2 ^ 310; and z + z ^ 2 / 2 + .. + z ^ 7 / 7, over 420 * 2 ^ 434
-abbrev pub leans : List ℕ
-leans = 210 * 2 ^ 310 ∷ 140 * 2 ^ 248 ∷ 105 * 2 ^ 186 ∷ 84 * 2 ^ 124 ∷ 70 * 2 ^ 62 ∷ 60 ∷ []
+abbrev pub tails : List ℕ
+tails = 210 * 2 ^ 310 ∷ 140 * 2 ^ 248 ∷ 105 * 2 ^ 186 ∷ 84 * 2 ^ 124 ∷ 70 * 2 ^ 62 ∷ 60 ∷ []
 
-abbrev pub slips : List ℕ
-slips = 0 ∷ 420 * 2 ^ 372 ∷ leans
+abbrev pub log1ms : List ℕ
+log1ms = 0 ∷ 420 * 2 ^ 372 ∷ tails
 
 -- 420 * 2 ^ 434 * 166966608033225
 abbrev pub units : ℕ
 units = 420 * 2 ^ 434 * 166966608033225
 
 -- 2 ^ 58 times the slip at z = 2 ^ 62 - y r, about the piece's upper end
-abbrev pub slipAt : ℕ → List ℕ
-slipAt i = times (2 ^ 58 * 166966608033225) (dilate (getD reciprocals i 0) 1 (shift (2 ^ 62 - (suc i * 2 ^ 45 + 2 ^ 52) * getD reciprocals i 0) slips))
+abbrev pub log1mAt : ℕ → List ℕ
+log1mAt i = times (2 ^ 58 * 166966608033225) (dilate (getD reciprocals i 0) 1 (shift (2 ^ 62 - (suc i * 2 ^ 45 + 2 ^ 52) * getD reciprocals i 0) log1ms))
 
 abbrev pub entryAt : ℕ → List ℕ
 entryAt i = units * getD logarithms i 0 ∷ []
 
 -- log 2, and the slip
 abbrev pub turnAt : ℕ → List ℕ
-turnAt i = plus (units * (32 * 6243314768165359) ∷ []) (slipAt i)
+turnAt i = plus (units * (32 * 6243314768165359) ∷ []) (log1mAt i)
 
 -- 16 units of 2 ^ -58
 abbrev pub allowance : ℕ → ℕ → ℕ
@@ -129,7 +129,7 @@ allowance c i = 16 * units * ev (single 39) (c + i * 2 ^ 45)
 
 -- in units of 2 ^ -58: from 1 to 2 the series is the entry less the slip, and from 1 / 2 to 1 it is below 0 by log 2 and the slip less the entry
 abbrev upperFits : ℕ → ℕ → Bool
-upperFits n i = fittingPieces (420 * 2 ^ 492) (2 ^ 45) (homogeneous (2 ^ 53) upper) [] (shift (2 ^ 53) (single 39)) slipAt entryAt (allowance (2 ^ 53)) n i
+upperFits n i = fittingPieces (420 * 2 ^ 492) (2 ^ 45) (homogeneous (2 ^ 53) upper) [] (shift (2 ^ 53) (single 39)) log1mAt entryAt (allowance (2 ^ 53)) n i
 
 abbrev lowerFits : ℕ → ℕ → Bool
 lowerFits n i = fittingPieces (420 * 2 ^ 492) (2 ^ 45) (homogeneous (2 ^ 52) lowerAdding) (homogeneous (2 ^ 52) lowerTaking) (shift (3 * 2 ^ 52) (single 39)) entryAt turnAt (allowance (3 * 2 ^ 52)) n i
@@ -143,8 +143,8 @@ unfolding reciprocals logarithms
 lower-test = tt
 
 pub upper-fits : (i : ℕ) → i < 128 → (x v : ℕ) → x + v ≡ suc (0 + i) * 2 ^ 45 → v ≤ 2 ^ 45
-    → Balanced (420 * 2 ^ 492) (homogeneous (2 ^ 53) upper) [] (shift (2 ^ 53) (single 39)) (slipAt (0 + i)) (entryAt (0 + i)) x v (allowance (2 ^ 53) (0 + i))
-upper-fits i h x v e u = fitted-pieces (420 * 2 ^ 492) (2 ^ 45) (homogeneous (2 ^ 53) upper) [] (shift (2 ^ 53) (single 39)) slipAt entryAt (allowance (2 ^ 53)) 128 0 upper-test i h x v e u
+    → Balanced (420 * 2 ^ 492) (homogeneous (2 ^ 53) upper) [] (shift (2 ^ 53) (single 39)) (log1mAt (0 + i)) (entryAt (0 + i)) x v (allowance (2 ^ 53) (0 + i))
+upper-fits i h x v e u = fitted-pieces (420 * 2 ^ 492) (2 ^ 45) (homogeneous (2 ^ 53) upper) [] (shift (2 ^ 53) (single 39)) log1mAt entryAt (allowance (2 ^ 53)) 128 0 upper-test i h x v e u
 
 pub lower-fits : (i : ℕ) → i < 128 → (x v : ℕ) → x + v ≡ suc (0 + i) * 2 ^ 45 → v ≤ 2 ^ 45
     → Balanced (420 * 2 ^ 492) (homogeneous (2 ^ 52) lowerAdding) (homogeneous (2 ^ 52) lowerTaking) (shift (3 * 2 ^ 52) (single 39)) (entryAt (0 + i)) (turnAt (0 + i)) x v (allowance (3 * 2 ^ 52) (0 + i))

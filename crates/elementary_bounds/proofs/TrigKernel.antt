@@ -9,10 +9,10 @@ use lib.ListN.{getD}
 use lib.Pow.{pow-pos, shr-shr}
 use Rattle.elementary_bounds.specs.Series.{ev, homogeneous, sinAdding, sinTaking, cosAdding, cosTaking}
 use Rattle.circular_tables.specs.Tables.{sines, cosines}
-use Rattle.circular_functions.specs.Trig.{squareOf, cubeOf, fourthOf, arcOf, sagOf, acrossOf, droppedOf, sineFrom, cosineFrom, sineOf, cosineOf}
+use Rattle.circular_functions.specs.Trig.{squareOf, cubeOf, fourthOf, cubicOf, versineOf, scalingOf, decrementOf, sineFrom, cosineFrom, sineOf, cosineOf}
 use Rattle.elementary_bounds.proofs.Series.{times, gap, slope, dilate, Below, start, factor, product-cut, cut-close, ClosePair}
 use Rattle.elementary_bounds.proofs.Nearness.{whole, slice, Kernel}
-use Rattle.circular_functions.proofs.TrigBound.{sines-le, sines-less, cosines-le, cosines-ge, s-le, square-le, cube-le, fourth-le, arc-le, sag-le, across-le, dropped-le, dropped-less}
+use Rattle.circular_functions.proofs.TrigBound.{sines-le, sines-less, cosines-le, cosines-ge, s-le, square-le, cube-le, fourth-le, cubic-le, versine-le, scaling-le, decrement-le, decrement-less}
 use Rattle.elementary_bounds.proofs.TrigSeries.{second, third, fourth, sineAdds, sineTakes, cosineAdds, cosineTakes, sine-fits, cosine-fits}
 
 -- ---- the powers of d, each cut down
@@ -86,8 +86,8 @@ module _ (d : ℕ) (h : d < 2 ^ 50) where
 -- ---- the products with a table's entry
 
 -- a * g, for g in units of 2 ^ -58 that is cut to 2 ^ -50
-across-close : (a g : ℕ) → a ≤ 2 ^ 58 → g / 2 ^ 8 ≤ 2 ^ 42 → (acrossOf a (g / 2 ^ 8) * 2 ^ 58 ≤ a * g) × (a * g ≤ (acrossOf a (g / 2 ^ 8) + 513) * 2 ^ 58)
-across-close a g h k =
+scaling-close : (a g : ℕ) → a ≤ 2 ^ 58 → g / 2 ^ 8 ≤ 2 ^ 42 → (scalingOf a (g / 2 ^ 8) * 2 ^ 58 ≤ a * g) × (a * g ≤ (scalingOf a (g / 2 ^ 8) + 513) * 2 ^ 58)
+scaling-close a g h k =
     let p = g / 2 ^ 8 in
     let C = a / 2 ^ 16 in
     let u = a / 2 ^ 38 in
@@ -97,8 +97,8 @@ across-close a g h k =
     let f = whole-product p C u v e in
     let c = sym (div-add-mod' a (2 ^ 16)) in
     let d = sym (div-add-mod' g (2 ^ 8)) in (
-      low a g (acrossOf a p) p C (a % 2 ^ 16) (g % 2 ^ 8) (p * u * 2 ^ 22 + p * v) (n .0) f c d,
-      top a g (acrossOf a p) p C (a % 2 ^ 16) (g % 2 ^ 8) (p * u * 2 ^ 22 + p * v) (n .1) f c d (mul-le-mul {n₂ = 2 ^ 42} {m₂ = 2 ^ 16} k (le-of-lt (mod-lt a (pow-pos 16)))) (mul-le-mul {n₂ = 2 ^ 58} {m₂ = 2 ^ 8} h (le-of-lt (mod-lt g (pow-pos 8)))),
+      low a g (scalingOf a p) p C (a % 2 ^ 16) (g % 2 ^ 8) (p * u * 2 ^ 22 + p * v) (n .0) f c d,
+      top a g (scalingOf a p) p C (a % 2 ^ 16) (g % 2 ^ 8) (p * u * 2 ^ 22 + p * v) (n .1) f c d (mul-le-mul {n₂ = 2 ^ 42} {m₂ = 2 ^ 16} k (le-of-lt (mod-lt a (pow-pos 16)))) (mul-le-mul {n₂ = 2 ^ 58} {m₂ = 2 ^ 8} h (le-of-lt (mod-lt g (pow-pos 8)))),
     )
   where
     nest : (x y : ℕ) → ((x + y / 2 ^ 22) / 2 ^ 12 * 2 ^ 34 ≤ x * 2 ^ 22 + y) × (x * 2 ^ 22 + y < (x + y / 2 ^ 22) / 2 ^ 12 * 2 ^ 34 + 2 ^ 34)
@@ -117,13 +117,13 @@ across-close a g h k =
     top a g F p C r t N n f c d i j = omega (arith, expand a g p C r t c d)
 
 -- a * 512 * e
-dropped-close : (a e : ℕ) → e ≤ 2 ^ 32 → (droppedOf a e * 2 ^ 58 ≤ a * (512 * e)) × (a * (512 * e) ≤ (droppedOf a e + 1025) * 2 ^ 58)
-dropped-close a e k =
+decrement-close : (a e : ℕ) → e ≤ 2 ^ 32 → (decrementOf a e * 2 ^ 58 ≤ a * (512 * e)) × (a * (512 * e) ≤ (decrementOf a e + 1025) * 2 ^ 58)
+decrement-close a e k =
     let A = a / 2 ^ 27 in
     let r = a % 2 ^ 27 in
     let c : a ≡ A * 2 ^ 27 + r = sym (div-add-mod' a (2 ^ 27)) in
     let n = cut (e * A) in
-    (low a e A r (e * A) (droppedOf a e) (n .0) refl c, top a e A r (e * A) (droppedOf a e) (n .1) refl c (mul-le-mul {n₂ = 2 ^ 32} {m₂ = 2 ^ 27} k (le-of-lt (mod-lt a (pow-pos 27)))))
+    (low a e A r (e * A) (decrementOf a e) (n .0) refl c, top a e A r (e * A) (decrementOf a e) (n .1) refl c (mul-le-mul {n₂ = 2 ^ 32} {m₂ = 2 ^ 27} k (le-of-lt (mod-lt a (pow-pos 27)))))
   where
     cut : (x : ℕ) → (x / 2 ^ 22 * 2 ^ 22 ≤ x) × (x < x / 2 ^ 22 * 2 ^ 22 + 2 ^ 22)
     cut x = (omega arith, omega arith)
@@ -137,17 +137,17 @@ dropped-close a e k =
 -- ---- the pieces over L. X is D; g is the arc, and y what the cube takes off d; e is the sag, q the square and v the fourth power
 
 module _ (X L : ℕ) where
-  arc-up : (b g y d x : ℕ) → x * X ≤ b * g → g + y ≡ d → x * (L * X) + b * (L * y) ≤ b * (L * d)
-  arc-up b g y d x f i = omega (arith, ap (λ (u : ℕ). b * L * u) i, mul-le-mul-left L f)
+  cubic-up : (b g y d x : ℕ) → x * X ≤ b * g → g + y ≡ d → x * (L * X) + b * (L * y) ≤ b * (L * d)
+  cubic-up b g y d x f i = omega (arith, ap (λ (u : ℕ). b * L * u) i, mul-le-mul-left L f)
 
-  arc-low : (b g y d x : ℕ) → b * g ≤ (x + 513) * X → g + y ≡ d → b * (L * d) ≤ x * (L * X) + 513 * (L * X) + b * (L * y)
-  arc-low b g y d x f i = omega (arith, ap (λ (u : ℕ). b * L * u) i, mul-le-mul-left L f)
+  cubic-low : (b g y d x : ℕ) → b * g ≤ (x + 513) * X → g + y ≡ d → b * (L * d) ≤ x * (L * X) + 513 * (L * X) + b * (L * y)
+  cubic-low b g y d x f i = omega (arith, ap (λ (u : ℕ). b * L * u) i, mul-le-mul-left L f)
 
-  sag-up : (a e v q z : ℕ) → a * (512 * e) ≤ (z + 1025) * X → e + v ≡ q → a * (L * (512 * q)) ≤ z * (L * X) + 1025 * (L * X) + a * (L * (512 * v))
-  sag-up a e v q z f i = omega (arith, ap (λ (u : ℕ). a * L * u) i, mul-le-mul-left L f)
+  versine-up : (a e v q z : ℕ) → a * (512 * e) ≤ (z + 1025) * X → e + v ≡ q → a * (L * (512 * q)) ≤ z * (L * X) + 1025 * (L * X) + a * (L * (512 * v))
+  versine-up a e v q z f i = omega (arith, ap (λ (u : ℕ). a * L * u) i, mul-le-mul-left L f)
 
-  sag-low : (a e v q z : ℕ) → z * X ≤ a * (512 * e) → e + v ≡ q → z * (L * X) + a * (L * (512 * v)) ≤ a * (L * (512 * q))
-  sag-low a e v q z f i = omega (arith, ap (λ (u : ℕ). a * L * u) i, mul-le-mul-left L f)
+  versine-low : (a e v q z : ℕ) → z * X ≤ a * (512 * e) → e + v ≡ q → z * (L * X) + a * (L * (512 * v)) ≤ a * (L * (512 * q))
+  versine-low a e v q z f i = omega (arith, ap (λ (u : ℕ). a * L * u) i, mul-le-mul-left L f)
 
   -- a power of d times an entry
   entry-up : (a P y E : ℕ) → a ≤ X → P ≤ L * (y + E) → a * P ≤ a * (L * y) + E * (L * X)
@@ -175,14 +175,14 @@ module _ (a b d : ℕ) (h : d < 2 ^ 50) (ha : a ≤ 2 ^ 58) (hb : b ≤ 2 ^ 58) 
   abbrev fo : ℕ
   fo = fourthOf sq
 
-  arc-is : d - cut + 1 * cut ≡ d
-  arc-is = once d cut (less-more d cut (cube-le d h))
+  cubic-is : d - cut + 1 * cut ≡ d
+  cubic-is = once d cut (less-more d cut (cube-le d h))
     where
       once : (d c : ℕ) → d - c + c ≡ d → d - c + 1 * c ≡ d
       once d c h = omega arith
 
-  sag-is : sagOf d + fo ≡ sq
-  sag-is = less-more sq fo (fourth-le d h)
+  versine-is : versineOf d + fo ≡ sq
+  versine-is = less-more sq fo (fourth-le d h)
 
   abbrev X : ℕ
   X = 2 ^ 58
@@ -210,19 +210,19 @@ module _ (a b d : ℕ) (h : d < 2 ^ 50) (ha : a ≤ 2 ^ 58) (hb : b ≤ 2 ^ 58) 
     four-low : c * (L * (512 * fo)) ≤ c * raised d h + 1 * (L * X)
     four-low = entry-low X L c (raised d h) (512 * fo) 1 hc (fourth-close d h .0)
 
-  sine-kernel : droppedOf a (sagOf d) ≤ a + acrossOf b (arcOf d)
+  sine-kernel : decrementOf a (versineOf d) ≤ a + scalingOf b (cubicOf d)
       → (sineFrom a b d * whole + (a * squared d h + b * cubed d h) ≤ a * whole + b * (slice * d) + a * raised d h + 3100 * whole)
       × (a * whole + b * (slice * d) + a * raised d h ≤ sineFrom a b d * whole + (a * squared d h + b * cubed d h) + 3100 * whole)
   sine-kernel z =
-      let x = acrossOf b (arcOf d) in
-      let y = droppedOf a (sagOf d) in
-      let c = across-close b (d - cut) hb (arc-le d h) in
-      let e = dropped-close a (sagOf d) (sag-le d h) in
+      let x = scalingOf b (cubicOf d) in
+      let y = decrementOf a (versineOf d) in
+      let c = scaling-close b (d - cut) hb (cubic-le d h) in
+      let e = decrement-close a (versineOf d) (versine-le d h) in
       let k = sum X L (sineFrom a b d) y a x (less-more (a + x) y z) in (
         up (sineFrom a b d * whole) (y * whole) (a * whole) (x * whole) (b * (L * (1 * cut))) (b * (L * d)) (a * (L * (512 * sq))) (a * (L * (512 * fo))) (a * squared d h) (b * cubed d h) (a * raised d h) whole
-            k (arc-up X L b (d - cut) (1 * cut) d x (c .0) arc-is) (sag-up X L a (sagOf d) fo sq y (e .1) sag-is) (two-up a ha) (three-up b hb) (four-low a ha),
+            k (cubic-up X L b (d - cut) (1 * cut) d x (c .0) cubic-is) (versine-up X L a (versineOf d) fo sq y (e .1) versine-is) (two-up a ha) (three-up b hb) (four-low a ha),
         low (sineFrom a b d * whole) (y * whole) (a * whole) (x * whole) (b * (L * (1 * cut))) (b * (L * d)) (a * (L * (512 * sq))) (a * (L * (512 * fo))) (a * squared d h) (b * cubed d h) (a * raised d h) whole
-            k (arc-low X L b (d - cut) (1 * cut) d x (c .1) arc-is) (sag-low X L a (sagOf d) fo sq y (e .0) sag-is) (two-low a ha) (three-low b hb) (four-up a ha),
+            k (cubic-low X L b (d - cut) (1 * cut) d x (c .1) cubic-is) (versine-low X L a (versineOf d) fo sq y (e .0) versine-is) (two-low a ha) (three-low b hb) (four-up a ha),
       )
     where
       up : (K Y A M by bd aq av p₂ p₃ p₄ W : ℕ) → K + Y ≡ A + M → M + by ≤ bd → aq ≤ Y + 1025 * W + av → p₂ ≤ aq + 1536 * W → p₃ ≤ by + 13 * W → av ≤ p₄ + 1 * W → K + (p₂ + p₃) ≤ A + bd + p₄ + 3100 * W
@@ -231,19 +231,19 @@ module _ (a b d : ℕ) (h : d < 2 ^ 50) (ha : a ≤ 2 ^ 58) (hb : b ≤ 2 ^ 58) 
       low : (K Y A M by bd aq av p₂ p₃ p₄ W : ℕ) → K + Y ≡ A + M → bd ≤ M + 513 * W + by → Y + av ≤ aq → aq ≤ p₂ + 0 * W → by ≤ p₃ + 2 * W → p₄ ≤ av + 1026 * W → A + bd + p₄ ≤ K + (p₂ + p₃) + 3100 * W
       low K Y A M by bd aq av p₂ p₃ p₄ W k f g i j l = omega arith
 
-  cosine-kernel : acrossOf a (arcOf d) + droppedOf b (sagOf d) ≤ b
+  cosine-kernel : scalingOf a (cubicOf d) + decrementOf b (versineOf d) ≤ b
       → (cosineFrom a b d * whole + (a * (slice * d) + b * squared d h) ≤ b * whole + a * cubed d h + b * raised d h + 3100 * whole)
       × (b * whole + a * cubed d h + b * raised d h ≤ cosineFrom a b d * whole + (a * (slice * d) + b * squared d h) + 3100 * whole)
   cosine-kernel z =
-      let x = acrossOf a (arcOf d) in
-      let y = droppedOf b (sagOf d) in
-      let c = across-close a (d - cut) ha (arc-le d h) in
-      let e = dropped-close b (sagOf d) (sag-le d h) in
+      let x = scalingOf a (cubicOf d) in
+      let y = decrementOf b (versineOf d) in
+      let c = scaling-close a (d - cut) ha (cubic-le d h) in
+      let e = decrement-close b (versineOf d) (versine-le d h) in
       let k = sums X L (cosineFrom a b d) x y b (twice b x y z) in (
         up (cosineFrom a b d * whole) (y * whole) (b * whole) (x * whole) (a * (L * (1 * cut))) (a * (L * d)) (b * (L * (512 * sq))) (b * (L * (512 * fo))) (b * squared d h) (a * cubed d h) (b * raised d h) whole
-            k (arc-low X L a (d - cut) (1 * cut) d x (c .1) arc-is) (sag-up X L b (sagOf d) fo sq y (e .1) sag-is) (two-up b hb) (three-low a ha) (four-low b hb),
+            k (cubic-low X L a (d - cut) (1 * cut) d x (c .1) cubic-is) (versine-up X L b (versineOf d) fo sq y (e .1) versine-is) (two-up b hb) (three-low a ha) (four-low b hb),
         low (cosineFrom a b d * whole) (y * whole) (b * whole) (x * whole) (a * (L * (1 * cut))) (a * (L * d)) (b * (L * (512 * sq))) (b * (L * (512 * fo))) (b * squared d h) (a * cubed d h) (b * raised d h) whole
-            k (arc-up X L a (d - cut) (1 * cut) d x (c .0) arc-is) (sag-low X L b (sagOf d) fo sq y (e .0) sag-is) (two-low b hb) (three-up a ha) (four-up b hb),
+            k (cubic-up X L a (d - cut) (1 * cut) d x (c .0) cubic-is) (versine-low X L b (versineOf d) fo sq y (e .0) versine-is) (two-low b hb) (three-up a ha) (four-up b hb),
       )
     where
       twice : (b x y : ℕ) → x + y ≤ b → b - x - y + x + y ≡ b
@@ -303,11 +303,11 @@ module _ (r : ℕ) (h : r ≤ 2 ^ 58) where
   whole-is : (0 + at) * 2 ^ 50 + d₀ ≡ r
   whole-is = ap (λ (z : ℕ). z * 2 ^ 50 + d₀) (zero-add at) ∙ div-add-mod' r (2 ^ 50)
 
-  across-in : (c : ℕ) → c ≤ 2 ^ 58 → acrossOf c (arcOf d₀) ≤ 2 ^ 51
-  across-in c k = across-le c (arcOf d₀) k (arc-le d₀ d-lt)
+  scaling-in : (c : ℕ) → c ≤ 2 ^ 58 → scalingOf c (cubicOf d₀) ≤ 2 ^ 51
+  scaling-in c k = scaling-le c (cubicOf d₀) k (cubic-le d₀ d-lt)
 
-  dropped-in : (c : ℕ) → c ≤ 2 ^ 58 → (droppedOf c (sagOf d₀) ≤ c) × (droppedOf c (sagOf d₀) ≤ 2 ^ 41)
-  dropped-in c k = (dropped-less c (sagOf d₀) k (sag-le d₀ d-lt), dropped-le c (sagOf d₀) k (sag-le d₀ d-lt))
+  decrement-in : (c : ℕ) → c ≤ 2 ^ 58 → (decrementOf c (versineOf d₀) ≤ c) × (decrementOf c (versineOf d₀) ≤ 2 ^ 41)
+  decrement-in c k = (decrement-less c (versineOf d₀) k (versine-le d₀ d-lt), decrement-le c (versineOf d₀) k (versine-le d₀ d-lt))
 
   pub sine-close : Kernel sinAdding sinTaking (sineOf r) 5300 r
   sine-close =
@@ -316,7 +316,7 @@ module _ (r : ℕ) (h : r ≤ 2 ^ 58) where
       let f = subst (λ (z : ℕ). (2 ^ 58 * ev A z + ev (sineTakes a₀ b₀) d₀ ≤ 2 ^ 58 * ev O z + ev (sineAdds a₀ b₀) d₀ + 2200 * whole) × (2 ^ 58 * ev O z + ev (sineAdds a₀ b₀) d₀ ≤ 2 ^ 58 * ev A z + ev (sineTakes a₀ b₀) d₀ + 2200 * whole)) whole-is (sine-fits at at-lt d₀ (le-of-lt d-lt)) in
       joined (2 ^ 58 * ev A r) (2 ^ 58 * ev O r) (ev (sineTakes a₀ b₀) d₀) (ev (sineAdds a₀ b₀) d₀) _ _ (sineOf r) whole f
       (sine-takes-is a₀ b₀ d₀ second third) (sine-adds-is a₀ b₀ d₀ whole slice fourth)
-      (sine-kernel a₀ b₀ d₀ d-lt (sines-le at) (cosines-le at) (le-trans (dropped-in a₀ (sines-le at) .0) (le-add-right a₀ (acrossOf b₀ (arcOf d₀)))))
+      (sine-kernel a₀ b₀ d₀ d-lt (sines-le at) (cosines-le at) (le-trans (decrement-in a₀ (sines-le at) .0) (le-add-right a₀ (scalingOf b₀ (cubicOf d₀)))))
 
   pub cosine-close : Kernel cosAdding cosTaking (cosineOf r) 5300 r
   cosine-close =
@@ -325,20 +325,20 @@ module _ (r : ℕ) (h : r ≤ 2 ^ 58) where
       let f = subst (λ (z : ℕ). (2 ^ 58 * ev A z + ev (cosineTakes a₀ b₀) d₀ ≤ 2 ^ 58 * ev O z + ev (cosineAdds a₀ b₀) d₀ + 2200 * whole) × (2 ^ 58 * ev O z + ev (cosineAdds a₀ b₀) d₀ ≤ 2 ^ 58 * ev A z + ev (cosineTakes a₀ b₀) d₀ + 2200 * whole)) whole-is (cosine-fits at at-lt d₀ (le-of-lt d-lt)) in
       joined (2 ^ 58 * ev A r) (2 ^ 58 * ev O r) (ev (cosineTakes a₀ b₀) d₀) (ev (cosineAdds a₀ b₀) d₀) _ _ (cosineOf r) whole f
       (cosine-takes-is a₀ b₀ d₀ slice second) (cosine-adds-is a₀ b₀ d₀ whole third fourth)
-      (cosine-kernel a₀ b₀ d₀ d-lt (sines-le at) (cosines-le at) (room b₀ (acrossOf a₀ (arcOf d₀)) (droppedOf b₀ (sagOf d₀)) (cosines-ge at at-lt) (across-in a₀ (sines-le at)) (dropped-in b₀ (cosines-le at) .1)))
+      (cosine-kernel a₀ b₀ d₀ d-lt (sines-le at) (cosines-le at) (room b₀ (scalingOf a₀ (cubicOf d₀)) (decrementOf b₀ (versineOf d₀)) (cosines-ge at at-lt) (scaling-in a₀ (sines-le at)) (decrement-in b₀ (cosines-le at) .1)))
     where
       room : (b x y : ℕ) → 2 ^ 57 ≤ b → x ≤ 2 ^ 51 → y ≤ 2 ^ 41 → x + y ≤ b
       room b x y h k l = omega arith
 
   -- neither is above 1
   pub sine-one : sineOf r ≤ 2 ^ 58
-  sine-one = most a₀ (acrossOf b₀ (arcOf d₀)) (droppedOf a₀ (sagOf d₀)) (sines-less at) (across-in b₀ (cosines-le at))
+  sine-one = most a₀ (scalingOf b₀ (cubicOf d₀)) (decrementOf a₀ (versineOf d₀)) (sines-less at) (scaling-in b₀ (cosines-le at))
     where
       most : (a x y : ℕ) → a ≤ 244000000000000000 → x ≤ 2 ^ 51 → a + x - y ≤ 2 ^ 58
       most a x y h k = omega arith
 
   pub cosine-one : cosineOf r ≤ 2 ^ 58
-  cosine-one = most b₀ (acrossOf a₀ (arcOf d₀)) (droppedOf b₀ (sagOf d₀)) (cosines-le at)
+  cosine-one = most b₀ (scalingOf a₀ (cubicOf d₀)) (decrementOf b₀ (versineOf d₀)) (cosines-le at)
     where
       most : (b x y : ℕ) → b ≤ 2 ^ 58 → b - x - y ≤ 2 ^ 58
       most b x y h = omega arith

@@ -14,13 +14,13 @@ use borrow.Author.Tests.{ne-eqb}
 use Rattle.elementary_bounds.specs.Series.{sinAdding, sinTaking, cosAdding, cosTaking, Near}
 use Rattle.fixed_point.specs.Fixed.{scaledOf, apartOf}
 use Rattle.fixed_point.specs.Float.{Within, over, digit, minusSign, nought}
-use Rattle.circular_functions.specs.Trig.{sineOf, cosineOf, partOf, signOf, signedOf, quarterOf, waveOf, quartersOf, leftOf, farOf, turnedOf, sinOf, cosOf}
+use Rattle.circular_functions.specs.Trig.{sineOf, cosineOf, partOf, signOf, signedOf, quarterOf, sinusoidOf, quartersOf, leftOf, reducedOf, turnedOf, sinOf, cosOf}
 use Rattle.elementary_bounds.proofs.Nearness.{Kernel, near-exact}
 use Rattle.fixed_point.proofs.Choice.{either-le}
 use Rattle.fixed_point.proofs.Range.{within-scaled}
 use Rattle.fixed_point.proofs.Bits.{over-within, within-over}
 use Rattle.circular_functions.proofs.TrigBound.{left-in}
-use Rattle.circular_functions.proofs.TrigCases.{rest-one, wave-even, wave-odd, turned-far, turned-near, sin-inside, cos-inside}
+use Rattle.circular_functions.proofs.TrigCases.{rest-one, sinusoid-even, sinusoid-odd, turned-reduced, turned-near, sin-inside, cos-inside}
 use Rattle.elementary_bounds.proofs.TrigKernel.{sine-close, cosine-close, sine-one, cosine-one}
 
 -- ---- the float by its sign and size
@@ -49,16 +49,16 @@ module _ (s : Bool) (m : ℕ) (e : ℤ) (h : Within (fin s m e) 1) where
   M-le : M ≤ 2 ^ 58
   M-le = within-scaled 58 1 x h
 
-  near-turned : (k : ℕ) → turnedOf x k ≡ waveOf k (2 ^ 58 + M)
+  near-turned : (k : ℕ) → turnedOf x k ≡ sinusoidOf k (2 ^ 58 + M)
   near-turned k = turned-near x k (within-over 1 1 x (lit≤ {m = 1} {n = 1} tt) h)
 
   in-reach : over 65536 x ≡ false
   in-reach = within-over 1 65536 x (lit≤ {m = 1} {n = 65536} tt) h
 
-  sin-turned : sinOf x ≡ waveOf (digit s * 2) (2 ^ 58 + M)
+  sin-turned : sinOf x ≡ sinusoidOf (digit s * 2) (2 ^ 58 + M)
   sin-turned = sin-inside x in-reach ∙ near-turned (digit s * 2)
 
-  cos-turned : cosOf x ≡ waveOf 1 (2 ^ 58 + M)
+  cos-turned : cosOf x ≡ sinusoidOf 1 (2 ^ 58 + M)
   cos-turned = cos-inside x in-reach ∙ near-turned 1
 
   above : (m : ℕ) → 2 ^ 58 ≤ 2 ^ 58 + m
@@ -67,11 +67,11 @@ module _ (s : Bool) (m : ℕ) (e : ℤ) (h : Within (fin s m e) 1) where
   back : (m : ℕ) → 2 ^ 58 + m - 2 ^ 58 ≡ m
   back m = omega arith
 
-  sin-signed : (k : ℕ) → k % 2 ≡ 0 → waveOf k (2 ^ 58 + M) ≡ signedOf k (sineOf M / 128)
-  sin-signed k p = wave-even k (2 ^ 58 + M) (above M) p ∙ ap (λ (z : ℕ). signedOf k (sineOf z / 128)) (back M)
+  sin-signed : (k : ℕ) → k % 2 ≡ 0 → sinusoidOf k (2 ^ 58 + M) ≡ signedOf k (sineOf M / 128)
+  sin-signed k p = sinusoid-even k (2 ^ 58 + M) (above M) p ∙ ap (λ (z : ℕ). signedOf k (sineOf z / 128)) (back M)
 
-  cos-signed : waveOf 1 (2 ^ 58 + M) ≡ signedOf 1 (cosineOf M / 128)
-  cos-signed = wave-odd 1 (2 ^ 58 + M) (above M) (odd 1 refl) ∙ ap (λ (z : ℕ). signedOf 1 (cosineOf z / 128)) (back M)
+  cos-signed : sinusoidOf 1 (2 ^ 58 + M) ≡ signedOf 1 (cosineOf M / 128)
+  cos-signed = sinusoid-odd 1 (2 ^ 58 + M) (above M) (odd 1 refl) ∙ ap (λ (z : ℕ). signedOf 1 (cosineOf z / 128)) (back M)
     where
       odd : (n : ℕ) → n ≡ 1 → n ≡ 0 → ⊥
       odd n e p = omega arith
@@ -145,8 +145,8 @@ signed-within n v h = value-within (signedOf n (v / 128)) (signOf (leb 2 (n % 4)
 part-one : (h r : ℕ) → r ≤ 2 ^ 58 → partOf h r ≤ 2 ^ 58
 part-one h r l = either-le (eqb h 0) (sine-one r l) (cosine-one r l)
 
-wave-within : (n t : ℕ) → t ≤ 2 ^ 59 → Within (waveOf n t) 1
-wave-within n t h = signed-within (quarterOf n t) (partOf (n % 2) (apartOf t (2 ^ 58))) (part-one (n % 2) (apartOf t (2 ^ 58)) (rest-one t h))
+sinusoid-within : (n t : ℕ) → t ≤ 2 ^ 59 → Within (sinusoidOf n t) 1
+sinusoid-within n t h = signed-within (quarterOf n t) (partOf (n % 2) (apartOf t (2 ^ 58))) (part-one (n % 2) (apartOf t (2 ^ 58)) (rest-one t h))
 
 turned-within : (x : Float) (k : ℕ) → Within x 65536 → Within (turnedOf x k) 1
 turned-within x k h = go (over 1 x) refl
@@ -156,11 +156,11 @@ turned-within x k h = go (over 1 x) refl
 
     go : (b : Bool) → over 1 x ≡ b → Within (turnedOf x k) 1
     go true p =
-        subst (λ (y : Float). Within y 1) (sym (turned-far x k p))
-        (wave-within (quartersOf (scaledOf 46 x) + k) (leftOf (scaledOf 46 x) (quartersOf (scaledOf 46 x))) (left-in (scaledOf 46 x) (within-scaled 46 65536 x h)))
+        subst (λ (y : Float). Within y 1) (sym (turned-reduced x k p))
+        (sinusoid-within (quartersOf (scaledOf 46 x) + k) (leftOf (scaledOf 46 x) (quartersOf (scaledOf 46 x))) (left-in (scaledOf 46 x) (within-scaled 46 65536 x h)))
     go false p =
         subst (λ (y : Float). Within y 1) (sym (turned-near x k p))
-        (wave-within k (2 ^ 58 + scaledOf 58 x) (close (scaledOf 58 x) (within-scaled 58 1 x (over-within 1 x p))))
+        (sinusoid-within k (2 ^ 58 + scaledOf 58 x) (close (scaledOf 58 x) (within-scaled 58 1 x (over-within 1 x p))))
 
 -- For x of size at most 65,536, sin x and cos x are at most 1 in size
 pub sin-size : (x : Float) → Within x 65536 → Within (sinOf x) 1

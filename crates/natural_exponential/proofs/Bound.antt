@@ -8,7 +8,7 @@ use lib.ListN.{getD}
 use lib.Dec.{leb→le}
 use Rattle.fixed_point.proofs.Product.{below-mul}
 use Rattle.fixed_point.proofs.Table.{at-most, at-least}
-use Rattle.natural_exponential.specs.Exp.{coarse, fine, tailOf, growthOf, grownOf, kernelOf}
+use Rattle.natural_exponential.specs.Exp.{coarse, fine, tailOf, expm1Of, compoundedOf, kernelOf}
 use Rattle.fixed_point.specs.Fixed.{highOf, termOf}
 
 pub coarse-le : (i : ℕ) → getD coarse i 0 ≤ 3134000000000000000
@@ -23,7 +23,7 @@ fine-le i = at-most 4755000000000000000 fine i tt
 pub high-le : {a b : ℕ} → a ≤ 3134000000000000000 → b ≤ 4755000000000000000 → highOf a b ≤ 808000000000000000
 high-le h k = div-le-of-le-mul (2 ^ 64) (le-trans (below-mul 3134000000000000000 4755000000000000000 h k) (leb→le (3134000000000000000 * 4755000000000000000) (2 ^ 64 * 808000000000000000) tt))
 
--- the numbers of growthOf, for d below 2 ^ 48
+-- the numbers of expm1Of, for d below 2 ^ 48
 module _ (d : ℕ) (h : d < 2 ^ 48) where
   s-le : d / 2 ^ 16 ≤ 4294967295
   s-le = omega arith
@@ -43,10 +43,10 @@ module _ (d : ℕ) (h : d < 2 ^ 48) where
   half-le : d / 2 ^ 16 * tailOf (d / 2 ^ 16) / 2 ^ 32 ≤ 2148182900
   half-le = omega (arith, tail-product)
 
-  pub bend-product : d / 2 ^ 16 * (d / 2 ^ 16 * tailOf (d / 2 ^ 16) / 2 ^ 32) ≤ 4294967295 * 2148182900
-  bend-product = below-mul 4294967295 2148182900 s-le half-le
+  pub remainder-product : d / 2 ^ 16 * (d / 2 ^ 16 * tailOf (d / 2 ^ 16) / 2 ^ 32) ≤ 4294967295 * 2148182900
+  remainder-product = below-mul 4294967295 2148182900 s-le half-le
 
--- the two products of grownOf
+-- the two products of compoundedOf
 module _ (c p : ℕ) (h : c ≤ 808000000000000000) (k : p ≤ 2200097350000) where
   pub upper-le : p * (c / 2 ^ 38) ≤ 2200097350000 * 2939487
   upper-le = below-mul 2200097350000 2939487 k (omega arith)
@@ -67,11 +67,11 @@ fine-ge i h = at-least (2 ^ 62) fine i tt h
 pub high-ge : {a b : ℕ} → 2 ^ 58 ≤ a → 2 ^ 62 ≤ b → 2 ^ 56 ≤ highOf a b
 high-ge {a} {b} h k = le-div-iff-mul-le {k = 2 ^ 64} {x = 2 ^ 56} {y = a * b} (pow-pos 64) .1 (mul-le-mul h k)
 
-grown-ge : (c p : ℕ) → 128 ≤ c → 128 ≤ grownOf c p
-grown-ge c p h = le-trans h (le-add-right c ((p * (c / 2 ^ 38) + p * (c / 2 ^ 16 % 2 ^ 22) / 2 ^ 22) / 2 ^ 13))
+compounded-ge : (c p : ℕ) → 128 ≤ c → 128 ≤ compoundedOf c p
+compounded-ge c p h = le-trans h (le-add-right c ((p * (c / 2 ^ 38) + p * (c / 2 ^ 16 % 2 ^ 22) / 2 ^ 22) / 2 ^ 13))
 
 pub kernel-ge : (t : ℕ) → t ≤ 2 ^ 59 → 128 ≤ kernelOf t
 kernel-ge t h =
     let c = highOf (getD coarse (t / 2 ^ 53) 0) (getD fine (t / 2 ^ 48 % 32) 0) in
     let g : 2 ^ 56 ≤ c = high-ge (coarse-ge (t / 2 ^ 53) (omega arith)) (fine-ge (t / 2 ^ 48 % 32) (omega arith)) in
-    grown-ge c (growthOf (t % 2 ^ 48)) (le-trans (leb→le 128 (2 ^ 56) tt) g)
+    compounded-ge c (expm1Of (t % 2 ^ 48)) (le-trans (leb→le 128 (2 ^ 56) tt) g)

@@ -41,20 +41,20 @@ abbrev pub tailOf : ℕ → ℕ
 tailOf s = termOf 2147483648 42 s (termOf 715827883 42 s 178956971)
 
 -- d ^ 2 times that in units of 2 ^ -58
-abbrev pub bendOf : ℕ → ℕ
-bendOf s = s * (s * tailOf s / 2 ^ 32) / 2 ^ 26
+abbrev pub remainderOf : ℕ → ℕ
+remainderOf s = s * (s * tailOf s / 2 ^ 32) / 2 ^ 26
 
 -- e ^ d - 1 in units of 2 ^ -51, for d in units of 2 ^ -58
-abbrev pub growthOf : ℕ → ℕ
-growthOf d = (d + bendOf (d / 2 ^ 16)) / 2 ^ 7
+abbrev pub expm1Of : ℕ → ℕ
+expm1Of d = (d + remainderOf (d / 2 ^ 16)) / 2 ^ 7
 
 -- c + c * p for c in units of 2 ^ -58 and p in units of 2 ^ -51
-abbrev pub grownOf : ℕ → ℕ → ℕ
-grownOf c p = c + (p * (c / 2 ^ 38) + p * (c / 2 ^ 16 % 2 ^ 22) / 2 ^ 22) / 2 ^ 13
+abbrev pub compoundedOf : ℕ → ℕ → ℕ
+compoundedOf c p = c + (p * (c / 2 ^ 38) + p * (c / 2 ^ 16 % 2 ^ 22) / 2 ^ 22) / 2 ^ 13
 
 -- e ^ (t - 1) in units of 2 ^ -58, for t in units of 2 ^ -58, from 0 to 2
 abbrev pub kernelOf : ℕ → ℕ
-kernelOf t = grownOf (highOf (getD coarse (t / 2 ^ 53) 0) (getD fine (t / 2 ^ 48 % 32) 0)) (growthOf (t % 2 ^ 48))
+kernelOf t = compoundedOf (highOf (getD coarse (t / 2 ^ 53) 0) (getD fine (t / 2 ^ 48 % 32) 0)) (expm1Of (t % 2 ^ 48))
 
 -- the nearest float to v / 128 * 2 ^ k / 2 ^ 1074
 abbrev pub assembledOf : ℕ → ℕ → Float

@@ -9,7 +9,7 @@ ghost use lib.Dec.{T};
 ghost use lib.ListN.{getD};
 ghost use lib.Ieee.{Float, fin, binary64, isNan};
 ghost use lib.Ieee.Scale.{finite};
-ghost use Rattle.natural_exponential.specs.Exp.{coarse, fine, growthOf, grownOf, kernelOf, assembledOf, reducedOf, expOf};
+ghost use Rattle.natural_exponential.specs.Exp.{coarse, fine, expm1Of, compoundedOf, kernelOf, assembledOf, reducedOf, expOf};
 
 // The tables are functions that match on the index: an array constant that is indexed by a variable is built on the
 // stack at each use, and a match becomes a table in read-only memory.
@@ -132,9 +132,9 @@ pub fn fine_at(i: u64) -> u64
 }
 
 // e^d - 1 in units of 2^-51, for d in units of 2^-58, below 2^48.
-pub fn growth(d: u64) -> u64
+pub fn expm1(d: u64) -> u64
     requires { ⌜ d < 2 ^ 48 ⌝ }
-    ensures { λ r. ⌜ (r ≡ growthOf d) × (r ≤ 2200097350000) ⌝ }
+    ensures { λ r. ⌜ (r ≡ expm1Of d) × (r ≤ 2200097350000) ⌝ }
 {
     let s = d / 65536;
     let h = 715827883 + s * 178956971 / 4398046511104;
@@ -144,9 +144,9 @@ pub fn growth(d: u64) -> u64
 }
 
 // c + c * p, for c in units of 2^-58 and p in units of 2^-51.
-pub fn grown(c: u64, p: u64) -> u64
+pub fn compounded(c: u64, p: u64) -> u64
     requires { ⌜ (c ≤ 808000000000000000) × (p ≤ 2200097350000) ⌝ }
-    ensures { λ r. ⌜ (r ≡ grownOf c p) × (r < 2 ^ 60) ⌝ }
+    ensures { λ r. ⌜ (r ≡ compoundedOf c p) × (r < 2 ^ 60) ⌝ }
 {
     let c1 = c / 274877906944;
     let c0 = c / 65536 % 4194304;
@@ -162,7 +162,7 @@ pub fn kernel(t: u64) -> u64
         coarse_at(t / 9007199254740992),
         fine_at(t / 281474976710656 % 32),
     );
-    grown(c, growth(t % 281474976710656))
+    compounded(c, expm1(t % 281474976710656))
 }
 
 // v * 2^k / 2^1081, cut to the units of v / 128, as a float: v / 128 and 2^(k - 1023) are floats.

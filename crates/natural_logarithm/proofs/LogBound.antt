@@ -11,7 +11,7 @@ use lib.Ieee.Fits.{and-l, and-r}
 use Rattle.fixed_point.proofs.Product.{below-mul}
 use Rattle.fixed_point.proofs.Table.{at-most}
 use Rattle.fixed_point.specs.Fixed.{termOf}
-use Rattle.natural_logarithm.specs.Log.{reciprocals, logarithms, leanOf, squareOf, slipOf, shortOf, withinOf}
+use Rattle.natural_logarithm.specs.Log.{reciprocals, logarithms, tailOf, squareOf, log1mOf, shortOf, withinOf}
 
 -- ---- the short series
 
@@ -37,11 +37,11 @@ module _ (s : ℕ) (h : s ≤ 2355575561) where
   pub d-product : s * c ≤ 2355575561 * 2162400000
   d-product = below-mul 2355575561 2162400000 h (omega (arith, c-product))
 
-  pub lean-product : s * d ≤ 2355575561 * 2881900000
-  lean-product = below-mul 2355575561 2881900000 h (omega (arith, d-product))
+  pub tail-product : s * d ≤ 2355575561 * 2881900000
+  tail-product = below-mul 2355575561 2881900000 h (omega (arith, d-product))
 
-  pub lean-le : leanOf s ≤ 4330000000
-  lean-le = omega (arith, lean-product)
+  pub tail-le : tailOf s ≤ 4330000000
+  tail-le = omega (arith, tail-product)
 
 module _ (z : ℕ) (h : z ≤ 2470000000000000) where
   pub s-le : z / 2 ^ 20 ≤ 2355575561
@@ -56,14 +56,14 @@ module _ (z : ℕ) (h : z ≤ 2470000000000000) where
   pub square-le : squareOf (z / 2 ^ 20) (z % 2 ^ 20) ≤ 2584000000
   square-le = omega (arith, square-product, cross-product)
 
-  pub slip-product : squareOf (z / 2 ^ 20) (z % 2 ^ 20) * leanOf (z / 2 ^ 20) ≤ 2584000000 * 4330000000
-  slip-product = below-mul 2584000000 4330000000 square-le (lean-le (z / 2 ^ 20) s-le)
+  pub log1m-product : squareOf (z / 2 ^ 20) (z % 2 ^ 20) * tailOf (z / 2 ^ 20) ≤ 2584000000 * 4330000000
+  log1m-product = below-mul 2584000000 4330000000 square-le (tail-le (z / 2 ^ 20) s-le)
 
-  pub slip-le : slipOf z ≤ 2 ^ 57
-  slip-le = omega (arith, slip-product)
+  pub log1m-le : log1mOf z ≤ 2 ^ 57
+  log1m-le = omega (arith, log1m-product)
 
-  pub slip-less : slipOf z ≤ 2500000000000000
-  slip-less = omega (arith, slip-product)
+  pub log1m-less : log1mOf z ≤ 2500000000000000
+  log1m-less = omega (arith, log1m-product)
 
 -- ---- the tables
 
@@ -141,13 +141,13 @@ module _ (t : ℕ) (h : t < 2 ^ 52) where
       less p q h k = omega arith
 
   pub within-ge : 8929000000000000 ≤ withinOf t
-  within-ge = less (getD logarithms (t / 2 ^ 45) 0) (slipOf (shortOf t r)) (slip-less (shortOf t r) short-le)
+  within-ge = less (getD logarithms (t / 2 ^ 45) 0) (log1mOf (shortOf t r)) (log1m-less (shortOf t r) short-le)
     where
       less : (a s : ℕ) → s ≤ 2500000000000000 → 8929000000000000 ≤ (a + 2 ^ 58 - s) / 32
       less a s h = omega arith
 
   pub within-le : withinOf t ≤ 15300000000000000
-  within-le = more (getD logarithms (t / 2 ^ 45) 0) (slipOf (shortOf t r)) (logarithms-less (t / 2 ^ 45))
+  within-le = more (getD logarithms (t / 2 ^ 45) 0) (log1mOf (shortOf t r)) (logarithms-less (t / 2 ^ 45))
     where
       more : (a s : ℕ) → a ≤ 200000000000000000 → (a + 2 ^ 58 - s) / 32 ≤ 15300000000000000
       more a s h = omega arith

@@ -53,16 +53,16 @@ logarithms =
     197543023314412548 ∷ 198662365987806318 ∷ 199786072581291494 ∷ []
 
 -- 1 / 2 + z / 3 + z ^ 2 / 4 + .. + z ^ 5 / 7 in units of 2 ^ -33, for s = z * 2 ^ 38
-abbrev pub leanOf : ℕ → ℕ
-leanOf s = termOf 4294967296 38 s (termOf 2863311530 38 s (termOf 2147483648 38 s (termOf 1717986918 38 s (termOf 1431655765 38 s 1227133513))))
+abbrev pub tailOf : ℕ → ℕ
+tailOf s = termOf 4294967296 38 s (termOf 2863311530 38 s (termOf 2147483648 38 s (termOf 1717986918 38 s (termOf 1431655765 38 s 1227133513))))
 
 -- z ^ 2 in units of 2 ^ -45, for z in units of 2 ^ -58: the upper digits s and the lower ones l
 abbrev pub squareOf : ℕ → ℕ → ℕ
 squareOf s l = (s * s + s * l / 2 ^ 19) / 2 ^ 31
 
 -- - log (1 - z) in units of 2 ^ -58: z + z ^ 2 (1 / 2 + z / 3 + ..)
-abbrev pub slipOf : ℕ → ℕ
-slipOf z = z + squareOf (z / 2 ^ 20) (z % 2 ^ 20) * leanOf (z / 2 ^ 20) / 2 ^ 20
+abbrev pub log1mOf : ℕ → ℕ
+log1mOf z = z + squareOf (z / 2 ^ 20) (z % 2 ^ 20) * tailOf (z / 2 ^ 20) / 2 ^ 20
 
 -- d / 2 ^ 53, and (p - n) / 2 ^ 53
 abbrev pub fractionOf : ℕ → Float
@@ -77,7 +77,7 @@ shortOf t r = (2 ^ 62 - (t + 2 ^ 52) * r) / 16
 
 -- 1 and the logarithm of 1 + t / 2 ^ 52, in units of 2 ^ -53
 abbrev pub withinOf : ℕ → ℕ
-withinOf t = (getD logarithms (t / 2 ^ 45) 0 + 2 ^ 58 - slipOf (shortOf t (getD reciprocals (t / 2 ^ 45) 0))) / 32
+withinOf t = (getD logarithms (t / 2 ^ 45) 0 + 2 ^ 58 - log1mOf (shortOf t (getD reciprocals (t / 2 ^ 45) 0))) / 32
 
 -- the logarithm of (1 + t / 2 ^ 52) * 2 ^ (e - 1023), by e times log 2 and 1023 times log 2; log 2 is 6243314768165359 / 2 ^ 53
 abbrev pub digitsOf : ℕ → ℕ → Float

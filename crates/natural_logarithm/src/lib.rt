@@ -9,7 +9,7 @@ ghost use Prim.Native.Nat.{ℕ, _+_, _*_, _/_, _^_, _<_, _≤_};
 ghost use lib.Dec.{T};
 ghost use lib.ListN.{getD};
 ghost use lib.Ieee.{Float, binary64, isNan};
-ghost use Rattle.natural_logarithm.specs.Log.{reciprocals, logarithms, slipOf, leanOf, fractionOf, differenceOf, digitsOf, logOf};
+ghost use Rattle.natural_logarithm.specs.Log.{reciprocals, logarithms, log1mOf, tailOf, fractionOf, differenceOf, digitsOf, logOf};
 
 // 2^10 / (1 + (i+1)/128), cut to a whole number. A division: two tables by one index become one table of jumps.
 pub fn reciprocal_at(i: u64) -> u64
@@ -158,9 +158,9 @@ pub fn logarithm_at(i: u64) -> u64
 }
 
 // 1/2 + z/3 + z^2/4 + .. + z^5/7 in units of 2^-33, for z in units of 2^-38.
-pub fn lean(s: u64) -> u64
+pub fn tail(s: u64) -> u64
     requires { ⌜ s ≤ 2355575561 ⌝ }
-    ensures { λ r. ⌜ (r ≡ leanOf s) × (r ≤ 4330000000) ⌝ }
+    ensures { λ r. ⌜ (r ≡ tailOf s) × (r ≤ 4330000000) ⌝ }
 {
     let a = 1431655765 + s * 1227133513 / 274877906944;
     let b = 1717986918 + s * a / 274877906944;
@@ -170,14 +170,14 @@ pub fn lean(s: u64) -> u64
 }
 
 // -log (1 - z) in units of 2^-58, for z in units of 2^-58, below 2^-6.6.
-pub fn slip(z: u64) -> u64
+pub fn log1m(z: u64) -> u64
     requires { ⌜ z ≤ 2470000000000000 ⌝ }
-    ensures { λ r. ⌜ (r ≡ slipOf z) × (r ≤ 2 ^ 57) ⌝ }
+    ensures { λ r. ⌜ (r ≡ log1mOf z) × (r ≤ 2 ^ 57) ⌝ }
 {
     let s = z / 1048576;
     let l = z % 1048576;
     let q = (s * s + s * l / 524288) / 2147483648;
-    z + q * lean(s) / 1048576
+    z + q * tail(s) / 1048576
 }
 
 // (p - n) / 2^53 as a float. The remainder changes nothing: it tells the compiler that the number has no sign bit.
@@ -197,7 +197,7 @@ pub fn digits(e: u64, t: u64) -> f64
 {
     let i = t / 35184372088832;
     let z = (4611686018427387904 - (t + 4503599627370496) * reciprocal_at(i)) / 16;
-    let w = (logarithm_at(i) + 288230376151711744 - slip(z)) / 32;
+    let w = (logarithm_at(i) + 288230376151711744 - log1m(z)) / 32;
     difference(e * 6243314768165359 + w, 6395918207087903249)
 }
 

@@ -8,7 +8,7 @@ use borrow.Author.Needs.{needs}
 use borrow.Author.Tests.{eq-eqb, ne-eqb}
 use lib.Dec.{T, eqb, lit≤}
 use lib.ListN.{getD}
-use Rattle.circular_functions.specs.Trig.{arcOf, sagOf, acrossOf, droppedOf}
+use Rattle.circular_functions.specs.Trig.{cubicOf, versineOf, scalingOf, decrementOf}
 use Rattle.circular_tables.specs.Tables.{sines, cosines}
 use Rattle.circular_functions.proofs.TrigBound.{sines-le, cosines-le, cosines-ge}
 use Rattle.circular_functions.proofs.TrigCases.{part-is, part-some, part-le}
@@ -54,22 +54,22 @@ choose-requires c κs = search needs
 choose-requires-2 : tie.Need-choose-requires-2
 choose-requires-2 c κs = search needs
 
-arc-requires : tie.Need-arc-requires
-arc-requires c κs = search needs
+cubic-requires : tie.Need-cubic-requires
+cubic-requires c κs = search needs
 
-across-requires : tie.Need-across-requires
-across-requires c κs = (w-le (c .before), c .arc .ensures .1)
+scaling-requires : tie.Need-scaling-requires
+scaling-requires c κs = (w-le (c .before), c .cubic .ensures .1)
 
 offset-requires : tie.Need-offset-requires
 offset-requires c κs =
     let u = c .before .before .before in
-    (omega (arith, u-le u, c .across .ensures .1), λ h. le-trans (c .across .ensures .1) (le-trans (lit≤ {m = 2 ^ 51} {n = 2 ^ 57} tt) (u-ge u h)))
+    (omega (arith, u-le u, c .scaling .ensures .1), λ h. le-trans (c .scaling .ensures .1) (le-trans (lit≤ {m = 2 ^ 51} {n = 2 ^ 57} tt) (u-ge u h)))
 
-sag-requires : tie.Need-sag-requires
-sag-requires c κs = search needs
+versine-requires : tie.Need-versine-requires
+versine-requires c κs = search needs
 
-dropped-requires : tie.Need-dropped-requires
-dropped-requires c κs = (u-le (c .before .before .before .before .before), c .sag .ensures .1)
+decrement-requires : tie.Need-decrement-requires
+decrement-requires c κs = (u-le (c .before .before .before .before .before), c .versine .ensures .1)
 
 sub-result : tie.Need-sub-result
 sub-result c =
@@ -77,8 +77,8 @@ sub-result c =
     let u = m .before .before .before .before in
     let s = u .before .before .before in
     let h = s .args .h in
-    subst (λ (n : ℕ). c .dropped .result ≤ n) (sym (m .offset .ensures))
-    (part-some (eqb h 0) (u .choose .result) (m .before .across .result) (c .dropped .result) (c .dropped .ensures .1) (c .dropped .ensures .2) (m .before .across .ensures .1) (λ e. u-ge u (λ z. clash (sym (eq-eqb h 0 z) ∙ e))))
+    subst (λ (n : ℕ). c .decrement .result ≤ n) (sym (m .offset .ensures))
+    (part-some (eqb h 0) (u .choose .result) (m .before .scaling .result) (c .decrement .result) (c .decrement .ensures .1) (c .decrement .ensures .2) (m .before .scaling .ensures .1) (λ e. u-ge u (λ z. clash (sym (eq-eqb h 0 z) ∙ e))))
 
 returns : tie.Need-returns
 returns c =
@@ -91,15 +91,15 @@ returns c =
     let S = getD sines (r / 2 ^ 50) 0 in
     let C = getD cosines (r / 2 ^ 50) 0 in
     let d = r % 2 ^ 50 in
-    let p = m .before .across .result in
-    let e = c .dropped .result in
+    let p = m .before .scaling .result in
+    let e = c .decrement .result in
     let first : u .choose .result ≡ cond b S C = cc in
     let other : w .choose2 .result ≡ cond b C S = cc in
-    let moves : p ≡ acrossOf (w .choose2 .result) (arcOf d) = cc in
-    let drops : e ≡ droppedOf (u .choose .result) (sagOf d) = cc in
+    let moves : p ≡ scalingOf (w .choose2 .result) (cubicOf d) = cc in
+    let drops : e ≡ decrementOf (u .choose .result) (versineOf d) = cc in
     let is = part-is b S C d (u .choose .result) (w .choose2 .result) p e first other moves drops in (
       ap (λ (n : ℕ). n - e) (m .offset .ensures) ∙ is,
-      subst (λ (n : ℕ). n - e ≤ 2 ^ 59) (sym (m .offset .ensures)) (part-le b (u .choose .result) p e (u-le u) (m .before .across .ensures .1)),
+      subst (λ (n : ℕ). n - e ≤ 2 ^ 59) (sym (m .offset .ensures)) (part-le b (u .choose .result) p e (u-le u) (m .before .scaling .ensures .1)),
     )
 
 pub part-spec : {M : Type 1} → statement M
@@ -110,10 +110,10 @@ part-spec =
     cosine-at-requires
     choose-requires
     choose-requires-2
-    arc-requires
-    across-requires
+    cubic-requires
+    scaling-requires
     offset-requires
-    sag-requires
-    dropped-requires
+    versine-requires
+    decrement-requires
     sub-result
     returns)

@@ -12,7 +12,7 @@ use Rattle.fixed_point.specs.Fixed.{scaledOf}
 use Rattle.fixed_point.proofs.Decode.{finite-no-nan}
 use Rattle.fixed_point.proofs.Bits.{over-true, over-false, over-within}
 use Rattle.fixed_point.proofs.Range.{within-finite, within-no-nan, within-scaled}
-use Rattle.circular_functions.proofs.TrigCases.{turned-far, turned-near}
+use Rattle.circular_functions.proofs.TrigCases.{turned-reduced, turned-near}
 use Rattle.circular_functions.proofs.turned.Statement.{statement}
 use Rattle.circular_functions.proofs.turned.Tie as tie
 
@@ -35,21 +35,21 @@ in-one c = over-within 1 (c .before .args .x) (inside c)
 reachable : (x : Float) (Q k : ℕ) → Within x Q → k ≤ 62 → Q * 2 ^ k < 2 ^ 63 → T (finite x) × (k ≤ 62) × (scaledOf k x < 2 ^ 63)
 reachable x Q k h l g = (within-finite x Q h, l, lt-of-le-of-lt (within-scaled k Q x h) g)
 
-far-in : (n : ℕ) (x : Float) → n ≡ scaledOf 46 x → Within x 65536 → n ≤ 65536 * 2 ^ 46
-far-in n x e h = subst (λ (m : ℕ). m ≤ 65536 * 2 ^ 46) (sym e) (within-scaled 46 65536 x h)
+reduced-in : (n : ℕ) (x : Float) → n ≡ scaledOf 46 x → Within x 65536 → n ≤ 65536 * 2 ^ 46
+reduced-in n x e h = subst (λ (m : ℕ). m ≤ 65536 * 2 ^ 46) (sym e) (within-scaled 46 65536 x h)
 
 scaled-requires : tie.Need-scaled-requires
 scaled-requires c κs = reachable (c .before .args .x) 65536 46 (c .before .pre .0) (lit≤ {m = 46} {n = 62} tt) (lit< {m = 65536 * 2 ^ 46} {n = 2 ^ 63} tt)
 
-far-requires : tie.Need-far-requires
-far-requires c κs =
+reduced-requires : tie.Need-reduced-requires
+reduced-requires c κs =
     let s = c .before .before in
-    (far-in (c .scaled .result) (s .args .x) (c .scaled .ensures) (s .pre .0), s .pre .1)
+    (reduced-in (c .scaled .result) (s .args .x) (c .scaled .ensures) (s .pre .0), s .pre .1)
 
 returns : tie.Need-returns
 returns c =
     let t = c .before .before in
-    let e = turned-far (t .before .args .x) (t .before .args .k) (beyond t) in
+    let e = turned-reduced (t .before .args .x) (t .before .args .k) (beyond t) in
     cc e
 
 scaled-requires-2 : tie.Need-scaled-requires-2
@@ -59,11 +59,11 @@ scaled-requires-2 c κs = reachable (c .before .args .x) 1 58 (in-one c) (lit≤
 small : (c : tie.After-scaled2) → c .scaled2 .result ≤ 1 * 2 ^ 58
 small c = subst (λ (n : ℕ). n ≤ 1 * 2 ^ 58) (sym (c .scaled2 .ensures)) (within-scaled 58 1 (c .before .before .args .x) (in-one (c .before)))
 
-add-wave : tie.Need-add-wave
-add-wave c = omega (arith, small c)
+add-sinusoid : tie.Need-add-sinusoid
+add-sinusoid c = omega (arith, small c)
 
-wave-requires : tie.Need-wave-requires
-wave-requires c κs = (omega (arith, c .before .before .pre .1), omega (arith, small c))
+sinusoid-requires : tie.Need-sinusoid-requires
+sinusoid-requires c κs = (omega (arith, c .before .before .pre .1), omega (arith, small c))
 
 returns-2 : tie.Need-returns-2
 returns-2 c =
@@ -77,9 +77,9 @@ turned-spec =
     (tie.spec
     float-to-bits-b
     scaled-requires
-    far-requires
+    reduced-requires
     returns
     scaled-requires-2
-    add-wave
-    wave-requires
+    add-sinusoid
+    sinusoid-requires
     returns-2)

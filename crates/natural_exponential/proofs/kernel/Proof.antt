@@ -18,21 +18,21 @@ high-requires : tie.Need-high-requires
 high-requires c κs =
     omega (arith, c .before .coarse-at .ensures, c .fine-at .ensures, coarse-le (c .before .before .args .t / 2 ^ 53), fine-le (c .before .before .args .t / 2 ^ 48 % 32))
 
-growth-requires : tie.Need-growth-requires
-growth-requires c κs = search needs
+expm1-requires : tie.Need-expm1-requires
+expm1-requires c κs = search needs
 
-grown-requires : tie.Need-grown-requires
-grown-requires c κs =
+compounded-requires : tie.Need-compounded-requires
+compounded-requires c κs =
     let at = c .before .before in
     let a : at .before .coarse-at .result ≤ 3134000000000000000 = omega (arith, at .before .coarse-at .ensures, coarse-le (at .before .before .args .t / 2 ^ 53)) in
     let b : at .fine-at .result ≤ 4755000000000000000 = omega (arith, at .fine-at .ensures, fine-le (at .before .before .args .t / 2 ^ 48 % 32)) in
-    (subst (λ (n : ℕ). n ≤ 808000000000000000) (sym (c .before .high .ensures)) (high-le a b), c .growth .ensures .1)
+    (subst (λ (n : ℕ). n ≤ 808000000000000000) (sym (c .before .high .ensures)) (high-le a b), c .expm1 .ensures .1)
 
 returns : tie.Need-returns
 returns c =
     let t = c .before .before .before .before .before .args .t in
-    let e : c .grown .result ≡ kernelOf t = cc in
-    (e, subst (λ (n : ℕ). 128 ≤ n) (sym e) (kernel-ge t (c .before .before .before .before .before .pre)), c .grown .ensures .1)
+    let e : c .compounded .result ≡ kernelOf t = cc in
+    (e, subst (λ (n : ℕ). 128 ≤ n) (sym e) (kernel-ge t (c .before .before .before .before .before .pre)), c .compounded .ensures .1)
 
 pub kernel-spec : {M : Type 1} → statement M
-kernel-spec = tie.close (tie.spec coarse-at-requires fine-at-requires high-requires growth-requires grown-requires returns)
+kernel-spec = tie.close (tie.spec coarse-at-requires fine-at-requires high-requires expm1-requires compounded-requires returns)

@@ -42,15 +42,15 @@ entry-le c = subst (λ (n : ℕ). n ≤ 2 ^ 58) (sym (c .logarithm-at .ensures))
 add-w : tie.Need-add-w
 add-w c = omega (arith, entry-le c)
 
-slip-requires : tie.Need-slip-requires
-slip-requires c κs = left-le (c .before)
+log1m-requires : tie.Need-log1m-requires
+log1m-requires c κs = left-le (c .before)
 
 sub-w : tie.Need-sub-w
-sub-w c = omega (arith, c .slip .ensures .1)
+sub-w c = omega (arith, c .log1m .ensures .1)
 
 -- less than 1 and log 2, and 1 more
-w-lt : (c : tie.After-slip) → (c .before .logarithm-at .result + 2 ^ 58 - c .slip .result) / 32 ≤ 2 ^ 54
-w-lt c = cut (c .before .logarithm-at .result) (c .slip .result) (entry-le (c .before))
+w-lt : (c : tie.After-log1m) → (c .before .logarithm-at .result + 2 ^ 58 - c .log1m .result) / 32 ≤ 2 ^ 54
+w-lt c = cut (c .before .logarithm-at .result) (c .log1m .result) (entry-le (c .before))
   where
     cut : (a s : ℕ) → a ≤ 2 ^ 58 → (a + 2 ^ 58 - s) / 32 ≤ 2 ^ 54
     cut a s h = omega arith
@@ -68,4 +68,4 @@ returns : tie.Need-returns
 returns c = cc
 
 pub digits-spec : {M : Type 1} → statement M
-digits-spec = tie.close (tie.spec add-z reciprocal-at-requires mul-z sub-z logarithm-at-requires add-w slip-requires sub-w mul-difference add-difference difference-requires returns)
+digits-spec = tie.close (tie.spec add-z reciprocal-at-requires mul-z sub-z logarithm-at-requires add-w log1m-requires sub-w mul-difference add-difference difference-requires returns)

@@ -1,9 +1,9 @@
--- `circular_functions::across` meets its contract. Assumes nothing.
+-- `circular_functions::scaling` meets its contract. Assumes nothing.
 use mathlib.Core.Path.{refl}
 use native.Mathlib.Omega.{arith}
-use Rattle.circular_functions.proofs.TrigBound.{upper-le, lower-le, across-le}
-use Rattle.circular_functions.proofs.across.Statement.{statement}
-use Rattle.circular_functions.proofs.across.Tie as tie
+use Rattle.circular_functions.proofs.TrigBound.{upper-le, lower-le, scaling-le}
+use Rattle.circular_functions.proofs.scaling.Statement.{statement}
+use Rattle.circular_functions.proofs.scaling.Tie as tie
 
 mul-result : tie.Need-mul-result
 mul-result c = omega (arith, upper-le (c .args .a) (c .args .p) (c .pre .0) (c .pre .1))
@@ -15,7 +15,7 @@ add-result : tie.Need-add-result
 add-result c = omega (arith, upper-le (c .args .a) (c .args .p) (c .pre .0) (c .pre .1), lower-le (c .args .a) (c .args .p) (c .pre .0) (c .pre .1))
 
 returns : tie.Need-returns
-returns c = (refl, across-le (c .args .a) (c .args .p) (c .pre .0) (c .pre .1))
+returns c = (refl, scaling-le (c .args .a) (c .args .p) (c .pre .0) (c .pre .1))
 
-pub across-spec : {M : Type 1} → statement M
-across-spec = tie.close (tie.spec mul-result mul-result-2 add-result returns)
+pub scaling-spec : {M : Type 1} → statement M
+scaling-spec = tie.close (tie.spec mul-result mul-result-2 add-result returns)

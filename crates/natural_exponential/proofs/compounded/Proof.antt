@@ -1,10 +1,10 @@
--- `natural_exponential::grown` meets its contract. Assumes nothing.
+-- `natural_exponential::compounded` meets its contract. Assumes nothing.
 use mathlib.Core.Path.{refl}
 use Prim.Native.Nat.{_*_, _/_, _%_, _^_, _≤_}
 use native.Mathlib.Omega.{arith}
 use Rattle.natural_exponential.proofs.Bound.{upper-le, lower-le}
-use Rattle.natural_exponential.proofs.grown.Statement.{statement}
-use Rattle.natural_exponential.proofs.grown.Tie as tie
+use Rattle.natural_exponential.proofs.compounded.Statement.{statement}
+use Rattle.natural_exponential.proofs.compounded.Tie as tie
 
 module _ (c : tie.Start) where
   upper : c .args .p * (c .args .c / 2 ^ 38) ≤ 2200097350000 * 2939487
@@ -28,5 +28,5 @@ add-result-2 c = omega (arith, upper c, lower c)
 returns : tie.Need-returns
 returns c = (refl, omega (arith, upper c, lower c))
 
-pub grown-spec : {M : Type 1} → statement M
-grown-spec = tie.close (tie.spec mul-result mul-result-2 add-result add-result-2 returns)
+pub compounded-spec : {M : Type 1} → statement M
+compounded-spec = tie.close (tie.spec mul-result mul-result-2 add-result add-result-2 returns)

@@ -1,10 +1,10 @@
--- `natural_logarithm::lean` meets its contract. Assumes nothing.
+-- `natural_logarithm::tail` meets its contract. Assumes nothing.
 use mathlib.Core.Path.{refl}
 use native.Mathlib.Omega.{arith}
 use borrow.Author.Needs.{needs}
-use Rattle.natural_logarithm.proofs.LogBound.{b-product, c-product, d-product, lean-product, lean-le}
-use Rattle.natural_logarithm.proofs.lean.Statement.{statement}
-use Rattle.natural_logarithm.proofs.lean.Tie as tie
+use Rattle.natural_logarithm.proofs.LogBound.{b-product, c-product, d-product, tail-product, tail-le}
+use Rattle.natural_logarithm.proofs.tail.Statement.{statement}
+use Rattle.natural_logarithm.proofs.tail.Tie as tie
 
 mul-a : tie.Need-mul-a
 mul-a c = search needs
@@ -31,15 +31,15 @@ add-d : tie.Need-add-d
 add-d c = omega (arith, d-product (c .args .s) (c .pre))
 
 mul-result : tie.Need-mul-result
-mul-result c = omega (arith, lean-product (c .args .s) (c .pre))
+mul-result c = omega (arith, tail-product (c .args .s) (c .pre))
 
 add-result : tie.Need-add-result
-add-result c = omega (arith, lean-product (c .args .s) (c .pre))
+add-result c = omega (arith, tail-product (c .args .s) (c .pre))
 
 returns : tie.Need-returns
-returns c = (refl, lean-le (c .args .s) (c .pre))
+returns c = (refl, tail-le (c .args .s) (c .pre))
 
-pub lean-spec : {M : Type 1} → statement M
-lean-spec =
+pub tail-spec : {M : Type 1} → statement M
+tail-spec =
     tie.close
     (tie.spec mul-a add-a mul-b add-b mul-c add-c mul-d add-d mul-result add-result returns)

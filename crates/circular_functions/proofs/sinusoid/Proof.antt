@@ -1,10 +1,10 @@
--- `circular_functions::wave` meets its contract. Assumes nothing.
+-- `circular_functions::sinusoid` meets its contract. Assumes nothing.
 use mathlib.Core.Path.{_≡_, sym, subst}
 use Prim.Native.Nat.{ℕ, _^_, _≤_}
 use borrow.Author.Needs.{needs}
 use Rattle.circular_functions.proofs.TrigCases.{rest-one}
-use Rattle.circular_functions.proofs.wave.Statement.{statement}
-use Rattle.circular_functions.proofs.wave.Tie as tie
+use Rattle.circular_functions.proofs.sinusoid.Statement.{statement}
+use Rattle.circular_functions.proofs.sinusoid.Tie as tie
 
 quarter-requires : tie.Need-quarter-requires
 quarter-requires c κs = search needs
@@ -21,6 +21,6 @@ signed-requires c κs = search needs
 returns : tie.Need-returns
 returns c = cc
 
-pub wave-spec : {M : Type 1} → statement M
-wave-spec =
+pub sinusoid-spec : {M : Type 1} → statement M
+sinusoid-spec =
     tie.close (tie.spec quarter-requires apart-requires part-requires signed-requires returns)
