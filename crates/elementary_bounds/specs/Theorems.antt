@@ -1,0 +1,136 @@
+-- What holds of the elementary functions, each statement with its meaning in words. `proofs/Proved.antt` has the proof of each under the same name.
+-- A finite float is ±n / d, with the numerator n and the denominator d below; `HasValue y s a c` says that y is a / c with the sign s, exactly.
+use Prim.Native.Nat.{ℕ, _+_, _-_, _*_, _^_, _≤_, _<_}
+use mathlib.Core.Path.{_≡_}
+use mathlib.Core.Bool.{Bool, true, false}
+use lib.Dec.{T}
+use lib.IntN.{ℤ, pos, negsuc}
+use lib.Ieee.{Float, nan, inf, fin, binary64, up, down, fits, mul, lt, eq}
+use lib.Ieee.Exact.{HasValue}
+use Rattle.fixed_point.specs.Float.{Within, one, nought, tiny}
+use Rattle.natural_exponential.specs.Exp.{expOf, most, least}
+use Rattle.natural_logarithm.specs.Log.{logOf}
+use Rattle.circular_functions.specs.Trig.{signOf, sinOf, cosOf}
+use Rattle.square_root.specs.Root.{sqrtOf}
+use Rattle.elementary.specs.Pow.{powOf}
+use Rattle.elementary_bounds.specs.Series.{Near, NearLog, expAdding, expTaking, sinAdding, sinTaking, cosAdding, cosTaking}
+
+abbrev pub numerator : Float → ℕ
+numerator nan = 0
+numerator (inf s) = 0
+numerator (fin s m e) = m * up e
+
+abbrev pub denominator : Float → ℕ
+denominator nan = 1
+denominator (inf s) = 1
+denominator (fin s m e) = down e
+
+abbrev pub negative : Float → Bool
+negative nan = false
+negative (inf s) = s
+negative (fin s m e) = s
+
+-- y is (p - n) / c exactly
+abbrev pub HasDifference : Float → ℕ → ℕ → ℕ → Type 0
+HasDifference nan p n c = ⊥
+HasDifference (inf s) p n c = ⊥
+HasDifference (fin false m e) p n c = m * up e * c + n * down e ≡ p * down e
+HasDifference (fin true m e) p n c = m * up e * c + p * down e ≡ n * down e
+
+-- ---- the series
+
+-- From -1 to 1, exp x is q / 2 ^ 51 for a q within 128, which is 2 ^ -44, of the sum of x ^ k / k! for k from 0 to 20.
+-- The series is taken at the exact x; below 0 its odd terms are taken off.
+abbrev pub ExpNear : Type 0
+ExpNear = (x : Float) → Within x 1 → (q : ℕ) × HasValue (expOf x) false q (2 ^ 51) × Near (expAdding (negative x)) (expTaking (negative x)) (numerator x) (denominator x) q
+
+-- From -1 to 1, sin x is q / 2 ^ 51 with the sign of x, for a q within 2 ^ -44 of its series through the 20th power at |x|.
+-- A zero result has no sign.
+abbrev pub SinNear : Type 0
+SinNear = (x : Float) → Within x 1 → (q : ℕ) × HasValue (sinOf x) (signOf (negative x) q) q (2 ^ 51) × Near sinAdding sinTaking (numerator x) (denominator x) q
+
+-- From -1 to 1, cos x is q / 2 ^ 51 for a q within 2 ^ -44 of its series through the 20th power at |x|.
+-- It is never negative there.
+abbrev pub CosNear : Type 0
+CosNear = (x : Float) → Within x 1 → (q : ℕ) × HasValue (cosOf x) false q (2 ^ 51) × Near cosAdding cosTaking (numerator x) (denominator x) q
+
+-- From 1/2 to 2, log x is (p - n) / 2 ^ 53, within 2 ^ -44 of twice the sum of z ^ k / k, k odd from 1 to 39, z = (x - 1) / (x + 1).
+-- For x below 1 the series at -z is what n - p is near.
+abbrev pub LogNear : Type 0
+LogNear =
+    (x : Float) → T (fits binary64 x) → negative x ≡ false → denominator x ≤ 2 * numerator x → numerator x ≤ 2 * denominator x
+    → (p : ℕ) × (n : ℕ) × HasDifference (logOf x) p n (2 ^ 53)
+    × (denominator x ≤ numerator x → NearLog p n (numerator x - denominator x) (numerator x + denominator x))
+    × (numerator x ≤ denominator x → NearLog n p (denominator x - numerator x) (numerator x + denominator x))
+
+-- ---- sizes
+
+-- Wherever sin x is a number, that is for |x| up to 65,536, it is at most 1 in size.
+-- Elsewhere it is NaN (`SinBeyond`).
+abbrev pub SinSize : Type 0
+SinSize = (x : Float) → Within x 65536 → Within (sinOf x) 1
+
+-- Wherever cos x is a number, that is for |x| up to 65,536, it is at most 1 in size.
+-- Elsewhere it is NaN (`CosBeyond`).
+abbrev pub CosSize : Type 0
+CosSize = (x : Float) → Within x 65536 → Within (cosOf x) 1
+
+-- ---- the square root
+
+-- From 2 ^ -1022 on, sqrt x is r units of 2 ^ f / 2 ^ 1074, with r of 53 digits, and x lies strictly between the squares of r - 1/2 and r + 1/2 units:
+-- it is the float nearest to the root of x. The ends are never met, so no tie arises. (A smaller x is multiplied by 2 ^ 54 first.)
+abbrev pub SqrtNear : Type 0
+SqrtNear =
+    (x : Float) → T (fits binary64 x) → negative x ≡ false → denominator x ≤ numerator x * 2 ^ 1022
+    → (r : ℕ) × (f : ℕ) × (2 ^ 52 ≤ r) × (r < 2 ^ 53) × HasValue (sqrtOf x) false (r * 2 ^ f) (2 ^ 1074)
+    × ((2 * r - 1) * (2 * r - 1) * (2 ^ f * 2 ^ f) * denominator x < 4 * numerator x * 2 ^ 2148)
+    × (4 * numerator x * 2 ^ 2148 < (2 * r + 1) * (2 * r + 1) * (2 ^ f * 2 ^ f) * denominator x)
+
+-- ---- special values
+
+-- exp of either zero is 1.
+-- s is the zero's sign.
+abbrev pub ExpZero : Type 0
+ExpZero = (s : Bool) → expOf (fin s 0 (pos 0)) ≡ one
+
+-- exp of NaN is NaN, above 709 it is +infinity, and below -708 it is 0.
+-- Both infinities are such arguments.
+abbrev pub ExpEnds : Type 0
+ExpEnds = (expOf nan ≡ nan) × ((x : Float) → lt most x ≡ true → expOf x ≡ inf false) × ((x : Float) → lt x least ≡ true → expOf x ≡ nought)
+
+-- log of NaN and of a number below 0 is NaN, below 2 ^ -1022 it is -infinity, zeros of both signs included;
+-- of +infinity it is +infinity, and of 1 it is 0.
+abbrev pub LogEnds : Type 0
+LogEnds =
+    (logOf nan ≡ nan) × ((x : Float) → lt x nought ≡ true → logOf x ≡ nan) × ((x : Float) → lt x nought ≡ false → lt x tiny ≡ true → logOf x ≡ inf true)
+    × (logOf (inf false) ≡ inf false) × (logOf one ≡ nought)
+
+-- sin of either zero is +0, and cos of it is 1.
+-- s is the zero's sign.
+abbrev pub SinCosZero : Type 0
+SinCosZero = (s : Bool) → (sinOf (fin s 0 (pos 0)) ≡ nought) × (cosOf (fin s 0 (pos 0)) ≡ one)
+
+-- Beyond 65,536 in size sin is NaN, and so it is of an infinity and of NaN.
+-- d < n means |x| > 1, and so on.
+abbrev pub SinBeyond : Type 0
+SinBeyond = ((x : Float) → 65536 * denominator x < numerator x → sinOf x ≡ nan) × ((s : Bool) → sinOf (inf s) ≡ nan) × (sinOf nan ≡ nan)
+
+-- Beyond 65,536 in size cos is NaN, and so it is of an infinity and of NaN.
+-- The bound is the same as that of sin.
+abbrev pub CosBeyond : Type 0
+CosBeyond = ((x : Float) → 65536 * denominator x < numerator x → cosOf x ≡ nan) × ((s : Bool) → cosOf (inf s) ≡ nan) × (cosOf nan ≡ nan)
+
+-- The square root of either zero is that zero, of +infinity +infinity, of NaN and of any number below 0 NaN.
+-- -infinity is below 0, and -0 is not.
+abbrev pub SqrtEnds : Type 0
+SqrtEnds = ((s : Bool) → sqrtOf (fin s 0 (pos 0)) ≡ fin s 0 (pos 0)) × (sqrtOf (inf false) ≡ inf false) × (sqrtOf nan ≡ nan) × ((x : Float) → lt x nought ≡ true → sqrtOf x ≡ nan)
+
+-- pow (b, 2) is b × b, rounded once.
+-- So it is for every b, NaN and infinities included.
+abbrev pub PowTwo : Type 0
+PowTwo = (b : Float) → powOf b (fin false 1 (pos 1)) ≡ mul binary64 b b
+
+-- pow (b, e) is 1 for e either zero, and the square root of b for e = 1/2.
+-- Both hold for every b.
+abbrev pub PowRules : Type 0
+PowRules = ((b : Float) (s : Bool) → powOf b (fin s 0 (pos 0)) ≡ one) × ((b : Float) → powOf b (fin false 1 (negsuc 0)) ≡ sqrtOf b)

@@ -1,0 +1,1 @@
+// No code: the bounds of the elementary functions, shown from their definitions.

@@ -1,0 +1,10 @@
+-- Laws that several proofs cite.
+pub mod Product
+pub mod Rest
+pub mod Choice
+pub mod Decode
+pub mod Bits
+pub mod Assemble
+pub mod Table
+pub mod Range
+pub mod Negative

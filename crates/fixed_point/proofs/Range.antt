@@ -1,0 +1,116 @@
+-- What tests of a float against constants say of its size, and back. Assumes nothing.
+use mathlib.Core.Path.{_≡_, refl, sym, ap, _∙_, subst}
+use mathlib.Core.Bool.{Bool, true, false, not, cond}
+use Prim.Native.Nat.{ℕ, zero, suc, _+_, _-_, _*_, _/_, _^_, _≤_, _<_}
+use native.Mathlib.Omega.{arith}
+use native.Mathlib.Nat.{le-trans, div-le-of-le-mul, mul-le-mul-right, zero-lt-suc, zero-div}
+use borrow.Author.Tests.{ltb-false, le-ltb}
+use lib.Dec.{T, ltb}
+use lib.IntN.{ℤ, pos, negsuc}
+use lib.Ieee.{Float, nan, inf, fin, up, down, ne, lt, isNan}
+use lib.Ieee.Scale.{finite}
+use Rattle.fixed_point.specs.Float.{Within, minusSign}
+use Rattle.fixed_point.specs.Fixed.{scaledOf}
+use Rattle.fixed_point.specs.Float.{one, minusOne, nought}
+
+-- true is not false
+clash : {X : Type 0} → true ≡ false → X
+clash {X} e = absurd (subst T e tt)
+
+pub is-nan : (x : Float) → ne x x ≡ false → isNan x ≡ false
+unfolding ne isNan
+is-nan nan e = e
+is-nan (inf s) e = refl
+is-nan (fin s m e) h = refl
+
+-- what passes a test is no NaN
+pub passes-left : (x y : Float) → lt x y ≡ true → isNan x ≡ false
+unfolding lt isNan
+passes-left nan y h = clash (sym h)
+passes-left (inf s) y h = refl
+passes-left (fin s m e) y h = refl
+
+pub passes-right : (x y : Float) → lt x y ≡ true → isNan y ≡ false
+unfolding lt isNan
+passes-right nan nan h = clash (sym h)
+passes-right (inf s) nan h = clash (sym h)
+passes-right (fin s m e) nan h = clash (sym h)
+passes-right x (inf s) h = refl
+passes-right x (fin s m e) h = refl
+
+widen : (p d a Q : ℕ) → p ≤ a * d → a ≤ Q → p ≤ Q * d
+widen p d a Q h k = le-trans h (mul-le-mul-right d k)
+
+plain : (p a b d : ℕ) → p * 1 ≤ a * b * d → p ≤ a * b * d
+plain p a b d h = omega arith
+
+-- by a test above and a test below
+pub between : (a i b j Q : ℕ) (x : Float) → isNan x ≡ false → lt (fin false a (pos i)) x ≡ false → lt x (fin true b (pos j)) ≡ false → a * 2 ^ i ≤ Q → b * 2 ^ j ≤ Q → Within x Q
+unfolding isNan lt
+between a i b j Q nan n h k A B = clash n
+between a i b j Q (inf false) n h k A B = clash h
+between a i b j Q (inf true) n h k A B = clash k
+between a i b j Q (fin false m e) n h k A B = widen (m * up e) (down e) (a * 2 ^ i) Q (plain (m * up e) a (2 ^ i) (down e) (ltb-false (a * 2 ^ i * down e) (m * up e * 1) h)) A
+between a i b j Q (fin true m e) n h k A B = widen (m * up e) (down e) (b * 2 ^ j) Q (plain (m * up e) b (2 ^ j) (down e) (ltb-false (b * 2 ^ j * down e) (m * up e * 1) k)) B
+
+-- with a minus sign, the test below is enough
+pub minus-within : (b j : ℕ) (x : Float) → T (finite x) → (minusSign x ≡ 0 → ⊥) → lt x (fin true b (pos j)) ≡ false → Within x (b * 2 ^ j)
+unfolding lt
+minus-within b j nan f n k = absurd f
+minus-within b j (inf s) f n k = absurd f
+minus-within b j (fin false m e) f n k = absurd (n refl)
+minus-within b j (fin true m e) f n k = plain (m * up e) b (2 ^ j) (down e) (ltb-false (b * 2 ^ j * down e) (m * up e * 1) k)
+
+pub within-finite : (x : Float) (Q : ℕ) → Within x Q → T (finite x)
+within-finite nan Q h = h
+within-finite (inf s) Q h = h
+within-finite (fin s m e) Q h = tt
+
+pub within-no-nan : (x : Float) (Q : ℕ) → Within x Q → isNan x ≡ false
+unfolding isNan
+within-no-nan nan Q h = absurd h
+within-no-nan (inf s) Q h = absurd h
+within-no-nan (fin s m e) Q h = refl
+
+swap : (p d Q c : ℕ) → p * c ≤ Q * d * c → p * c ≤ d * (Q * c)
+swap p d Q c h = omega arith
+
+pub within-scaled : (k Q : ℕ) (x : Float) → Within x Q → scaledOf k x ≤ Q * 2 ^ k
+within-scaled k Q nan h = absurd h
+within-scaled k Q (inf s) h = absurd h
+within-scaled k Q (fin s m e) h = div-le-of-le-mul (down e) (swap (m * up e) (down e) Q (2 ^ k) (mul-le-mul-right (2 ^ k) h))
+
+-- ---- and back: which tests a number within Q leaves unmet
+
+module _ (s : Bool) (m : ℕ) (e : ℤ) (Q : ℕ) (h : Within (fin s m e) Q) where
+  far : (a p d : ℕ) → Q ≤ a → p ≤ Q * d → p * 1 ≤ a * d
+  far a p d l g = omega (arith, mul-le-mul-right d l)
+
+  pub not-over : (a i : ℕ) → Q ≤ a * 2 ^ i → lt (fin false a (pos i)) (fin s m e) ≡ false
+  unfolding lt
+  not-over a i l = elim s as (λ b. Within (fin b m e) Q → lt (fin false a (pos i)) (fin b m e) ≡ false) [
+    | false ↦ λ g. le-ltb (a * 2 ^ i * down e) (m * up e * 1) (far (a * 2 ^ i) (m * up e) (down e) l g)
+    | true ↦ λ g. refl
+  ] h
+
+  pub not-under : (a j : ℕ) → Q ≤ a * 2 ^ j → lt (fin s m e) (fin true a (pos j)) ≡ false
+  unfolding lt
+  not-under a j l = elim s as (λ b. Within (fin b m e) Q → lt (fin b m e) (fin true a (pos j)) ≡ false) [
+    | false ↦ λ g. refl
+    | true ↦ λ g. le-ltb (a * 2 ^ j * down e) (m * up e * 1) (far (a * 2 ^ j) (m * up e) (down e) l g)
+  ] h
+
+-- what is not below 0: a number with no sign, and -0
+pub not-negative : (m : ℕ) (e : ℤ) → lt (fin false m e) nought ≡ false
+unfolding lt
+not-negative m e = le-ltb (m * up e * 1) (0 * 1 * down e) (nothing (m * up e * 1) (down e))
+  where
+    nothing : (p d : ℕ) → 0 * 1 * d ≤ p
+    nothing p d = omega arith
+
+pub minus-zero : (k m : ℕ) (e : ℤ) → lt (fin true m e) nought ≡ false → scaledOf k (fin true m e) ≡ 0
+unfolding lt
+minus-zero k m e h = ap (λ (z : ℕ). z / down e) (none (m * up e) (down e) (2 ^ k) (ltb-false 0 (m * up e * 1 + 0 * 1 * down e) h)) ∙ zero-div (down e)
+  where
+    none : (p d c : ℕ) → p * 1 + 0 * 1 * d ≤ 0 → p * c ≡ 0
+    none p d c h = omega (arith, mul-le-mul-right c h)

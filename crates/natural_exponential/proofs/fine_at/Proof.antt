@@ -1,0 +1,26 @@
+-- `natural_exponential::fine_at` meets its contract. Assumes nothing.
+use mathlib.Core.Path.{_≡_}
+use native.Mathlib.Omega.{arith}
+use borrow.Author.Needs.{needs}
+use Rattle.natural_exponential.specs.Exp.{fine}
+use Rattle.fixed_point.proofs.Rest.{rest-above}
+use Rattle.natural_exponential.proofs.fine_at.Statement.{statement}
+use Rattle.natural_exponential.proofs.fine_at.Tie as tie
+
+-- past the last key: no index is left
+beyond : tie.Need-returns-33
+beyond c = omega (arith, rest-above 32 (c .before .args .i) (c .match .rest))
+
+pub fine-at-spec : {M : Type 1} → statement M
+unfolding fine
+fine-at-spec =
+    tie.close
+    (tie.spec
+    (λ c. search needs) (λ c. search needs) (λ c. search needs) (λ c. search needs) (λ c. search needs)
+    (λ c. search needs) (λ c. search needs) (λ c. search needs) (λ c. search needs) (λ c. search needs)
+    (λ c. search needs) (λ c. search needs) (λ c. search needs) (λ c. search needs) (λ c. search needs)
+    (λ c. search needs) (λ c. search needs) (λ c. search needs) (λ c. search needs) (λ c. search needs)
+    (λ c. search needs) (λ c. search needs) (λ c. search needs) (λ c. search needs) (λ c. search needs)
+    (λ c. search needs) (λ c. search needs) (λ c. search needs) (λ c. search needs) (λ c. search needs)
+    (λ c. search needs) (λ c. search needs)
+    beyond)

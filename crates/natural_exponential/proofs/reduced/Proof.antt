@@ -1,0 +1,121 @@
+-- `natural_exponential::reduced` meets its contract. Assumes nothing.
+use mathlib.Core.Path.{_≡_, sym, subst}
+use Prim.Native.Nat.{ℕ, _+_, _-_, _*_, _^_, _≤_, _<_}
+use native.Mathlib.Omega.{arith}
+use borrow.Author.Needs.{needs}
+use lib.Dec.{eqb}
+use Rattle.fixed_point.specs.Fixed.{chooseOf, offsetOf}
+use Rattle.fixed_point.proofs.Choice.{either-le, either-ge}
+use Rattle.natural_exponential.specs.Exp.{timesOf, gapOf, restOf}
+use Rattle.natural_exponential.proofs.Reduce.{Reduced, reduced}
+use Rattle.natural_exponential.proofs.reduced.Statement.{statement}
+use Rattle.natural_exponential.proofs.reduced.Tie as tie
+
+laws : (c : tie.Start) → Reduced (c .args .s) (c .args .m) (timesOf (c .args .m) + c .args .s)
+laws c = reduced (c .args .s) (c .args .m) (c .pre .0) (c .pre .1) (c .pre .2)
+
+mul-n : tie.Need-mul-n
+mul-n c = search needs
+
+add-n : tie.Need-add-n
+add-n c = omega (arith, laws c .few)
+
+mul-u : tie.Need-mul-u
+mul-u c = omega (arith, laws c .few)
+
+choose-requires : tie.Need-choose-requires
+choose-requires c κs = search needs
+
+larger : (c : tie.After-choose) → c .choose .result ≤ 2 ^ 63
+larger c =
+    let s = c .before in
+    subst (λ (n : ℕ). n ≤ 2 ^ 63) (sym (c .choose .ensures)) (either-le (eqb (s .args .s) 0) (first (s .args .m) (s .pre .1)) (second (timesOf (s .args .m) + s .args .s) (laws s .few)))
+  where
+    first : (m : ℕ) → m ≤ 709 * 2 ^ 53 → m ≤ 2 ^ 63
+    first m h = omega arith
+
+    second : (n : ℕ) → n ≤ 1022 → n * 6243314768165359 ≤ 2 ^ 63
+    second n h = omega arith
+
+add-d : tie.Need-add-d
+add-d c = omega (arith, larger c)
+
+choose-requires-2 : tie.Need-choose-requires-2
+choose-requires-2 c κs = search needs
+
+sub-d : tie.Need-sub-d
+sub-d c = omega (arith, laws (c .before .before) .some, c .before .choose .ensures, c .choose2 .ensures)
+
+sub-offset : tie.Need-sub-offset
+sub-offset c = search needs
+
+-- the difference is the definition's
+gap-is : (c : tie.After-choose2) → 2 ^ 53 + c .before .choose .result - c .choose2 .result ≡ gapOf (c .before .before .args .s) (c .before .before .args .m) (timesOf (c .before .before .args .m) + c .before .before .args .s)
+gap-is c = cc
+
+mul-offset : tie.Need-mul-offset
+mul-offset c =
+    let s = c .before .before in
+    let n = timesOf (s .args .m) + s .args .s in
+    record { fits = subst (λ (d : ℕ). d * 32 < 2 ^ 64) (sym (gap-is c)) (part (gapOf (s .args .s) (s .args .m) n) n (laws s .small)) }
+  where
+    part : (d n : ℕ) → d * 32 + n * 6 < 2 ^ 64 → d * 32 < 2 ^ 64
+    part d n h = omega arith
+
+mul-offset-2 : tie.Need-mul-offset-2
+mul-offset-2 c = omega (arith, laws (c .before .before) .few)
+
+offset-requires : tie.Need-offset-requires
+offset-requires c κs =
+    let s = c .before .before in
+    let n = timesOf (s .args .m) + s .args .s in
+    subst (λ (d : ℕ). (d * 32 + n * 6 < 2 ^ 64) × ((1 - s .args .s ≡ 0 → ⊥) → n * 6 ≤ d * 32)) (sym (gap-is c)) (laws s .small, laws s .more)
+
+rest-is : (c : tie.After-offset) → c .offset .result ≡ restOf (c .before .before .before .args .s) (c .before .before .before .args .m) (timesOf (c .before .before .before .args .m) + c .before .before .before .args .s)
+rest-is c = let g = gap-is (c .before) in cc g
+
+kernel-requires : tie.Need-kernel-requires
+kernel-requires c κs = subst (λ (t : ℕ). t ≤ 2 ^ 59) (sym (rest-is c)) (laws (c .before .before .before) .inside)
+
+offset-requires-2 : tie.Need-offset-requires-2
+offset-requires-2 c κs =
+    let f = laws (c .before .before .before .before) .few in
+    (omega (arith, f), λ z. omega (arith, f))
+
+exponent : (s n : ℕ) → n ≤ 1022 → (1 ≤ offsetOf s 1023 n) × (offsetOf s 1023 n ≤ 2046)
+exponent s n h =
+    let a : 1 ≤ 1023 + n = omega arith in
+    let b : 1 ≤ 1023 - n = omega arith in
+    let c : 1023 + n ≤ 2046 = omega arith in
+    let d : 1023 - n ≤ 2046 = omega arith in
+    (either-ge (eqb s 0) a b, either-le (eqb s 0) c d)
+
+assembled-requires : tie.Need-assembled-requires
+assembled-requires c κs =
+    let k = c .before in
+    let s = k .before .before .before .before in
+    let e = exponent (s .args .s) (timesOf (s .args .m) + s .args .s) (laws s .few) in
+    (k .kernel .ensures .1, k .kernel .ensures .2, subst (λ (n : ℕ). 1 ≤ n) (sym (c .offset2 .ensures)) (e .0), subst (λ (n : ℕ). n ≤ 2046) (sym (c .offset2 .ensures)) (e .1))
+
+returns : tie.Need-returns
+returns c = let g = rest-is (c .before .before .before) in cc g
+
+pub reduced-spec : {M : Type 1} → statement M
+reduced-spec =
+    tie.close
+    (tie.spec
+    mul-n
+    add-n
+    mul-u
+    choose-requires
+    add-d
+    choose-requires-2
+    sub-d
+    sub-offset
+    mul-offset
+    mul-offset-2
+    offset-requires
+    kernel-requires
+    offset-requires-2
+    assembled-requires
+    returns)

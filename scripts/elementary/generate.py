@@ -1,0 +1,143 @@
+#!/usr/bin/env python3
+"""generate.py [--check]: the tables and the coefficients of the series of the elementary functions.
+
+Writes each into the files that hold it, in place of what stands there; --check only compares, and fails where they differ.
+Tables are cut down to whole numbers, at 400 bits by mpmath. Coefficients are whole numbers and exact.
+"""
+import re
+import sys
+from math import comb, factorial, lcm
+from pathlib import Path
+
+from mpmath import cos, exp, floor, log, mp, mpf, sin
+
+mp.prec = 400
+ROOT = Path(__file__).resolve().parents[2] / "crates"
+
+
+def table(count, f):
+    return [int(floor(f(mpf(i)))) for i in range(count)]
+
+
+# ---- tables
+
+COARSE = table(65, lambda i: exp(i / 32 - 1) * 2**60)
+FINE = table(32, lambda i: exp(i / 1024) * 2**62)
+SINES = table(257, lambda i: sin(i / 256) * 2**58)
+COSINES = table(257, lambda i: cos(i / 256) * 2**58)
+RECIPROCALS = [131072 // (129 + i) for i in range(128)]
+LOGARITHMS = [int(floor(log(mpf(1024) / r) * 2**58)) for r in RECIPROCALS]
+
+# ---- series through the 20th power, in units of 1 / 20!
+
+FACTORS = [factorial(20) // factorial(k) for k in range(21)]
+
+
+def every(period, place):
+    return [c if k % period == place else 0 for k, c in enumerate(FACTORS)]
+
+
+# about -1: the coefficients of the same polynomial in x + 1
+LOWER = [sum(FACTORS[n] * comb(n, k) * (-1) ** (n - k) for n in range(k, 21)) for k in range(21)]
+
+# ---- log's series through the 39th power, times the least common multiple of the odd numbers up to 39
+
+MULTIPLE = lcm(*range(1, 40, 2))
+LOG_FACTORS = [2 * MULTIPLE // k for k in range(1, 40, 2)]
+
+
+def product(p, q):
+    out = [0] * (len(p) + len(q) - 1)
+    for i, a in enumerate(p):
+        for j, b in enumerate(q):
+            out[i + j] += a * b
+    return out
+
+
+def power(p, n):
+    out = [1]
+    for _ in range(n):
+        out = product(out, p)
+    return out
+
+
+def log_series(a, b):
+    """The sum of 2 / k a^k b^(39-k), k odd, as a polynomial."""
+    out = [0] * 40
+    for c, k in zip(LOG_FACTORS, range(1, 40, 2)):
+        for j, v in enumerate(product(power(a, k), power(b, 39 - k))):
+            out[j] += c * v
+    return out
+
+
+UPPER = log_series([0, 1], [1, 1])  # y = 1 + 2 u: z = u / (1 + u)
+BELOW = log_series([1, -1], [3, 1])  # y = (1 + u) / 2: -z = (1 - u) / (3 + u)
+
+# ---- where each stands: arms of a `match`, or a list
+
+ARMS = [
+    ("natural_exponential/src/lib.rt", "coarse_at", COARSE),
+    ("natural_exponential/src/lib.rt", "fine_at", FINE),
+    ("circular_tables/src/lib.rt", "sine_at", SINES),
+    ("circular_tables/src/lib.rt", "cosine_at", COSINES),
+    ("natural_logarithm/src/lib.rt", "logarithm_at", LOGARITHMS),
+]
+SERIES = "elementary_bounds/specs/Series.antt"
+LISTS = [
+    ("natural_exponential/specs/Exp.antt", "coarse =", COARSE, 5),
+    ("natural_exponential/specs/Exp.antt", "fine =", FINE, 5),
+    ("circular_tables/specs/Tables.antt", "sines =", SINES, 5),
+    ("circular_tables/specs/Tables.antt", "cosines =", COSINES, 5),
+    ("natural_logarithm/specs/Log.antt", "reciprocals =", RECIPROCALS, 16),
+    ("natural_logarithm/specs/Log.antt", "logarithms =", LOGARITHMS, 5),
+    (SERIES, "factors =", FACTORS, 0),
+    (SERIES, "expAdding true =", every(2, 0), 0),
+    (SERIES, "expTaking true =", every(2, 1), 0),
+    (SERIES, "sinAdding =", every(4, 1), 0),
+    (SERIES, "sinTaking =", every(4, 3), 0),
+    (SERIES, "cosAdding =", every(4, 0), 0),
+    (SERIES, "cosTaking =", every(4, 2), 0),
+    (SERIES, "logFactors =", LOG_FACTORS, 0),
+    ("elementary_bounds/proofs/ExpSeries.antt", "lower = homogeneous (2 ^ 58)", LOWER, 0),
+    ("elementary_bounds/proofs/LogSeries.antt", "upper =", UPPER, 0),
+    ("elementary_bounds/proofs/LogSeries.antt", "lowerAdding =", [max(v, 0) for v in BELOW], 0),
+    ("elementary_bounds/proofs/LogSeries.antt", "lowerTaking =", [max(-v, 0) for v in BELOW], 0),
+]
+
+check = sys.argv[1:] == ["--check"]
+if sys.argv[1:] and not check:
+    sys.exit(__doc__)
+failed = 0
+
+
+def settle(path, name, text, start, end, values, block):
+    """Replace text[start:end] by block, unless its numbers are the values already."""
+    global failed
+    if [int(v) for v in re.findall(r"\d+", re.sub(r"\d+ =>", "", text[start:end]))] == values:
+        return
+    if check:
+        print(f"{path}: {name} differs from what generate.py makes")
+        failed = 1
+        return
+    (ROOT / path).write_text(text[:start] + block + text[end:])
+    print(f"{path}: {name} written")
+
+
+for path, name, values in ARMS:
+    text = (ROOT / path).read_text()
+    start = text.index("    match i {\n", text.index(f"pub fn {name}(")) + len("    match i {\n")
+    end = text.index("        _ => 0,", start)
+    settle(path, name, text, start, end, values, "".join(f"        {i} => {v},\n" for i, v in enumerate(values)))
+
+for path, name, values, row in LISTS:
+    text = (ROOT / path).read_text()
+    start = re.search(rf"^{re.escape(name)}", text, re.M).end()
+    end = text.find("\n\n", start)
+    end = len(text.rstrip("\n")) if end < 0 else min(end, text.find("\n" + name.split()[0] + " ", start) % (len(text) + 1))
+    rows = [values[k : k + row] for k in range(0, len(values), row)] if row else [values]
+    body = " ∷\n    ".join(" ∷ ".join(map(str, r)) for r in rows) + " ∷ []"
+    block = ("\n    " if row else " ") + (f"({body})" if "homogeneous" in name else body)
+    settle(path, name, text, start, end, values, block)
+
+print("generate.py: all as generated" if check and not failed else "generate.py: done" if not check else "generate.py: differences")
+sys.exit(failed)
