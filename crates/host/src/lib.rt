@@ -1,4 +1,13 @@
-// The elementary functions for the host: names that the C library does not have.
+// What the host links: the elementary functions, the one-altitude call and the column, on numbers and slices.
+pub mod record;
+
+use acceptance::Answer;
+use atmosphere::gtd7;
+use record::code;
+use record::record_of;
+use record::switch_row;
+ghost use lib.ListN.{length};
+ghost use Rattle.host.specs.Host.{hostAnswer, hostRow, codeOf};
 use elementary::exponential::exp;
 use elementary::logarithm::log;
 use elementary::power::pow;
@@ -52,4 +61,35 @@ pub extern "C" fn elementary_pow(b: f64, e: f64) -> f64
     ensures { λ r. ⌜ r ≡ powOf b e ⌝ }
 {
     pow(b, e)
+}
+
+// fields: sec, alt, g_lat, g_long, lst, f107a, f107, ap. ap_array: none or seven. 0 where the record is accepted, else the refusal's number
+// times 2^32 and its place.
+#[no_mangle]
+pub extern "C" fn potirehu_gtd7(
+    year: i32,
+    doy: i32,
+    fields: &[f64],
+    ap_array: &[f64],
+    switches: &[i32],
+    row: &mut [f64],
+) -> u64
+    ensures { λ r. ⌜ (r ≡ codeOf (hostAnswer year doy (now (fields .entry)) (now («ap_array» .entry)) (now (switches .entry)) (length (now (row .entry))))) × (now (row .exit) ≡ hostRow year doy (now (fields .entry)) (now («ap_array» .entry)) (now (switches .entry)) (now (row .entry))) ⌝ }
+{
+    if row.len() != 11 {
+        return code(Answer::Refused(4, 11));
+    }
+    if fields.len() != 8 {
+        return code(Answer::Refused(4, 8));
+    }
+    if (ap_array.len() != 0) & (ap_array.len() != 7) {
+        return code(Answer::Refused(4, 7));
+    }
+    if switches.len() != 24 {
+        return code(Answer::Refused(4, 24));
+    }
+    let w = switch_row(switches);
+    let n = record_of(year, doy, fields, ap_array);
+    let a = gtd7(w, n, row);
+    code(a)
 }
