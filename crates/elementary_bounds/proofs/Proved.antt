@@ -3,7 +3,7 @@ use mathlib.Core.Path.{_≡_, refl, sym, ap, _∙_, subst}
 use mathlib.Core.Bool.{Bool, true, false, not, cond, _&&_, _||_, Bool·beq}
 use Prim.Native.Nat.{ℕ, zero, suc, _+_, _-_, _*_, _^_, _≤_, _<_}
 use native.Mathlib.Omega.{arith}
-use native.Mathlib.Nat.{zero-mul, one-mul, mul-le-mul-left}
+use native.Mathlib.Nat.{zero-mul, one-mul, mul-le-mul-left, not-suc-le-zero}
 use borrow.Author.Tests.{lt-ltb, le-ltb, ltb-true, ltb-false, eq-eqb}
 use lib.Dec.{T, ltb, leb→le, eqb, eqb→eq}
 use lib.IntN.{ℤ, pos, negsuc}
@@ -252,14 +252,8 @@ CosSize-is = cos-size
 -- ---- the square root
 
 pub SqrtNear-is : SqrtNear
-SqrtNear-is nan fx s h = absurd (no (2 ^ 1022) h)
-  where
-    no : (P : ℕ) → 1 ≤ 0 * P → ⊥
-    no P h = omega arith
-SqrtNear-is (inf s) fx t h = absurd (no (2 ^ 1022) h)
-  where
-    no : (P : ℕ) → 1 ≤ 0 * P → ⊥
-    no P h = omega arith
+SqrtNear-is nan fx s h = absurd (not-suc-le-zero h)
+SqrtNear-is (inf s) fx t h = absurd (not-suc-le-zero h)
 SqrtNear-is (fin true m e) fx s h = clash s
 SqrtNear-is (fin false m e) fx s h = root-near m e fx h
 

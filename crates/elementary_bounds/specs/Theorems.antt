@@ -77,11 +77,11 @@ CosSize = (x : Float) → Within x 65536 → Within (cosOf x) 1
 
 -- ---- the square root
 
--- From 2 ^ -1022 on, sqrt x is r units of 2 ^ f / 2 ^ 1074, with r of 53 digits, and x lies strictly between the squares of r - 1/2 and r + 1/2 units:
--- it is the float nearest to the root of x. The ends are never met, so no tie arises. (A smaller x is multiplied by 2 ^ 54 first.)
+-- For x above 0, sqrt x is r units of 2 ^ f / 2 ^ 1074, with r of 53 digits, and x lies strictly between the squares of r - 1/2 and r + 1/2 units:
+-- it is the float nearest to the root of x. The ends are never met, so no tie arises.
 abbrev pub SqrtNear : Type 0
 SqrtNear =
-    (x : Float) → T (fits binary64 x) → negative x ≡ false → denominator x ≤ numerator x * 2 ^ 1022
+    (x : Float) → T (fits binary64 x) → negative x ≡ false → 0 < numerator x
     → (r : ℕ) × (f : ℕ) × (2 ^ 52 ≤ r) × (r < 2 ^ 53) × HasValue (sqrtOf x) false (r * 2 ^ f) (2 ^ 1074)
     × ((2 * r - 1) * (2 * r - 1) * (2 ^ f * 2 ^ f) * denominator x < 4 * numerator x * 2 ^ 2148)
     × (4 * numerator x * 2 ^ 2148 < (2 * r + 1) * (2 * r + 1) * (2 ^ f * 2 ^ f) * denominator x)
