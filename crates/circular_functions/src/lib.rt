@@ -1,5 +1,5 @@
-// sin and cos on f64, by whole numbers alone. The argument is taken to within a quarter turn's half of 0, and a table's
-// entry there is moved on by a short series.
+// sin and cos on f64, by whole numbers alone: quarter turns are taken off the argument, and the sine and the cosine of
+// what is left come from a table's entry and a short series.
 use circular_tables::cosine_at;
 use circular_tables::sine_at;
 use fixed_point::apart;

@@ -15,7 +15,7 @@ use Rattle.elementary_bounds.proofs.Nearness.{whole, slice}
 use Rattle.elementary_bounds.proofs.Series.{times, gap, slope, dilate, Below, start, term, cut-close, ev-mono}
 use Rattle.elementary_bounds.proofs.ExpSeries.{lower, series, short, coarse-close, fine-close}
 
--- ---- the bend: d ^ 2 / 2 + d ^ 3 / 6 + d ^ 4 / 24
+-- ---- the remainder: d ^ 2 / 2 + d ^ 3 / 6 + d ^ 4 / 24
 
 -- the exact polynomial that remainderOf cuts down, over 2 ^ 142, and the series' own terms
 abbrev bent : List ℕ
@@ -37,7 +37,7 @@ remainder-below s h =
     subst (λ (z : ℕ). Below z 193 (ev bent s) (2 ^ 142)) (zero-add (remainderOf s))
     (subst (λ (z : ℕ). Below (0 + remainderOf s) 193 z (2 ^ 142)) (nested 2147483648 715827883 178956971 (1 * 2 ^ 42) (1 * 2 ^ 42 * 2 ^ 42) (1 * 2 ^ 42 * 2 ^ 42 * 2 ^ 32) (1 * 2 ^ 42 * 2 ^ 42 * 2 ^ 32 * 2 ^ 26) s) b₄)
 
--- the bend in all: L * y is at most L above the terms, and they at most 259 * L above it
+-- the remainder in all: L * y is at most L above the terms, and they at most 259 * L above it
 remainder-close : (d : ℕ) → d < 2 ^ 48 → (slice * remainderOf (d / 2 ^ 16) ≤ ev bends d + slice) × (ev bends d ≤ slice * (remainderOf (d / 2 ^ 16) + 259))
 remainder-close d h =
     let y = remainderOf (d / 2 ^ 16) in
@@ -51,7 +51,7 @@ remainder-close d h =
     top : (L y A : ℕ) → A ≤ L * (1 * y + (1 * 193 + 1 + 65)) → A ≤ L * (y + 259)
     top L y A h = omega arith
 
--- ---- the short series by the bend
+-- ---- the short series by the remainder
 
 short-split : (a b c e f d : ℕ) → a + d * (b + d * (c + d * (e + d * (f + d * 0)))) ≡ a + d * b + (0 + d * (0 + d * (c + d * (e + d * (f + d * 0)))))
 short-split a b c e f d = omega arith

@@ -15,7 +15,7 @@ use Rattle.elementary_bounds.proofs.LogSeries.{Balanced, upper, lowerAd
 use Rattle.elementary_bounds.proofs.LogKernel.{log1m-close}
 use Rattle.elementary_bounds.proofs.LogSum.{upper-is, lower-is}
 
--- ---- from the pieces to the digits. M is 420 * 2 ^ 434, P is 2 ^ 58, c is 166966608033225, b is (y + 1) ^ 39, S, A and O the series' parts, E the exact slip and k the code's
+-- ---- from the pieces to the digits. M is 420 * 2 ^ 434, P is 2 ^ 58, c is 166966608033225, b is (y + 1) ^ 39, S, A and O the series' parts, E the exact -log (1 - z) and k the code's
 
 upper-up : (P M c b S T k E v al : ℕ) → M * P * S + b * (P * c * E) ≤ M * P * 0 + b * (M * c * T + v * 0) + al → al ≤ 16 * (M * c) * b → M * k ≤ P * E + 39 * M → M * (P * S + c * b * k) ≤ M * (c * b * (T + 55))
 upper-up P M c b S T k E v al a h g = omega (arith, mul-le-mul-left (b * c) g)

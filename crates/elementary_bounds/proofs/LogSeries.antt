@@ -112,14 +112,14 @@ log1ms = 0 ∷ 420 * 2 ^ 372 ∷ tails
 abbrev pub units : ℕ
 units = 420 * 2 ^ 434 * 166966608033225
 
--- 2 ^ 58 times the slip at z = 2 ^ 62 - y r, about the piece's upper end
+-- 2 ^ 58 times -log (1 - z) at z = 2 ^ 62 - y r, about the piece's upper end
 abbrev pub log1mAt : ℕ → List ℕ
 log1mAt i = times (2 ^ 58 * 166966608033225) (dilate (getD reciprocals i 0) 1 (shift (2 ^ 62 - (suc i * 2 ^ 45 + 2 ^ 52) * getD reciprocals i 0) log1ms))
 
 abbrev pub entryAt : ℕ → List ℕ
 entryAt i = units * getD logarithms i 0 ∷ []
 
--- log 2, and the slip
+-- log 2, and -log (1 - z)
 abbrev pub turnAt : ℕ → List ℕ
 turnAt i = plus (units * (32 * 6243314768165359) ∷ []) (log1mAt i)
 
@@ -127,7 +127,7 @@ turnAt i = plus (units * (32 * 6243314768165359) ∷ []) (log1mAt i)
 abbrev pub allowance : ℕ → ℕ → ℕ
 allowance c i = 16 * units * ev (single 39) (c + i * 2 ^ 45)
 
--- in units of 2 ^ -58: from 1 to 2 the series is the entry less the slip, and from 1 / 2 to 1 it is below 0 by log 2 and the slip less the entry
+-- in units of 2 ^ -58: from 1 to 2 the series is the entry less -log (1 - z), and from 1 / 2 to 1 it is below 0 by log 2 and -log (1 - z) less the entry
 abbrev upperFits : ℕ → ℕ → Bool
 upperFits n i = fittingPieces (420 * 2 ^ 492) (2 ^ 45) (homogeneous (2 ^ 53) upper) [] (shift (2 ^ 53) (single 39)) log1mAt entryAt (allowance (2 ^ 53)) n i
 

@@ -1,9 +1,10 @@
 -- The theorems of `specs/Theorems.antt`. Assumes nothing.
 use mathlib.Core.Path.{_≡_, refl, sym, ap, _∙_, subst}
+use mathlib.Core.Logic.{_⊎_, inl, inr}
 use mathlib.Core.Bool.{Bool, true, false, not, cond, _&&_, _||_, Bool·beq}
 use Prim.Native.Nat.{ℕ, zero, suc, _+_, _-_, _*_, _^_, _≤_, _<_}
 use native.Mathlib.Omega.{arith}
-use native.Mathlib.Nat.{zero-mul, one-mul, mul-le-mul-left}
+use native.Mathlib.Nat.{zero-mul, one-mul, mul-le-mul-left, not-suc-le-zero, le-of-suc-le-suc, le-trans, eq-or-lt-of-le}
 use borrow.Author.Tests.{lt-ltb, le-ltb, ltb-true, ltb-false, eq-eqb}
 use lib.Dec.{T, ltb, leb→le, eqb, eqb→eq}
 use lib.IntN.{ℤ, pos, negsuc}
@@ -23,10 +24,10 @@ use Rattle.circular_functions.specs.Trig.{sinOf, cosOf}
 use Rattle.circular_functions.proofs.TrigCases.{sin-over, cos-over}
 use Rattle.square_root.specs.Root.{sqrtOf}
 use Rattle.square_root.proofs.RootCases.{sqrt-negative}
-use Rattle.elementary.specs.Pow.{wholeOf, powOf}
-use Rattle.elementary.proofs.PowCases.{pow-two}
+use Rattle.elementary.specs.Pow.{wholeOf, productOf, powOf}
+use Rattle.elementary.proofs.PowCases.{pow-two, pow-whole, pow-of-zero, pow-of-infinity, pow-rest, sides-above, sides-below, rest-negative, rest-nan, rest-nan-exponent, rest-is}
 use Rattle.elementary_bounds.specs.Series.{NearLog}
-use Rattle.elementary_bounds.specs.Theorems.{numerator, denominator, HasDifference, ExpNear, SinNear, CosNear, LogNear, SinSize, CosSize, SqrtNear, ExpZero, ExpEnds, LogEnds, SinCosZero, SinBeyond, CosBeyond, SqrtEnds, PowTwo, PowRules}
+use Rattle.elementary_bounds.specs.Theorems.{numerator, denominator, HasDifference, ExpNear, SinNear, CosNear, LogNear, SinSize, CosSize, SqrtNear, ExpZero, ExpEnds, LogEnds, SinCosZero, SinBeyond, CosBeyond, SqrtEnds, PowTwo, PowRules, PowWhole, PowLast}
 use Rattle.elementary_bounds.proofs.ExpNear.{exp-near}
 use Rattle.elementary_bounds.proofs.TrigNear.{sin-near, cos-near, sin-size, cos-size}
 use Rattle.elementary_bounds.proofs.LogFloat.{Bounded, near-raised, log-near-above, log-near-below}
@@ -252,14 +253,8 @@ CosSize-is = cos-size
 -- ---- the square root
 
 pub SqrtNear-is : SqrtNear
-SqrtNear-is nan fx s h = absurd (no (2 ^ 1022) h)
-  where
-    no : (P : ℕ) → 1 ≤ 0 * P → ⊥
-    no P h = omega arith
-SqrtNear-is (inf s) fx t h = absurd (no (2 ^ 1022) h)
-  where
-    no : (P : ℕ) → 1 ≤ 0 * P → ⊥
-    no P h = omega arith
+SqrtNear-is nan fx s h = absurd (not-suc-le-zero h)
+SqrtNear-is (inf s) fx t h = absurd (not-suc-le-zero h)
 SqrtNear-is (fin true m e) fx s h = clash s
 SqrtNear-is (fin false m e) fx s h = root-near m e fx h
 
@@ -322,3 +317,47 @@ pow-zeros b false = refl
 pub PowRules-is : PowRules
 unfolding powOf wholeOf eq lt toUnsigned ofInt round
 PowRules-is = (pow-zeros, λ b. refl)
+
+-- the whole numbers from 1 to k are found to be whole
+abbrev whole : ℕ → Bool
+whole n = eqb (wholeOf (ofInt binary64 (pos n))) n && not (eq (ofInt binary64 (pos n)) nought)
+
+abbrev wholes : ℕ → Bool
+wholes zero = true
+wholes (suc n) = whole (suc n) && wholes n
+
+wholes-test : T (wholes 32)
+unfolding wholeOf eq lt toUnsigned ofInt round
+wholes-test = tt
+
+wholes-are : (k n : ℕ) → T (wholes k) → 1 ≤ n → n ≤ k → T (whole n)
+wholes-are zero n t h l = absurd (not-suc-le-zero (le-trans h l))
+wholes-are (suc k) n t h l = go (λ g. wholes-are k n (and-r (whole (suc k)) (wholes k) t) h (le-of-suc-le-suc g)) (eq-or-lt-of-le l)
+  where
+    go : (n < suc k → T (whole n)) → (n ≡ suc k) ⊎ (n < suc k) → T (whole n)
+    go f (inl e) = subst (λ (z : ℕ). T (whole z)) (sym e) (and-l (whole (suc k)) (wholes k) t)
+    go f (inr g) = f g
+
+negated : (b : Bool) → T (not b) → b ≡ false
+negated true h = absurd h
+negated false h = refl
+
+pub PowWhole-is : PowWhole
+PowWhole-is b n h l =
+    let x = ofInt binary64 (pos n) in
+    let t = wholes-are 32 n wholes-test h l in
+    let w : wholeOf x ≡ n = eqb→eq (wholeOf x) n (and-l (eqb (wholeOf x) n) (not (eq x nought)) t) in
+    let z : eq x nought ≡ false = negated (eq x nought) (and-r (eqb (wholeOf x) n) (not (eq x nought)) t) in
+    pow-whole b x z (subst (λ (k : ℕ). 1 ≤ k) (sym w) h) ∙ ap (λ (k : ℕ). productOf b (k - 1)) w
+
+pub PowLast-is : PowLast
+PowLast-is b e z w h = (
+  λ o a. pow-of-zero b e z w h o ∙ sides-above nought (inf false) b e a,
+  λ o a c. pow-of-zero b e z w h o ∙ sides-below nought (inf false) b e a c,
+  λ o i a. pow-of-infinity b e z w h o i ∙ sides-above (inf false) nought b e a,
+  λ o i a c. pow-of-infinity b e z w h o i ∙ sides-below (inf false) nought b e a c,
+  λ o i n. pow-rest b e z w h o i ∙ rest-negative b e n,
+  λ o i n m. pow-rest b e z w h o i ∙ rest-nan b e n m,
+  λ o i n m k. pow-rest b e z w h o i ∙ rest-nan-exponent b e n m k,
+  λ o i n m k. pow-rest b e z w h o i ∙ rest-is b e n m k,
+)

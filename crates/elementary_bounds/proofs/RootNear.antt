@@ -3,16 +3,16 @@ use mathlib.Core.Path.{_≡_, refl, sym, ap, _∙_, subst}
 use mathlib.Core.Bool.{Bool, true, false, cond, _&&_, _||_, Bool·beq}
 use Prim.Native.Nat.{ℕ, zero, suc, _+_, _-_, _*_, _/_, _%_, _^_, _≤_, _<_, zero-le}
 use native.Mathlib.Omega.{arith}
-use native.Mathlib.Nat.{add-comm, le-trans, lt-of-le-of-lt, lt-of-not-le, mod-lt, mul-le-mul, pow-succ', zero-add, mul-lt-mul-of-pos-right, mul-le-mul-right, mul-pos}
-use borrow.Author.Tests.{ltb-true, ltb-false, le-ltb, lt-leb, ne-eqb}
+use native.Mathlib.Nat.{add-comm, le-add-right, lt-of-lt-of-le, le-of-mul-le-mul-right, mul-le-mul-left, one-mul, le-trans, lt-of-le-of-lt, lt-of-not-le, mod-lt, mul-le-mul, pow-succ', zero-add, mul-lt-mul-of-pos-right, mul-le-mul-right, lt-of-mul-lt-mul-right, mul-pos}
+use borrow.Author.Tests.{ltb-true, ltb-false, lt-ltb, le-ltb, lt-leb, ne-eqb}
 use lib.Dec.{T, ltb, leb, eqb, leb→le, lit≤, lit<}
-use lib.Pow.{pow-pos, pow-add}
+use lib.Pow.{pow-pos, pow-mono, pow-add, shl-lt}
 use lib.IntN.{ℤ, pos}
-use lib.Ieee.{Float, nan, inf, fin, binary64, up, down, odd, fits, isNan, lt, eq, ofFields, ofBits, toBits}
-use lib.Ieee.Exact.{HasValue, odd-sign}
-use lib.Ieee.Fits.{down-pos}
+use lib.Ieee.{Float, nan, inf, fin, binary64, up, down, odd, fits, isNan, lt, eq, mul, round, ofFields, ofBits, toBits}
+use lib.Ieee.Exact.{HasValue, odd-sign, round-exact}
+use lib.Ieee.Fits.{down-pos, round-fits}
 use Rattle.fixed_point.proofs.Range.{not-negative}
-use Rattle.square_root.proofs.RootCases.{sqrt-normal}
+use Rattle.square_root.proofs.RootCases.{sqrt-normal, sqrt-tiny}
 use Rattle.square_root.proofs.Squares.{radicand-le}
 use Rattle.fixed_point.proofs.Product.{below-mul}
 use Rattle.fixed_point.proofs.Decode.{lead, field, digits, value}
@@ -186,7 +186,13 @@ radicand-is q y =
     plain : (q s P c C K F Y : ℕ) → F ≡ c * P → Y ≡ P * P * s → K ≡ C * (c * c) → q * s * C * (F * F) ≡ K * (q * Y)
     plain q s P c C K F Y e f g = ap (λ (z : ℕ). q * s * C * (z * z)) e ∙ ring q s P c C ∙ sym (ap (λ (z : ℕ). K * (q * z)) f ∙ ap (λ (z : ℕ). z * (q * (P * P * s))) g)
 
--- ---- the whole, for x from 2 ^ -1022 on
+-- ---- the root of the digits, for x from 2 ^ -1022 on
+
+-- y is r units of 2 ^ f / 2 ^ 1074, and n / d lies strictly between the squares of r - 1 / 2 and r + 1 / 2 units
+abbrev pub Between : Float → ℕ → ℕ → Type 0
+Between y n d =
+    (r : ℕ) × (f : ℕ) × (2 ^ 52 ≤ r) × (r < 2 ^ 53) × HasValue y false (r * 2 ^ f) (2 ^ 1074)
+    × ((2 * r - 1) * (2 * r - 1) * (2 ^ f * 2 ^ f) * d < 4 * n * 2 ^ 2148) × (4 * n * 2 ^ 2148 < (2 * r + 1) * (2 * r + 1) * (2 ^ f * 2 ^ f) * d)
 
 module _ (m : ℕ) (e : ℤ) (fx : T (fits binary64 (fin false m e))) (h : down e ≤ m * up e * 2 ^ 1022) where
   abbrev x : Float
@@ -204,27 +210,6 @@ module _ (m : ℕ) (e : ℤ) (fx : T (fits binary64 (fin false m e))) (h : down 
   t-lt : t < 2 ^ 52
   t-lt = mod-lt (toBits binary64 x % 2 ^ 63) (pow-pos 52)
 
-  some : 0 < n
-  some = positive n d (2 ^ 1022) (down-pos e) h
-    where
-      positive : (n d P : ℕ) → 0 < d → d ≤ n * P → 0 < n
-      positive zero d P p h = absurd (no d P p h)
-        where
-          no : (d P : ℕ) → 0 < d → d ≤ 0 * P → ⊥
-          no d P p h = omega arith
-      positive (suc n) d P p h = omega arith
-
-  -- the tests that lead to the root of the digits
-  normal : sqrtOf x ≡ rootOf x 0
-  unfolding isNan lt eq
-  normal = sqrt-normal x refl (not-negative m e) (ap (λ (b : Bool). b && (Bool·beq false false || eqb (n * 1) 0)) (ne-eqb (n * 1) (0 * 1 * d) (apart n d some))) refl (le-ltb (n * 2 ^ 1022) (1 * 1 * d) (ones n d (2 ^ 1022) h))
-    where
-      apart : (n d : ℕ) → 0 < n → n * 1 ≡ 0 * 1 * d → ⊥
-      apart n d h e = omega arith
-
-      ones : (n d P : ℕ) → d ≤ n * P → 1 * 1 * d ≤ n * P
-      ones n d P h = omega arith
-
   -- it has a leading one
   leading : (f : ℕ) → field x fx tt ≡ f → (y : ℕ) × (field x fx tt ≡ suc y)
   leading zero g = absurd (no n d t (2 ^ 1022) (2 ^ 1074) (ap (λ (f : ℕ). lead f t * d) g) h (value x fx tt) t-lt (down-pos e) refl)
@@ -236,10 +221,13 @@ module _ (m : ℕ) (e : ℤ) (fx : T (fits binary64 (fin false m e))) (h : down 
           less n d t P Q v h l p q = omega (arith, ap (λ (z : ℕ). n * z) q)
   leading (suc y) g = (y, g)
 
-  -- the root by its fields, for the field y + 1
-  module _ (y : ℕ) (g : field x fx tt ≡ suc y) where
+  -- the root over 2 ^ k by its fields, for the field y + 1
+  module _ (k y : ℕ) (l : k ≤ 27) (g : field x fx tt ≡ suc y) where
+    abbrev F : ℕ
+    F = (suc y + 1021) / 2
+
     abbrev f : ℕ
-    f = (suc y + 1021) / 2
+    f = F - k
 
     abbrev a : ℕ
     a = radicandOf (suc y) t
@@ -265,44 +253,191 @@ module _ (m : ℕ) (e : ℤ) (fx : T (fits binary64 (fin false m e))) (h : down 
         high : (a : ℕ) → a ≤ 9007199254740991 * 2 → a + 2 ≤ 2 ^ 54
         high a h = omega arith
 
-    root-is : sqrtOf x ≡ ofBits binary64 (f * 2 ^ 52 + r)
+    root-is : rootOf x k ≡ ofBits binary64 (f * 2 ^ 52 + r)
     unfolding rootOf
-    root-is = normal ∙ ap (λ (F : ℕ). ofBits binary64 (((F + 1021) / 2 - 0) * 2 ^ 52 + nearestOf (radicandOf F t))) g ∙ ap (λ (F : ℕ). ofBits binary64 (F * 2 ^ 52 + r)) (none f)
-      where
-        none : (n : ℕ) → n - 0 ≡ n
-        none n = omega arith
+    root-is = ap (λ (F : ℕ). ofBits binary64 (((F + 1021) / 2 - k) * 2 ^ 52 + nearestOf (radicandOf F t))) g
 
     f-le : suc f ≤ 2046
-    f-le = less y (subst (λ (n : ℕ). n < 2048) g (field-lt (toBits binary64 x)))
+    f-le = less y k (subst (λ (n : ℕ). n < 2048) g (field-lt (toBits binary64 x)))
       where
         field-lt : (b : ℕ) → b % 2 ^ 63 / 2 ^ 52 < 2048
         field-lt b = omega arith
 
-        less : (y : ℕ) → suc y < 2048 → suc ((suc y + 1021) / 2) ≤ 2046
-        less y h = omega arith
+        less : (y k : ℕ) → suc y < 2048 → suc ((suc y + 1021) / 2 - k) ≤ 2046
+        less y k h = omega arith
+
+    shifted : 2 ^ F ≡ 2 ^ f * 2 ^ k
+    shifted = ap (λ (n : ℕ). 2 ^ n) (whole y k l) ∙ pow-add 2 f k
+      where
+        whole : (y k : ℕ) → k ≤ 27 → (suc y + 1021) / 2 ≡ (suc y + 1021) / 2 - k + k
+        whole y k l = omega arith
 
     -- 4 x in units of the square of the root's unit
-    four : 4 * n * 2 ^ 2148 ≡ a * 2 ^ 54 * (2 ^ f * 2 ^ f) * d
-    four = plain n (2 ^ 1074) (2 ^ 2148) (t + 2 ^ 52) (2 ^ 52 + t) (2 ^ y) d (a * 2 ^ 54 * (2 ^ f * 2 ^ f)) refl (value x fx tt ∙ ap (λ (F : ℕ). lead F t * d) g) (add-comm (2 ^ 52) t) (radicand-is (t + 2 ^ 52) y)
+    four : 4 * n * 2 ^ 2148 ≡ a * 2 ^ 54 * (2 ^ f * 2 ^ f) * (2 ^ k * 2 ^ k * d)
+    four =
+        plain n (2 ^ 1074) (2 ^ 2148) (t + 2 ^ 52) (2 ^ 52 + t) (2 ^ y) d (a * 2 ^ 54 * (2 ^ F * 2 ^ F)) refl (value x fx tt ∙ ap (λ (F : ℕ). lead F t * d) g) (add-comm (2 ^ 52) t) (radicand-is (t + 2 ^ 52) y)
+        ∙ ap (λ (z : ℕ). a * 2 ^ 54 * (z * z) * d) shifted
+        ∙ ring (a * 2 ^ 54) (2 ^ f) (2 ^ k) d
       where
         plain : (n Q S q p Y d s : ℕ) → S ≡ Q * Q → n * Q ≡ p * Y * d → p ≡ q → s ≡ 4 * Q * (q * Y) → 4 * n * S ≡ s * d
         plain n Q S q p Y d s i j k l = omega (arith, ap (λ (z : ℕ). 4 * n * z) i, ap (λ (z : ℕ). 4 * Q * z) j, ap (λ (z : ℕ). 4 * Q * (z * Y * d)) k, ap (λ (z : ℕ). z * d) l)
 
-    above-all : {u v : ℕ} → u < v → u * (2 ^ f * 2 ^ f) * d < v * (2 ^ f * 2 ^ f) * d
-    above-all l = mul-lt-mul-of-pos-right (mul-lt-mul-of-pos-right l (mul-pos (pow-pos f) (pow-pos f))) (down-pos e)
+        ring : (s u v d : ℕ) → s * (u * v * (u * v)) * d ≡ s * (u * u) * (v * v * d)
+        ring s u v d = omega arith
 
-  pub root-near : (r : ℕ) × (f : ℕ) × (2 ^ 52 ≤ r) × (r < 2 ^ 53) × HasValue (sqrtOf x) false (r * 2 ^ f) (2 ^ 1074)
-      × ((2 * r - 1) * (2 * r - 1) * (2 ^ f * 2 ^ f) * d < 4 * n * 2 ^ 2148) × (4 * n * 2 ^ 2148 < (2 * r + 1) * (2 * r + 1) * (2 ^ f * 2 ^ f) * d)
-  root-near =
-      let l = leading (field x fx tt) refl in
-      let y = l .0 in
-      let g = l .1 in
-      let k = found y g in (
-        r y g,
-        f y g,
-        k .least,
-        k .most,
-        subst (λ (z : Float). HasValue z false (r y g * 2 ^ f y g) (2 ^ 1074)) (sym (root-is y g)) (bits-value (f y g) (r y g) (f-le y g) (k .least) (k .most)),
-        subst (λ (z : ℕ). (2 * r y g - 1) * (2 * r y g - 1) * (2 ^ f y g * 2 ^ f y g) * d < z) (sym (four y g)) (above-all y g (k .under)),
-        subst (λ (z : ℕ). z < (2 * r y g + 1) * (2 * r y g + 1) * (2 ^ f y g * 2 ^ f y g) * d) (sym (four y g)) (above-all y g (k .over)),
-      )
+    above-all : {u v : ℕ} → u < v → u * (2 ^ f * 2 ^ f) * (2 ^ k * 2 ^ k * d) < v * (2 ^ f * 2 ^ f) * (2 ^ k * 2 ^ k * d)
+    above-all h = mul-lt-mul-of-pos-right (mul-lt-mul-of-pos-right h (mul-pos (pow-pos f) (pow-pos f))) (mul-pos (mul-pos (pow-pos k) (pow-pos k)) (down-pos e))
+
+    between : Between (rootOf x k) n (2 ^ k * 2 ^ k * d)
+    between =
+        let s = found in (
+          r,
+          f,
+          s .least,
+          s .most,
+          subst (λ (z : Float). HasValue z false (r * 2 ^ f) (2 ^ 1074)) (sym root-is) (bits-value f r f-le (s .least) (s .most)),
+          subst (λ (z : ℕ). (2 * r - 1) * (2 * r - 1) * (2 ^ f * 2 ^ f) * (2 ^ k * 2 ^ k * d) < z) (sym four) (above-all (s .under)),
+          subst (λ (z : ℕ). z < (2 * r + 1) * (2 * r + 1) * (2 ^ f * 2 ^ f) * (2 ^ k * 2 ^ k * d)) (sym four) (above-all (s .over)),
+        )
+
+  root-between : (k : ℕ) → k ≤ 27 → Between (rootOf x k) n (2 ^ k * 2 ^ k * d)
+  root-between k l =
+      let z = leading (field x fx tt) refl in
+      between k (z .0) l (z .1)
+
+  some : 0 < n
+  some = positive n d (2 ^ 1022) (down-pos e) h
+    where
+      positive : (n d P : ℕ) → 0 < d → d ≤ n * P → 0 < n
+      positive zero d P p h = absurd (no d P p h)
+        where
+          no : (d P : ℕ) → 0 < d → d ≤ 0 * P → ⊥
+          no d P p h = omega arith
+      positive (suc n) d P p h = omega arith
+
+  -- the tests that lead to the root of the digits
+  normal : sqrtOf x ≡ rootOf x 0
+  unfolding isNan lt eq
+  normal = sqrt-normal x refl (not-negative m e) (ap (λ (b : Bool). b && (Bool·beq false false || eqb (n * 1) 0)) (ne-eqb (n * 1) (0 * 1 * d) (apart n d some))) refl (le-ltb (n * 2 ^ 1022) (1 * 1 * d) (ones n d (2 ^ 1022) h))
+    where
+      apart : (n d : ℕ) → 0 < n → n * 1 ≡ 0 * 1 * d → ⊥
+      apart n d h e = omega arith
+
+      ones : (n d P : ℕ) → d ≤ n * P → 1 * 1 * d ≤ n * P
+      ones n d P h = omega arith
+
+  normal-between : Between (sqrtOf x) n d
+  normal-between = subst (λ (y : Float). Between y n d) (sym normal) (subst (Between (rootOf x 0) n) (one-mul d) (root-between 0 (lit≤ {m = 0} {n = 27} tt)))
+
+-- ---- a smaller x, 2 ^ 54 times as large
+
+-- a fraction that is 2 ^ 54 times another, with the root over 2 ^ 27
+moved : (y : Float) (n d p q : ℕ) → 0 < d → p * d ≡ n * 2 ^ 54 * q → Between y p (2 ^ 27 * 2 ^ 27 * q) → Between y n d
+moved y n d p q h e z = (
+  z .0,
+  z .1,
+  z .2,
+  z .3,
+  z .4,
+  lt-of-mul-lt-mul-right (2 ^ 54 * q) (low ((2 * z .0 - 1) * (2 * z .0 - 1) * (2 ^ z .1 * 2 ^ z .1)) (2 ^ 2148) (2 ^ 54) (mul-lt-mul-of-pos-right (z .5) h) e),
+  lt-of-mul-lt-mul-right (2 ^ 54 * q) (up ((2 * z .0 + 1) * (2 * z .0 + 1) * (2 ^ z .1 * 2 ^ z .1)) (2 ^ 2148) (2 ^ 54) (mul-lt-mul-of-pos-right (z .6) h) e),
+)
+  where
+    low : (s v C : ℕ) → s * (C * q) * d < 4 * p * v * d → p * d ≡ n * C * q → s * d * (C * q) < 4 * n * v * (C * q)
+    low s v C g e = omega (arith, g, ap (λ (z : ℕ). 4 * v * z) e)
+
+    up : (s v C : ℕ) → 4 * p * v * d < s * (C * q) * d → p * d ≡ n * C * q → 4 * n * v * (C * q) < s * d * (C * q)
+    up s v C g e = omega (arith, g, ap (λ (z : ℕ). 4 * v * z) e)
+
+-- the larger number: exact, positive, and not below 2 ^ -1022
+lifted : (x' : Float) (n d : ℕ) → T (fits binary64 x') → 0 < d → d ≤ n * 2 ^ 1074 → HasValue x' false (n * (1 * 2 ^ 54)) (d * 1) → Between (rootOf x' 27) n d
+lifted nan n d fx p h v = absurd v
+lifted (inf s) n d fx p h v = absurd v
+lifted (fin true m e) n d fx p h v = absurd (subst T (v .0) tt)
+lifted (fin false m e) n d fx p h v =
+    let w = across (m * up e) (down e) n d (2 ^ 54) (v .1) in
+    moved (rootOf (fin false m e) 27) n d (m * up e) (down e) p w (root-between m e fx (le-of-mul-le-mul-right (far (m * up e) (down e) n d (2 ^ 1022) (2 ^ 1074) (2 ^ 54) h (leb→le (2 ^ 1074) (2 ^ 54 * 2 ^ 1022) tt) w) p) 27 (lit≤ {m = 27} {n = 27} tt))
+  where
+    across : (p q n d C : ℕ) → p * (d * 1) ≡ n * (1 * C) * q → p * d ≡ n * C * q
+    across p q n d C e = omega arith
+
+    far : (p q n d P Q C : ℕ) → d ≤ n * Q → Q ≤ C * P → p * d ≡ n * C * q → q * d ≤ p * P * d
+    far p q n d P Q C h l e = omega (arith, mul-le-mul-left q h, mul-le-mul-left (q * n) l, ap (λ (z : ℕ). P * z) e)
+
+module _ (m : ℕ) (e : ℤ) (fx : T (fits binary64 (fin false m e))) (p : 0 < m * up e) (h : m * up e * 2 ^ 1022 < down e) where
+  abbrev xs : Float
+  xs = fin false m e
+
+  abbrev ns : ℕ
+  ns = m * up e
+
+  abbrev ds : ℕ
+  ds = down e
+
+  abbrev ts : ℕ
+  ts = digits xs fx tt
+
+  ts-lt : ts < 2 ^ 52
+  ts-lt = mod-lt (toBits binary64 xs % 2 ^ 63) (pow-pos 52)
+
+  -- it has no leading one
+  units : ns * 2 ^ 1074 ≡ ts * 2 ^ 0 * ds
+  units = go (field xs fx tt) refl
+    where
+      no : (ns ds ts Y P Q : ℕ) → ns * Q ≡ (2 ^ 52 + ts) * Y * ds → ns * P < ds → 0 < Y → Q ≡ P * 2 ^ 52 → 2 ^ 52 * 1 * ds ≤ (2 ^ 52 + ts) * Y * ds → ⊥
+      no ns ds ts Y P Q v h y q l = omega (arith, ap (λ (z : ℕ). ns * z) q)
+
+      wide : (ts Y ds : ℕ) → 0 < Y → 2 ^ 52 * 1 * ds ≤ (2 ^ 52 + ts) * Y * ds
+      wide ts Y ds y = mul-le-mul-right ds (mul-le-mul (le-add-right (2 ^ 52) ts) y)
+
+      go : (f : ℕ) → field xs fx tt ≡ f → ns * 2 ^ 1074 ≡ ts * 2 ^ 0 * ds
+      go zero g = value xs fx tt ∙ ap (λ (f : ℕ). lead f ts * ds) g
+      go (suc y) g = absurd (no ns ds ts (2 ^ y) (2 ^ 1022) (2 ^ 1074) (value xs fx tt ∙ ap (λ (f : ℕ). lead f ts * ds) g) h (pow-pos y) refl (wide ts (2 ^ y) ds (pow-pos y)))
+
+  smallest : ds ≤ ns * 2 ^ 1074
+  smallest = subst (λ (z : ℕ). ds ≤ z) (sym units) (one ts (some ts units))
+    where
+      some : (ts : ℕ) → ns * 2 ^ 1074 ≡ ts * 2 ^ 0 * ds → 0 < ts
+      some zero u = absurd (none (ns * 2 ^ 1074) (mul-pos p (pow-pos 1074)) u)
+        where
+          none : (a : ℕ) → 0 < a → a ≡ 0 * 2 ^ 0 * ds → ⊥
+          none a h u = omega arith
+      some (suc ts) u = omega arith
+
+      one : (ts : ℕ) → 0 < ts → ds ≤ ts * 2 ^ 0 * ds
+      one ts h = ones ts ds (mul-le-mul-right ds h)
+        where
+          ones : (ts ds : ℕ) → 1 * ds ≤ ts * ds → ds ≤ ts * 2 ^ 0 * ds
+          ones ts ds h = omega arith
+
+  exact : HasValue (round binary64 false (ns * (1 * 2 ^ 54)) (ds * 1)) false (ns * (1 * 2 ^ 54)) (ds * 1)
+  exact = round-exact binary64 false (ns * (1 * 2 ^ 54)) (ds * 1) ts 54 (ones ds (down-pos e)) (lt-of-lt-of-le ts-lt (leb→le (2 ^ 52) (2 ^ 53) tt)) (lt-of-lt-of-le (shl-lt 52 54 ts-lt) (pow-mono {i = 106} {j = 2098} (lit≤ {m = 106} {n = 2098} tt))) (scale ns ts ds (2 ^ 54) (2 ^ 1074) units)
+    where
+      ones : (ds : ℕ) → 0 < ds → 0 < ds * 1
+      ones ds h = omega arith
+
+      scale : (ns ts ds C Q : ℕ) → ns * Q ≡ ts * 2 ^ 0 * ds → ns * (1 * C) * Q ≡ ts * C * (ds * 1)
+      scale ns ts ds C Q u = omega (arith, ap (λ (z : ℕ). z * C) u)
+
+  -- the tests that lead to it
+  tiny-is : sqrtOf xs ≡ rootOf (round binary64 false (ns * (1 * 2 ^ 54)) (ds * 1)) 27
+  unfolding isNan lt eq mul
+  tiny-is = sqrt-tiny xs refl (not-negative m e) (ap (λ (b : Bool). b && (Bool·beq false false || eqb (ns * 1) 0)) (ne-eqb (ns * 1) (0 * 1 * ds) (apart ns ds p))) refl (lt-ltb (ns * 2 ^ 1022) (1 * 1 * ds) (ones ns ds (2 ^ 1022) h))
+    where
+      apart : (ns ds : ℕ) → 0 < ns → ns * 1 ≡ 0 * 1 * ds → ⊥
+      apart ns ds h e = omega arith
+
+      ones : (ns ds P : ℕ) → ns * P < ds → ns * P < 1 * 1 * ds
+      ones ns ds P h = omega arith
+
+  tiny-between : Between (sqrtOf xs) ns ds
+  tiny-between = subst (λ (y : Float). Between y ns ds) (sym tiny-is) (lifted (round binary64 false (ns * (1 * 2 ^ 54)) (ds * 1)) ns ds (round-fits binary64 false (ns * (1 * 2 ^ 54)) (ds * 1)) (down-pos e) smallest exact)
+
+-- ---- every x above 0
+
+pub root-near : (m : ℕ) (e : ℤ) → T (fits binary64 (fin false m e)) → 0 < m * up e → Between (sqrtOf (fin false m e)) (m * up e) (down e)
+root-near m e fx p = go (ltb (m * up e * 2 ^ 1022) (down e)) refl
+  where
+    go : (b : Bool) → ltb (m * up e * 2 ^ 1022) (down e) ≡ b → Between (sqrtOf (fin false m e)) (m * up e) (down e)
+    go true b = tiny-between m e fx p (ltb-true (m * up e * 2 ^ 1022) (down e) b)
+    go false b = normal-between m e fx (ltb-false (m * up e * 2 ^ 1022) (down e) b)

@@ -134,7 +134,7 @@ decrement-close a e k =
     top : (a e A r x F : ℕ) → x < F * 2 ^ 22 + 2 ^ 22 → x ≡ e * A → a ≡ A * 2 ^ 27 + r → e * r ≤ 2 ^ 32 * 2 ^ 27 → a * (512 * e) ≤ (F + 1025) * 2 ^ 58
     top a e A r x F h d c i = omega (arith, ap (λ (z : ℕ). z * e) c)
 
--- ---- the pieces over L. X is D; g is the arc, and y what the cube takes off d; e is the sag, q the square and v the fourth power
+-- ---- the pieces over L. X is D; g is the cubic, and y what the cube takes off d; e is the versine, q the square and v the fourth power
 
 module _ (X L : ℕ) where
   cubic-up : (b g y d x : ℕ) → x * X ≤ b * g → g + y ≡ d → x * (L * X) + b * (L * y) ≤ b * (L * d)

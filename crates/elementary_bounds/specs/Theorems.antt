@@ -1,18 +1,18 @@
--- What holds of the elementary functions, each statement with its meaning in words. `proofs/Proved.antt` has the proof of each under the same name.
+-- What holds of the elementary functions, each statement with its meaning in words. `proofs/Proved.antt` proves each: `ExpNear-is : ExpNear`, and so on.
 -- A finite float is ±n / d, with the numerator n and the denominator d below; `HasValue y s a c` says that y is a / c with the sign s, exactly.
 use Prim.Native.Nat.{ℕ, _+_, _-_, _*_, _^_, _≤_, _<_}
 use mathlib.Core.Path.{_≡_}
 use mathlib.Core.Bool.{Bool, true, false}
 use lib.Dec.{T}
 use lib.IntN.{ℤ, pos, negsuc}
-use lib.Ieee.{Float, nan, inf, fin, binary64, up, down, fits, mul, lt, eq}
+use lib.Ieee.{Float, nan, inf, fin, binary64, up, down, fits, ofInt, mul, lt, eq, isNan}
 use lib.Ieee.Exact.{HasValue}
 use Rattle.fixed_point.specs.Float.{Within, one, nought, tiny}
 use Rattle.natural_exponential.specs.Exp.{expOf, most, least}
 use Rattle.natural_logarithm.specs.Log.{logOf}
 use Rattle.circular_functions.specs.Trig.{signOf, sinOf, cosOf}
 use Rattle.square_root.specs.Root.{sqrtOf}
-use Rattle.elementary.specs.Pow.{powOf}
+use Rattle.elementary.specs.Pow.{half, wholeOf, productOf, powOf}
 use Rattle.elementary_bounds.specs.Series.{Near, NearLog, expAdding, expTaking, sinAdding, sinTaking, cosAdding, cosTaking}
 
 abbrev pub numerator : Float → ℕ
@@ -77,11 +77,11 @@ CosSize = (x : Float) → Within x 65536 → Within (cosOf x) 1
 
 -- ---- the square root
 
--- From 2 ^ -1022 on, sqrt x is r units of 2 ^ f / 2 ^ 1074, with r of 53 digits, and x lies strictly between the squares of r - 1/2 and r + 1/2 units:
--- it is the float nearest to the root of x. The ends are never met, so no tie arises. (A smaller x is multiplied by 2 ^ 54 first.)
+-- For x above 0, sqrt x is r units of 2 ^ f / 2 ^ 1074, with r of 53 digits, and x lies strictly between the squares of r - 1/2 and r + 1/2 units:
+-- it is the float nearest to the root of x. The ends are never met, so no tie arises.
 abbrev pub SqrtNear : Type 0
 SqrtNear =
-    (x : Float) → T (fits binary64 x) → negative x ≡ false → denominator x ≤ numerator x * 2 ^ 1022
+    (x : Float) → T (fits binary64 x) → negative x ≡ false → 0 < numerator x
     → (r : ℕ) × (f : ℕ) × (2 ^ 52 ≤ r) × (r < 2 ^ 53) × HasValue (sqrtOf x) false (r * 2 ^ f) (2 ^ 1074)
     × ((2 * r - 1) * (2 * r - 1) * (2 ^ f * 2 ^ f) * denominator x < 4 * numerator x * 2 ^ 2148)
     × (4 * numerator x * 2 ^ 2148 < (2 * r + 1) * (2 * r + 1) * (2 ^ f * 2 ^ f) * denominator x)
@@ -134,3 +134,21 @@ PowTwo = (b : Float) → powOf b (fin false 1 (pos 1)) ≡ mul binary64 b b
 -- Both hold for every b.
 abbrev pub PowRules : Type 0
 PowRules = ((b : Float) (s : Bool) → powOf b (fin s 0 (pos 0)) ≡ one) × ((b : Float) → powOf b (fin false 1 (negsuc 0)) ≡ sqrtOf b)
+
+-- pow (b, n) for a whole n from 1 to 32 is the product of n factors b, taken left to right.
+-- `productOf b k` is b times b, k times more, each product rounded once.
+abbrev pub PowWhole : Type 0
+PowWhole = (b : Float) (n : ℕ) → 1 ≤ n → n ≤ 32 → powOf b (ofInt binary64 (pos n)) ≡ productOf b (n - 1)
+
+-- For any other exponent: b zero gives 0 for e > 0 and +infinity for e < 0, b +infinity the reverse,
+-- else a negative b, a NaN b and a NaN e give NaN, and what is left is exp (e × log b), the product rounded once.
+abbrev pub PowLast : Type 0
+PowLast =
+    (b e : Float) → eq e nought ≡ false → wholeOf e < 1 → eq e half ≡ false
+    → (eq b nought ≡ true → lt nought e ≡ true → powOf b e ≡ nought) × (eq b nought ≡ true → lt nought e ≡ false → lt e nought ≡ true → powOf b e ≡ inf false)
+    × (eq b nought ≡ false → eq b (inf false) ≡ true → lt nought e ≡ true → powOf b e ≡ inf false)
+    × (eq b nought ≡ false → eq b (inf false) ≡ true → lt nought e ≡ false → lt e nought ≡ true → powOf b e ≡ nought)
+    × (eq b nought ≡ false → eq b (inf false) ≡ false → lt b nought ≡ true → powOf b e ≡ nan)
+    × (eq b nought ≡ false → eq b (inf false) ≡ false → lt b nought ≡ false → isNan b ≡ true → powOf b e ≡ nan)
+    × (eq b nought ≡ false → eq b (inf false) ≡ false → lt b nought ≡ false → isNan b ≡ false → isNan e ≡ true → powOf b e ≡ nan)
+    × (eq b nought ≡ false → eq b (inf false) ≡ false → lt b nought ≡ false → isNan b ≡ false → isNan e ≡ false → powOf b e ≡ expOf (mul binary64 e (logOf b)))

@@ -1,5 +1,5 @@
-// log on f64, by whole numbers alone. The digits are multiplied by a short reciprocal from a table, which leaves a number
-// little below 1, and a short series gives its logarithm.
+// log on f64, by whole numbers alone. The digits are multiplied by a short reciprocal, which leaves a number little below
+// 1, and a short series gives its logarithm.
 use fixed_point::apart;
 use fixed_point::below;
 use std::num::nearest_u64_to_f64;
