@@ -2,7 +2,8 @@
 use mathlib.Core.Path.{_≡_, refl}
 use mathlib.Core.List.{List, [], _∷_, map}
 use lib.Ieee.{Float, neg, ofBits, add, sub, mul, div, lt, eq, isNan, round}
-use Rattle.numbers.specs.Literals.{dec, 0·0, 0·5, 1·0, 2·0, 3·0, 4·0, 5·0, 100·0}
+use Rattle.numbers.specs.Arithmetic.{_⊕_, _⊖_, _⊘_}
+use Rattle.numbers.specs.Literals.{dec, 0·0, 0·5, 1·0, 2·0, 3·0, 4·0, 5·0, 70·0, 100·0}
 use Rattle.elementary.specs.Exp.{expOf, coarse, fine}
 use Rattle.mixing.specs.Mixing.{ccorOf, dnetOf}
 use Rattle.spline.specs.Nodes.{splintOf, searched, spliniOf, integral, segmentOf}
@@ -38,3 +39,12 @@ pub cases-hold : (zhm xmm xm r : Float)
     → map (λ (c : Case). c .given) (cases zhm xmm xm r) ≡ map (λ (c : Case). c .figure) (cases zhm xmm xm r)
 unfolding cases dnetOf ccorOf splintOf searched spliniOf integral segmentOf expOf coarse fine ofBits dec add sub mul div lt eq neg isNan round
 cases-hold zhm xmm xm r = refl
+
+-- e exactly 70, and exactly -70, takes the formula
+pub ccor-at-70 : (alt r h1 zh : Float) → (alt ⊖ zh) ⊘ h1 ≡ 70·0 → ccorOf alt r h1 zh ≡ expOf (r ⊘ (1·0 ⊕ expOf 70·0))
+unfolding ccorOf lt neg ofBits
+ccor-at-70 alt r h1 zh e = rw (e) refl
+
+pub ccor-at-minus-70 : (alt r h1 zh : Float) → (alt ⊖ zh) ⊘ h1 ≡ neg 70·0 → ccorOf alt r h1 zh ≡ expOf (r ⊘ (1·0 ⊕ expOf (neg 70·0)))
+unfolding ccorOf lt neg ofBits
+ccor-at-minus-70 alt r h1 zh e = rw (e) refl
