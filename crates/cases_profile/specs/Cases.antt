@@ -4,7 +4,8 @@ use mathlib.Core.List.{List, [], _∷_, map}
 use lib.Ieee.{Float, neg, ofBits, add, sub, mul, div, lt, eq, isNan, round}
 use Rattle.numbers.specs.Arithmetic.{_⊕_, _⊖_, _⊘_}
 use Rattle.numbers.specs.Literals.{dec, 0·0, 0·5, 1·0, 2·0, 3·0, 4·0, 5·0, 70·0, 100·0}
-use Rattle.elementary.specs.Exp.{expOf, coarse, fine}
+use Rattle.elementary.specs.Exp.{expOf}
+use Rattle.natural_exponential.specs.Exp.{coarse, fine}
 use Rattle.mixing.specs.Mixing.{ccorOf, dnetOf}
 use Rattle.spline.specs.Nodes.{splintOf, searched, spliniOf, integral, segmentOf}
 

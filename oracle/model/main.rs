@@ -1,0 +1,504 @@
+// Our one-altitude call against the Rust: the eleven numbers to the bit, the refusals, pairs under the shut-off list, the 1E-6 rule,
+// the published samples, calls of each elementary function, and time per call.
+use std::time::Instant;
+
+type Input = untouched::astro::atmosphere::NrlmsiseInput;
+
+extern "C" {
+    fn potirehu_gtd7(
+        year: i32,
+        doy: i32,
+        fields: *const f64,
+        n_fields: usize,
+        ap_array: *const f64,
+        n_ap: usize,
+        switches: *const i32,
+        n_switches: usize,
+        row: *mut f64,
+        n_row: usize,
+    ) -> u64;
+}
+
+fn ours(r: &Input, w: &[i32; 24], row: &mut [f64]) -> (u64, u64) {
+    let fields = [r.sec, r.alt, r.g_lat, r.g_long, r.lst, r.f107a, r.f107, r.ap];
+    let ap = r.ap_array.unwrap_or([0.0; 7]);
+    let n_ap = if r.ap_array.is_some() { 7 } else { 0 };
+    let code = unsafe {
+        potirehu_gtd7(r.year, r.doy, fields.as_ptr(), 8, ap.as_ptr(), n_ap, w.as_ptr(), 24, row.as_mut_ptr(), row.len())
+    };
+    (code >> 32, code & 0xffff_ffff)
+}
+
+fn to_routed(r: &Input) -> routed::astro::atmosphere::NrlmsiseInput {
+    routed::astro::atmosphere::NrlmsiseInput {
+        year: r.year,
+        doy: r.doy,
+        sec: r.sec,
+        alt: r.alt,
+        g_lat: r.g_lat,
+        g_long: r.g_long,
+        lst: r.lst,
+        f107a: r.f107a,
+        f107: r.f107,
+        ap: r.ap,
+        ap_array: r.ap_array,
+    }
+}
+
+fn to_counted(r: &Input) -> counted::astro::atmosphere::NrlmsiseInput {
+    counted::astro::atmosphere::NrlmsiseInput {
+        year: r.year,
+        doy: r.doy,
+        sec: r.sec,
+        alt: r.alt,
+        g_lat: r.g_lat,
+        g_long: r.g_long,
+        lst: r.lst,
+        f107a: r.f107a,
+        f107: r.f107,
+        ap: r.ap,
+        ap_array: r.ap_array,
+    }
+}
+
+// splitmix64
+struct Random(u64);
+
+impl Random {
+    fn next(&mut self) -> u64 {
+        self.0 = self.0.wrapping_add(0x9E37_79B9_7F4A_7C15);
+        let mut z = self.0;
+        z = (z ^ (z >> 30)).wrapping_mul(0xBF58_476D_1CE4_E5B9);
+        z = (z ^ (z >> 27)).wrapping_mul(0x94D0_49BB_1331_11EB);
+        z ^ (z >> 31)
+    }
+
+    fn below(&mut self, n: u64) -> u64 {
+        self.next() % n
+    }
+
+    fn unit(&mut self) -> f64 {
+        (self.next() >> 11) as f64 / (1u64 << 53) as f64
+    }
+
+    fn between(&mut self, lo: f64, hi: f64) -> f64 {
+        lo + (hi - lo) * self.unit()
+    }
+
+    // Uniform, an end, the neighbour of an end, or a round number.
+    fn field(&mut self, lo: f64, hi: f64) -> f64 {
+        match self.below(12) {
+            0 => lo,
+            1 => hi,
+            2 => f64::from_bits(lo.to_bits() + 1),
+            3 => f64::from_bits(hi.to_bits() - 1),
+            4 => self.between(lo, hi).round(),
+            5 => 0.0_f64.max(lo),
+            6 => (-0.0_f64).max(lo),
+            _ => self.between(lo, hi),
+        }
+    }
+}
+
+const EDGES: [f64; 20] =
+    [0.0, 10.0, 15.0, 20.0, 32.5, 45.0, 55.0, 62.5, 72.5, 90.0, 100.0, 110.0, 120.0, 123.435, 160.0, 200.0, 240.0, 250.0, 300.0, 450.0];
+
+fn altitude(g: &mut Random) -> f64 {
+    match g.below(6) {
+        0 => {
+            let z = EDGES[g.below(20) as usize];
+            match g.below(3) {
+                0 => z,
+                1 => f64::from_bits(z.to_bits() + 1),
+                _ => f64::from_bits(z.to_bits().saturating_sub(1)),
+            }
+        }
+        1 => g.between(0.0, 130.0),
+        2 => g.between(0.0, 40.0),
+        3 => g.between(90.0, 500.0),
+        4 => g.field(0.0, 2500.0),
+        _ => g.between(0.0, 1000.0),
+    }
+}
+
+fn row_of(g: &mut Random) -> [i32; 24] {
+    let mut w = [1; 24];
+    match g.below(5) {
+        0 => w[0] = 0,
+        1 => w.iter_mut().for_each(|x| *x = g.below(6) as i32 - 2),
+        2 => w.iter_mut().for_each(|x| *x = g.below(2) as i32),
+        3 => {
+            for _ in 0..3 {
+                w[g.below(24) as usize] = g.below(3) as i32;
+            }
+        }
+        _ => {}
+    }
+    match g.below(6) {
+        0 => w[9] = -1,
+        1 => w[9] = 0,
+        2 => w[9] = g.next() as i32,
+        3 => w[9] = [-2, 2, 3, i32::MIN, i32::MAX][g.below(5) as usize],
+        _ => {}
+    }
+    w
+}
+
+fn record(g: &mut Random) -> Input {
+    let mut history = [0.0; 7];
+    history.iter_mut().for_each(|x| *x = g.field(0.0, 400.0));
+    Input {
+        year: g.next() as i32,
+        doy: 1 + g.below(366) as i32,
+        sec: g.field(0.0, 86400.0),
+        alt: altitude(g),
+        g_lat: g.field(-90.0, 90.0),
+        g_long: if g.below(4) == 0 { g.field(-1000.0, 1000.0) } else { g.between(-180.0, 360.0) },
+        lst: g.field(-24.0, 48.0),
+        f107a: if g.below(3) == 0 { g.field(0.0, 1000.0) } else { g.between(60.0, 400.0) },
+        f107: if g.below(3) == 0 { g.field(0.0, 1000.0) } else { g.between(60.0, 400.0) },
+        ap: if g.below(3) == 0 { g.field(0.0, 400.0) } else { g.between(0.0, 100.0) },
+        ap_array: if g.below(2) == 0 { Some(history) } else { None },
+    }
+}
+
+// One to three fields replaced by any bit pattern, an infinity, a NaN, or a number just out of range.
+fn spoiled(g: &mut Random, mut r: Input) -> Input {
+    for _ in 0..1 + g.below(3) {
+        let x = match g.below(6) {
+            0 => f64::NAN,
+            1 => f64::INFINITY,
+            2 => f64::NEG_INFINITY,
+            3 => f64::from_bits(g.next()),
+            4 => [86400.5, 2500.5, 90.5, 1000.5, 48.5, 400.5, -0.5, -1000.5, -24.5][g.below(9) as usize],
+            _ => g.between(-3000.0, 90000.0),
+        };
+        match g.below(11) {
+            0 => r.sec = x,
+            1 => r.alt = x,
+            2 => r.g_lat = x,
+            3 => r.g_long = x,
+            4 => r.lst = x,
+            5 => r.f107a = x,
+            6 => r.f107 = x,
+            7 => r.ap = x,
+            8 => r.doy = [0, 367, -1, i32::MIN, i32::MAX, 366, 1][g.below(7) as usize],
+            _ => {
+                let mut a = r.ap_array.unwrap_or([4.0; 7]);
+                a[g.below(7) as usize] = x;
+                r.ap_array = Some(a);
+            }
+        }
+    }
+    r
+}
+
+// Document 01's refusals: (0, 0) for an accepted record.
+fn judged(r: &Input, w: &[i32; 24]) -> (u64, u64) {
+    let mut fields = vec![r.sec, r.alt, r.g_lat, r.g_long, r.lst, r.f107a, r.f107, r.ap];
+    let mut ranges = vec![
+        (0.0, 86400.0),
+        (0.0, 2500.0),
+        (-90.0, 90.0),
+        (-1000.0, 1000.0),
+        (-24.0, 48.0),
+        (0.0, 1000.0),
+        (0.0, 1000.0),
+        (0.0, 400.0),
+    ];
+    if let Some(a) = r.ap_array {
+        fields.extend(a);
+        ranges.extend([(0.0, 400.0); 7]);
+    }
+    if let Some(k) = fields.iter().position(|x| !x.is_finite()) {
+        return (2, k as u64 + 2);
+    }
+    if w[9] == -1 && r.ap_array.is_none() {
+        return (1, 10);
+    }
+    if !(1..=366).contains(&r.doy) {
+        return (3, 1);
+    }
+    match fields.iter().zip(&ranges).position(|(x, (lo, hi))| !(lo..=hi).contains(&x)) {
+        Some(k) => (3, k as u64 + 2),
+        None => (0, 0),
+    }
+}
+
+fn same(a: f64, b: f64) -> bool {
+    a.to_bits() == b.to_bits() || (a.is_nan() && b.is_nan())
+}
+
+fn show(what: &str, r: &Input, w: &[i32; 24], a: &[f64], b: &[f64]) {
+    println!("{what}: {r:?}\n  switches {w:?}\n  {a:?}\n  {b:?}");
+}
+
+// Rows and refusals against the routed Rust.
+fn differential(g: &mut Random, count: u64) -> u64 {
+    let (mut accepted, mut refused, mut nan, mut bad) = (0u64, 0u64, 0u64, 0u64);
+    for i in 0..count {
+        let w = row_of(g);
+        let mut r = record(g);
+        if i % 4 == 0 {
+            r = spoiled(g, r);
+        }
+        let before: [f64; 11] = std::array::from_fn(|_| f64::from_bits(g.next()));
+        let mut row = before;
+        let answer = ours(&r, &w, &mut row);
+        let want = judged(&r, &w);
+        let expect = if want == (0, 0) { routed::astro::atmosphere::shim::gtd7(&to_routed(&r), w).0 } else { before };
+        let equal = if want == (0, 0) {
+            accepted += 1;
+            nan += expect.iter().any(|x| x.is_nan()) as u64;
+            (0..11).all(|k| same(row[k], expect[k]))
+        } else {
+            refused += 1;
+            (0..11).all(|k| row[k].to_bits() == before[k].to_bits())
+        };
+        if answer != want || !equal {
+            bad += 1;
+            if bad <= 3 {
+                show(&format!("difference: answer {answer:?}, wanted {want:?}"), &r, &w, &row, &expect);
+            }
+        }
+    }
+    println!("routed Rust: {count} records, {accepted} accepted ({nan} with a NaN), {refused} refused, {bad} differences");
+    bad
+}
+
+// Pairs that differ only where document 01's list shuts a field off.
+fn pairs(g: &mut Random, count: u64) -> u64 {
+    let (mut done, mut bad) = (0u64, 0u64);
+    while done < count {
+        let w = row_of(g);
+        let mut a = record(g);
+        if w[9] == -1 && a.ap_array.is_none() {
+            a.ap_array = Some([4.0; 7]);
+        }
+        let mut b = a;
+        let other = record(g);
+        b.year = other.year;
+        if w[10] != 1 || (w[12] != 1 && w[13] != 1) {
+            b.sec = other.sec;
+        }
+        if w[10] != 1 || (w[11] != 1 && w[12] != 1 && w[13] != 1) {
+            b.g_long = other.g_long;
+        }
+        if w[9] == 0 && w[7] != 1 && w[8] != 1 && w[14] != 1 {
+            b.lst = other.lst;
+        }
+        if w[9] == -1 || (w[9] == 0 && (w[10] != 1 || w[13] != 1)) {
+            b.ap = other.ap;
+        }
+        if w[9] != -1 {
+            b.ap_array = other.ap_array;
+        } else if let (Some(x), Some(y)) = (b.ap_array.as_mut(), other.ap_array) {
+            x[0] = y[0];
+        }
+        let (mut x, mut y) = ([0.0; 11], [1.0; 11]);
+        if ours(&a, &w, &mut x) != (0, 0) || ours(&b, &w, &mut y) != (0, 0) {
+            continue;
+        }
+        done += 1;
+        if !(0..11).all(|k| same(x[k], y[k])) {
+            bad += 1;
+            if bad <= 3 {
+                show("pair differs", &a, &w, &x, &y);
+            }
+        }
+    }
+    println!("pairs under the shut-off list: {done}, {bad} differences");
+    bad
+}
+
+fn apart(a: f64, b: f64) -> f64 {
+    if a == b || (a.is_nan() && b.is_nan()) {
+        0.0
+    } else {
+        ((a - b) / b).abs()
+    }
+}
+
+// The 1E-6 rule against the untouched Rust.
+fn near(g: &mut Random, count: u64) -> u64 {
+    let (mut worst, mut beyond) = (0.0f64, 0u64);
+    for _ in 0..count {
+        let mut w = row_of(g);
+        let mut r = record(g);
+        r.f107a = g.between(60.0, 400.0);
+        r.f107 = g.between(60.0, 400.0);
+        // beyond these, entry 9 multiplies the activity without bound and the temperatures lose all meaning
+        if !(-2..=3).contains(&w[9]) || (w[9] == -1 && r.ap_array.is_none()) {
+            w[9] = 1;
+        }
+        let mut row = [0.0; 11];
+        if ours(&r, &w, &mut row) != (0, 0) {
+            continue;
+        }
+        let (expect, _) = untouched::astro::atmosphere::shim::gtd7(&r, w);
+        let d = (0..11).map(|k| apart(row[k], expect[k])).fold(0.0, |a: f64, b| if b.is_nan() { f64::INFINITY } else { a.max(b) });
+        if d > 1e-6 {
+            beyond += 1;
+            if beyond <= 5 {
+                show("beyond 1E-6", &r, &w, &row, &expect);
+            }
+        } else {
+            worst = worst.max(d);
+        }
+    }
+    println!("untouched Rust: {count} records, fluxes 60 to 400, worst relative difference {worst:.2e}, {beyond} beyond 1E-6");
+    beyond
+}
+
+fn sample(doy: i32, sec: f64, alt: f64, g_lat: f64, g_long: f64, lst: f64, f107a: f64, f107: f64, ap: f64) -> Input {
+    Input { year: 0, doy, sec, alt, g_lat, g_long, lst, f107a, f107, ap, ap_array: None }
+}
+
+// The published samples from their file: `case N name value ..`, then eleven figures.
+fn samples(path: &str) -> u64 {
+    let text = std::fs::read_to_string(path).expect("the file of samples");
+    let mut lines = text.lines().filter(|l| !l.trim().is_empty()).peekable();
+    let (mut count, mut bad) = (0u64, 0u64);
+    while let Some(line) = lines.next() {
+        if !line.starts_with("case ") {
+            continue;
+        }
+        let words: Vec<&str> = line.split_whitespace().collect();
+        let value = |name: &str| words.iter().position(|w| *w == name).map(|i| words[i + 1].parse::<f64>().unwrap());
+        let get = |name: &str| value(name).unwrap();
+        let mut r = sample(get("doy") as i32, get("sec"), get("alt"), get("g_lat"), get("g_long"), get("lst"), get("f107a"), get("f107"), get("ap"));
+        let mut w = [1; 24];
+        w[0] = 0;
+        if line.contains("ap_array") || line.contains("switch 9") {
+            w[9] = -1;
+            let all: f64 = value("ap_array").or(value("each")).unwrap_or(100.0);
+            r.ap_array = Some([all; 7]);
+        }
+        let mut figures: Vec<String> = Vec::new();
+        while figures.len() < 11 {
+            figures.extend(lines.next().unwrap().split_whitespace().map(str::to_string));
+        }
+        let mut row = [0.0; 11];
+        let answer = ours(&r, &w, &mut row);
+        let (rust, _) = untouched::astro::atmosphere::shim::gtd7(&r, w);
+        count += 1;
+        for k in 0..11 {
+            let figure: f64 = figures[k].parse().unwrap();
+            let shown = |x: f64| format!("{x:.6e}").parse::<f64>().unwrap();
+            if answer != (0, 0) || shown(row[k]) != figure || shown(rust[k]) != figure {
+                bad += 1;
+                println!("sample {}: number {k} is {:e}, the Rust's {:e}, published {figure:e}", words[1], row[k], rust[k]);
+            }
+        }
+    }
+    println!("published samples: {count}, {bad} numbers differ in seven digits (ours or the Rust's)");
+    bad
+}
+
+fn counts() {
+    println!("calls of each elementary function per evaluation, all switches on (exp log sin cos pow sqrt):");
+    for alt in [0.0, 50.0, 90.0, 150.0, 400.0, 1000.0] {
+        let r = sample(172, 29000.0, alt, 60.0, -70.0, 16.0, 150.0, 150.0, 4.0);
+        counted::route::taken();
+        counted::astro::atmosphere::shim::gtd7(&to_counted(&r), [1; 24]);
+        let c = counted::route::taken();
+        println!("  {alt:6} km: {} {} {} {} {} {}", c[0].calls, c[1].calls, c[2].calls, c[3].calls, c[4].calls, c[6].calls);
+    }
+    let mut g = Random(1);
+    counted::route::taken();
+    for _ in 0..200_000 {
+        let mut r = record(&mut g);
+        if r.ap_array.is_none() {
+            r.ap_array = Some([4.0; 7]);
+        }
+        counted::astro::atmosphere::shim::gtd7(&to_counted(&r), row_of(&mut g));
+    }
+    println!("smallest and largest argument over 200000 records:");
+    for (name, c) in ["exp", "log", "sin", "cos", "pow base", "pow exponent", "sqrt"].iter().zip(counted::route::taken()) {
+        println!("  {name}: {:e} to {:e}", c.low, c.high);
+    }
+}
+
+fn time() {
+    println!("ns per call, all switches on (ours, untouched Rust, ratio):");
+    for alt in [0.0, 50.0, 90.0, 150.0, 400.0, 1000.0] {
+        let mut g = Random(7);
+        let records: Vec<Input> = (0..256)
+            .map(|_| sample(1 + g.below(366) as i32, g.between(0.0, 86400.0), alt, g.between(-90.0, 90.0), g.between(-180.0, 180.0), g.between(0.0, 24.0), g.between(70.0, 250.0), g.between(70.0, 250.0), g.between(0.0, 50.0)))
+            .collect();
+        let w = [1; 24];
+        let (mut best, mut best_rust) = (f64::INFINITY, f64::INFINITY);
+        let mut sum = 0.0;
+        for _ in 0..15 {
+            let t = Instant::now();
+            for r in &records {
+                let mut row = [0.0; 11];
+                ours(r, &w, &mut row);
+                sum += row[5];
+            }
+            best = best.min(t.elapsed().as_nanos() as f64 / 256.0);
+            let flags = untouched::astro::atmosphere::Flags::new(w);
+            let t = Instant::now();
+            for r in &records {
+                sum += untouched::astro::atmosphere::gtd7(r, &flags).unwrap().d[5];
+            }
+            best_rust = best_rust.min(t.elapsed().as_nanos() as f64 / 256.0);
+        }
+        println!("  {alt:6} km: {best:8.0} {best_rust:8.0} {:5.2}{}", best / best_rust, if sum == 1.5 { "!" } else { "" });
+    }
+}
+
+// seed count records that are accepted, each line: switches, year, doy, fields, array or -, the routed Rust's row, all floats by their bits.
+fn replay(g: &mut Random, count: u64) {
+    let mut done = 0;
+    while done < count {
+        let w = row_of(g);
+        let r = record(g);
+        if judged(&r, &w) != (0, 0) {
+            continue;
+        }
+        done += 1;
+        let (row, _) = routed::astro::atmosphere::shim::gtd7(&to_routed(&r), w);
+        let bits = |x: &f64| if x.is_nan() { "7ff8000000000000".to_string() } else { format!("{:016x}", x.to_bits()) };
+        let list = |xs: &[f64]| xs.iter().map(bits).collect::<Vec<_>>().join(" ");
+        let switches = w.iter().map(|x| x.to_string()).collect::<Vec<_>>().join(" ");
+        println!(
+            "{switches} | {} {} | {} | {} | {}",
+            r.year,
+            r.doy,
+            list(&[r.sec, r.alt, r.g_lat, r.g_long, r.lst, r.f107a, r.f107, r.ap]),
+            r.ap_array.map_or("-".to_string(), |a| list(&a)),
+            list(&row)
+        );
+    }
+}
+
+fn main() {
+    let args: Vec<String> = std::env::args().collect();
+    let number = |i: usize, default: u64| args.get(i).and_then(|x| x.parse().ok()).unwrap_or(default);
+    let mut g = Random(number(2, 1));
+    let count = number(3, 1_000_000);
+    let bad = match args.get(1).map(String::as_str) {
+        Some("differential") => differential(&mut g, count),
+        Some("pairs") => pairs(&mut g, count),
+        Some("near") => near(&mut g, count),
+        Some("samples") => samples(&args[2]),
+        Some("counts") => {
+            counts();
+            0
+        }
+        Some("time") => {
+            time();
+            0
+        }
+        Some("replay") => {
+            replay(&mut g, count);
+            0
+        }
+        _ => {
+            eprintln!("model differential|pairs|near|replay [SEED] [COUNT], samples FILE, counts, time");
+            std::process::exit(2);
+        }
+    };
+    std::process::exit((bad > 0) as i32);
+}
