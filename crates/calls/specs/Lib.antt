@@ -1,2 +1,3 @@
--- The definitions that the contracts of this crate cite, and the theorems on the two calls.
+-- The definitions that the contracts of this crate cite, and the case of document 01.
 pub mod Calls
+pub mod Cases

@@ -1,4 +1,4 @@
--- Demand 3, and switch 10's row for globe7 and glob7s.
+-- Demand 3.
 use mathlib.Core.Path.{_≡_, refl, sym, _∙_, ap, ap₂, subst}
 use mathlib.Core.List.{List}
 use mathlib.Core.Bool.{Bool, true, false, not, _&&_, _||_, cond}

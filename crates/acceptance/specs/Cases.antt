@@ -1,0 +1,56 @@
+-- S8 of document 01, and its altitude case: one table, and one statement that covers it.
+use mathlib.Core.Path.{_≡_, refl}
+use mathlib.Core.Bool.{Bool, true, false, _&&_}
+use mathlib.Core.List.{List, [], _∷_, map}
+use lib.IntN.{ℤ, pos}
+use lib.Ieee.{Float, neg, le, lt, ofBits, round}
+use Rattle.numbers.specs.Literals.{dec, 4·0, 16·0, 70·0, 100·0, 150·0, 400·0, 1000·0, 2500·0}
+use Rattle.numbers.specs.Tests.{finiteOf}
+use Rattle.setting.specs.declared.Input.{Input}
+use Rattle.setting.specs.declared.History.the-variants.{Present}
+use Rattle.setting.specs.ApHistory.{asksHistoryOf, lacksHistoryOf}
+use Rattle.acceptance.specs.declared.Answer.{Answer}
+use Rattle.acceptance.specs.declared.Answer.the-variants.{Accepted, Refused}
+use Rattle.acceptance.specs.Acceptance.{withinOf, arrayUnfitOf, unfitOf, arrayOutsideOf, outsideOf, foundOf, judgedOf}
+
+-- the first published case at an altitude and a longitude, with an array
+abbrev pub sample : Float → Float → Input
+sample alt long =
+    record {
+      year = pos 0;
+      doy = pos 172;
+      sec = dec 29000 0;
+      alt = alt;
+      «g_lat» = dec 60 0;
+      «g_long» = long;
+      lst = 16·0;
+      f107a = 150·0;
+      f107 = 150·0;
+      ap = 4·0;
+      history = Present;
+      «ap_array» = 100·0 ∷ 100·0 ∷ 100·0 ∷ 100·0 ∷ 100·0 ∷ 100·0 ∷ 100·0 ∷ [];
+    }
+
+-- a case: what the definition answers, and the answer of document 01
+pub record Case : Type 0 where
+  pub given : Answer
+  pub answer : Answer
+
+-- S8 is the first two: g_long -1,000 and -1,000.5; then alt 2,500 and 2,500.5
+unfoldable pub cases : List ℤ → List Case
+cases w =
+    record { given = judgedOf w (sample 400·0 (neg 1000·0)); answer = Accepted } ∷
+    record { given = judgedOf w (sample 400·0 (neg (dec 10005 1))); answer = Refused 3 5 } ∷
+    record { given = judgedOf w (sample 2500·0 (neg 70·0)); answer = Accepted } ∷
+    record { given = judgedOf w (sample (dec 25005 1) (neg 70·0)); answer = Refused 3 3 } ∷
+    []
+
+-- with its array there, no row finds the history lacking
+there : (b : Bool) → (b && false) ≡ false
+there true = refl
+there false = refl
+
+-- for every row, each case gives its answer
+pub cases-hold : (w : List ℤ) → map (λ (c : Case). c .given) (cases w) ≡ map (λ (c : Case). c .answer) (cases w)
+unfolding cases judgedOf lacksHistoryOf outsideOf arrayOutsideOf unfitOf arrayUnfitOf foundOf withinOf finiteOf dec neg le lt round ofBits
+cases-hold w = rw (there (asksHistoryOf w)) refl
