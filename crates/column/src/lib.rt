@@ -71,13 +71,13 @@ pub fn rows_at(v: View, x: Site, alts: &[f64], out: &mut [f64])
     requires { ⌜ 11 * length (now alts) ≤ length (now out) ⌝ }
     ensures { λ _. ⌜ now (out .exit) ≡ rowsAt v x (now (alts .entry)) ++ drop (11 * length (now (alts .entry))) (now (out .entry)) ⌝ }
 {
-    let mut k: usize = 0;
-    while k < alts.len() {
-        let z = alts[k];
-        let lo = 11 * k;
+    let mut i: usize = 0;
+    while i < alts.len() {
+        let z = alts[i];
+        let lo = 11 * i;
         let hi = lo + 11;
         row_at(v, x, z, &mut out[lo..hi]);
-        k += 1;
+        i += 1;
     }
 }
 

@@ -1,4 +1,4 @@
--- `rows_at` meets its contract: the rows of the altitudes below k are written.
+-- `rows_at` meets its contract: the rows of the altitudes below i are written.
 use mathlib.Core.Path.{_≡_, refl, _∙_}
 use mathlib.Core.List.{_++_}
 use Prim.Native.Nat.{_≤_, _-_, _*_}
@@ -12,11 +12,11 @@ use Rattle.column.proofs.rows_at.Statement.{statement}
 use Rattle.column.proofs.rows_at.Tie as tie
 
 abbrev Inv-loop : tie.InvT-loop
-Inv-loop v x alts out₀ k₀ out k =
-    (k ≤ length alts) × (length out ≡ length out₀) × (length (rowsAt v x (take k alts)) ≡ 11 * k) × (out ≡ rowsAt v x (take k alts) ++ drop (11 * k) out₀)
+Inv-loop v x alts out₀ i₀ out i =
+    (i ≤ length alts) × (length out ≡ length out₀) × (length (rowsAt v x (take i alts)) ≡ 11 * i) × (out ≡ rowsAt v x (take i alts) ++ drop (11 * i) out₀)
 
 abbrev μ-loop : tie.MeasureT-loop
-μ-loop v x alts out₀ k₀ out k = length alts - k
+μ-loop v x alts out₀ i₀ out i = length alts - i
 
 loop-holds : tie.Need-loop-holds Inv-loop μ-loop
 unfolding rowsAt
@@ -49,8 +49,8 @@ part-row-at-end c = search needs
 row-at-requires : tie.Need-row-at-requires Inv-loop μ-loop
 row-at-requires c κs = omega (arith, c .row-at-arg .given .1)
 
-add-k : tie.Need-add-k Inv-loop μ-loop
-add-k c = search needs
+add-i : tie.Need-add-i Inv-loop μ-loop
+add-i c = search needs
 
 loop-less : tie.Need-loop-less Inv-loop μ-loop
 loop-less c = search needs
@@ -62,8 +62,8 @@ loop-again c =
     let at = test .before .loop in (
       search needs,
       search needs,
-      more-length _ _ _ _ (at .k) (test .loop-test .taken) (row .ensures) (search needs) (at .inv .2),
-      turn _ _ _ _ _ _ (at .k) (test .loop-test .taken) (at .inv .2) (at .inv .3) (row .ensures),
+      more-length _ _ _ _ (at .i) (test .loop-test .taken) (row .ensures) (search needs) (at .inv .2),
+      turn _ _ _ _ _ _ (at .i) (test .loop-test .taken) (at .inv .2) (at .inv .3) (row .ensures),
     )
 
 same-length : tie.Need-same-length Inv-loop μ-loop
@@ -73,7 +73,7 @@ returns : tie.Need-returns Inv-loop μ-loop
 returns c =
     let at = c .before .loop in
     let alts = c .before .before .before .before .args .alts .now in
-    let e : at .k ≡ length alts = omega arith in
+    let e : at .i ≡ length alts = omega arith in
     at .inv .3 ∙ rw (e, take-length alts)
 
 pub rows-at-spec : {M : Type 1} → statement M
@@ -92,7 +92,7 @@ rows-at-spec =
     part-row-at-start
     part-row-at-end
     row-at-requires
-    add-k
+    add-i
     loop-less
     loop-again
     same-length
