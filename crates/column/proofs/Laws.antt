@@ -1,0 +1,145 @@
+-- The altitudes met one by one, the rows written one by one, and the column call's outcomes.
+use mathlib.Core.Path.{_≡_, refl, sym, ap, _∙_}
+use mathlib.Core.Bool.{Bool, true, false, cond, not, false≢true}
+use mathlib.Core.List.{List, [], _∷_, _++_, append-assoc}
+use Prim.Native.Nat.{ℕ, suc, _+_, _*_, _-_, _<_, _≤_}
+use native.Mathlib.Numerals.{add-one}
+use native.Mathlib.Omega.{arith}
+use borrow.Author.Tests.{lt-ltb, le-ltb}
+use borrow.Rule.Slice.PartMut.{putMid}
+use lib.Dec.{ltb}
+use lib.IntN.{ℤ}
+use lib.ListN.{length, take, drop, getD, length-append}
+use lib.Seq.{take-suc, take-at, drop-at, drop-drop, drop-cons, drop-length}
+use lib.Ieee.{Float, nan}
+use Rattle.numbers.specs.Literals.{0·0, 2500·0}
+use Rattle.numbers.specs.Tests.{finiteOf}
+use Rattle.setting.specs.declared.Input.{Input}
+use Rattle.setting.specs.declared.View.{View}
+use Rattle.setting.specs.View.{turnedOf, viewOf}
+use Rattle.upper.specs.declared.Site.{Site}
+use Rattle.upper.specs.Upper.{siteOf}
+use Rattle.acceptance.specs.declared.Answer.{Answer}
+use Rattle.acceptance.specs.declared.Answer.the-variants.{Accepted, Refused}
+use Rattle.acceptance.specs.Acceptance.{withinOf, judgedOf, acceptedOf, withAltOf}
+use Rattle.atmosphere.specs.Atmosphere.{elevenAtOf, elevenOf}
+use Rattle.column.specs.Column.{altitudesFrom, afterRecord, columnAnswer, rowsAt, columnRows, columnAfter}
+
+-- ---- the altitudes
+
+module _ (alts : List Float) (k : ℕ) (h : k < length alts) where
+  here : altitudesFrom k (drop k alts) ≡ altitudesFrom k (getD alts k nan ∷ drop (suc k) alts)
+  here = ap (altitudesFrom k) (drop-cons alts k nan h)
+
+  pub unfit-here : (b : Bool) → b ≡ finiteOf (getD alts k nan) → not b ≡ true → Refused 2 (17 + k) ≡ altitudesFrom k (drop k alts)
+  unfolding altitudesFrom
+  unfit-here b e t = rw here (simp (← e, t))
+
+  pub outside-here : (b c : Bool) → b ≡ finiteOf (getD alts k nan) → not b ≡ false → c ≡ withinOf 0·0 2500·0 (getD alts k nan) → not c ≡ true
+      → Refused 3 (17 + k) ≡ altitudesFrom k (drop k alts)
+  unfolding altitudesFrom
+  outside-here b c e t f u = rw here (simp (← e, ← f) (simp (t, u)))
+
+  pub passed-here : (b c : Bool) → b ≡ finiteOf (getD alts k nan) → not b ≡ false → c ≡ withinOf 0·0 2500·0 (getD alts k nan) → not c ≡ false
+      → altitudesFrom (k + 1) (drop (k + 1) alts) ≡ altitudesFrom k (drop k alts)
+  unfolding altitudesFrom
+  passed-here b c e t f u = rw (here, add-one) (simp (← e, ← f) (simp (t, u)))
+
+pub all-passed : (alts : List Float) (k : ℕ) → k ≡ length alts → Accepted ≡ altitudesFrom k (drop k alts)
+unfolding altitudesFrom
+all-passed alts k e = rw (e, drop-length alts)
+
+-- ---- the rows
+
+module _ (v : View) (x : Site) where
+  rows-append : (xs ys : List Float) → rowsAt v x (xs ++ ys) ≡ rowsAt v x xs ++ rowsAt v x ys
+  unfolding rowsAt
+  rows-append [] ys = refl
+  rows-append (z ∷ zs) ys = ap (λ (l : List Float). elevenAtOf v x z ++ l) (rows-append zs ys) ∙ sym (append-assoc (elevenAtOf v x z) (rowsAt v x zs) (rowsAt v x ys))
+
+  append-none : (l : List Float) → l ++ [] ≡ l
+  append-none [] = refl
+  append-none (z ∷ zs) = ap (λ (l : List Float). z ∷ l) (append-none zs)
+
+  rows-one : (z : Float) → rowsAt v x (z ∷ []) ≡ elevenAtOf v x z
+  unfolding rowsAt
+  rows-one z = append-none (elevenAtOf v x z)
+
+  rows-more : (alts row : List Float) (k : ℕ) → k < length alts → row ≡ elevenAtOf v x (getD alts k nan)
+      → rowsAt v x (take (k + 1) alts) ≡ rowsAt v x (take k alts) ++ row
+  rows-more alts row k h f = rw (add-one, take-suc alts k nan h, rows-append, rows-one, f)
+
+  pub more-length : (alts row : List Float) (k : ℕ) → k < length alts → row ≡ elevenAtOf v x (getD alts k nan) → length row ≡ 11
+      → length (rowsAt v x (take k alts)) ≡ 11 * k
+      → length (rowsAt v x (take (k + 1) alts)) ≡ 11 * (k + 1)
+  more-length alts row k h f l m = ap length (rows-more alts row k h f) ∙ (length-append (rowsAt v x (take k alts)) row ∙ omega arith)
+
+  -- a row put in the place of the next eleven numbers
+  pub turn : (alts out₀ out row : List Float) (k : ℕ) → k < length alts
+      → length (rowsAt v x (take k alts)) ≡ 11 * k
+      → out ≡ rowsAt v x (take k alts) ++ drop (11 * k) out₀
+      → row ≡ elevenAtOf v x (getD alts k nan)
+      → putMid (11 * k) (11 * k + 11 - 11 * k) out row ≡ rowsAt v x (take (k + 1) alts) ++ drop (11 * (k + 1)) out₀
+  turn alts out₀ out row k h len e f =
+      let R = rowsAt v x (take k alts) in
+      let X = drop (11 * k) out₀ in
+      let eleven : 11 * k + 11 - 11 * k ≡ 11 = omega arith in
+      let more : 11 * k + 11 ≡ 11 * (k + 1) = omega arith in
+      rw (e, take-at R X (11 * k) len, drop-at R X (11 * k) len, eleven, drop-drop, more, rows-more alts row k h f, append-assoc)
+
+-- nothing of the View and the Site depends on the record's own altitude
+pub rows-are : (w : List ℤ) (n : Input) (alts : List Float)
+    → rowsAt (viewOf w n) (siteOf ((viewOf w n) .sw) (n .«g_lat») ((viewOf w n) .doy) (n .f107a)) alts ≡ columnRows w n alts
+unfolding rowsAt columnRows elevenOf withAltOf viewOf turnedOf
+rows-are w n [] = refl
+rows-are w n (z ∷ zs) =
+    ap (λ (l : List Float). elevenAtOf (viewOf w n) (siteOf ((viewOf w n) .sw) (n .«g_lat») ((viewOf w n) .doy) (n .f107a)) z ++ l) (rows-are w n zs)
+
+-- ---- the call
+
+-- the verdict that the code computed is the definition's
+pub verdict : {a d : Answer} {v b : Bool} → a ≡ d → v ≡ acceptedOf a → v ≡ b → acceptedOf d ≡ b
+verdict e f g = sym (ap acceptedOf e) ∙ sym f ∙ g
+
+second-passed : (b : Bool) (c : Bool) (n : ℕ) (a : Answer) → acceptedOf (cond b (Refused 5 512) (cond c (Refused 4 n) a)) ≡ true → c ≡ false
+second-passed true c n a h = absurd (false≢true h)
+second-passed false true n a h = sym h
+second-passed false false n a h = refl
+
+pub accepted-room : (w : List ℤ) (n : Input) (alts : List Float) (len : ℕ) → acceptedOf (columnAnswer w n alts len) ≡ true → ltb len (11 * length alts) ≡ false
+unfolding columnAnswer
+accepted-room w n alts len h = second-passed (ltb 512 (length alts)) (ltb len (11 * length alts)) (11 * length alts) _ h
+
+pub kept : (w : List ℤ) (n : Input) (alts xs : List Float) → acceptedOf (columnAnswer w n alts (length xs)) ≡ false → xs ≡ columnAfter w n alts xs
+unfolding columnAfter
+kept w n alts xs h = simp h
+
+pub written : (w : List ℤ) (n : Input) (alts xs : List Float) → acceptedOf (columnAnswer w n alts (length xs)) ≡ true
+    → columnRows w n alts ++ drop (11 * length alts) xs ≡ columnAfter w n alts xs
+unfolding columnAfter
+written w n alts xs h = simp h
+
+-- ---- the answer
+
+module _ (w : List ℤ) (n : Input) (alts : List Float) (len : ℕ) where
+  pub too-many : 512 < length alts → Refused 5 512 ≡ columnAnswer w n alts len
+  unfolding columnAnswer
+  too-many h = simp (lt-ltb _ _ h)
+
+  pub too-short : length alts ≤ 512 → len < 11 * length alts → Refused 4 (11 * length alts) ≡ columnAnswer w n alts len
+  unfolding columnAnswer
+  too-short g h = simp (le-ltb _ _ g, lt-ltb _ _ h)
+
+  room-enough : length alts ≤ 512 → 11 * length alts ≤ len → columnAnswer w n alts len ≡ afterRecord (judgedOf w (withAltOf n 0·0)) alts
+  unfolding columnAnswer
+  room-enough g h = simp (le-ltb _ _ g, le-ltb _ _ h)
+
+  pub record-refused : length alts ≤ 512 → 11 * length alts ≤ len → (m : Input) (a : Answer) (v : Bool)
+      → m ≡ withAltOf n 0·0 → a ≡ judgedOf w m → v ≡ acceptedOf a → not v ≡ true → a ≡ columnAnswer w n alts len
+  unfolding afterRecord
+  record-refused g h m a v e f i t = rw (room-enough g h, ← e, ← f) (simp (← i) (simp t))
+
+  pub record-passed : length alts ≤ 512 → 11 * length alts ≤ len → (m : Input) (a r : Answer) (v : Bool)
+      → m ≡ withAltOf n 0·0 → a ≡ judgedOf w m → v ≡ acceptedOf a → not v ≡ false → r ≡ altitudesFrom 0 alts → r ≡ columnAnswer w n alts len
+  unfolding afterRecord
+  record-passed g h m a r v e f i t s = rw (room-enough g h, ← e, ← f, ← s) (simp (← i) (simp t))

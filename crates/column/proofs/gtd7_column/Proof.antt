@@ -1,0 +1,37 @@
+-- `gtd7_column` meets its contract.
+use mathlib.Core.Path.{_∙_}
+use borrow.Author.Tests.{ltb-false, not-true, not-false}
+use Rattle.column.proofs.Laws.{verdict, accepted-room, kept, written}
+use borrow.Author.Needs.{needs}
+use Rattle.column.proofs.gtd7_column.Statement.{statement}
+use Rattle.column.proofs.gtd7_column.Tie as tie
+
+column-answer-requires : tie.Need-column-answer-requires
+column-answer-requires c κs = search needs
+
+accepted-requires : tie.Need-accepted-requires
+accepted-requires c κs = search needs
+
+returns : tie.Need-returns
+returns c =
+    let j = c .before .before .column-answer in
+    (j .ensures, kept _ _ _ _ (verdict (j .ensures) (c .before .accepted .ensures) (not-true _ (c .if1 .taken))))
+
+rows-requires : tie.Need-rows-requires
+rows-requires c κs =
+    let at = c .before in
+    ltb-false _ _ (accepted-room _ _ _ _ (verdict (at .before .before .column-answer .ensures) (at .before .accepted .ensures) (not-false _ (at .if1 .left))))
+
+same-length : tie.Need-same-length
+same-length c = search needs
+
+returns-2 : tie.Need-returns-2
+returns-2 c =
+    let at = c .before .before .before .before in
+    let j = at .before .before .column-answer in
+    (j .ensures, c .before .before .rows .ensures ∙ written _ _ _ _ (verdict (j .ensures) (at .before .accepted .ensures) (not-false _ (at .if1 .left))))
+
+pub gtd7-column-spec : {M : Type 1} → statement M
+gtd7-column-spec =
+    tie.close
+    (tie.spec column-answer-requires accepted-requires returns rows-requires same-length returns-2)

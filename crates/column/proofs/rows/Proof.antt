@@ -1,0 +1,29 @@
+-- `rows` meets its contract.
+use mathlib.Core.Path.{_∙_}
+use Rattle.column.proofs.Laws.{rows-are}
+use borrow.Author.Needs.{needs}
+use Rattle.column.proofs.rows.Statement.{statement}
+use Rattle.column.proofs.rows.Tie as tie
+
+view-of-requires : tie.Need-view-of-requires
+view-of-requires c κs = search needs
+
+site-of-requires : tie.Need-site-of-requires
+site-of-requires c κs = search needs
+
+rows-at-requires : tie.Need-rows-at-requires
+rows-at-requires c κs = search needs
+
+same-length : tie.Need-same-length
+same-length c = search needs
+
+returns : tie.Need-returns
+returns c =
+    let made = c .before .before .before .before in
+    let args = made .before .before .before .before .before .args in
+    c .before .before .rows-at .ensures
+    ∙ rw (made .site-of .ensures, made .before .before .view-of .ensures, rows-are (args .w) (args .n) (args .alts .now))
+
+pub rows-spec : {M : Type 1} → statement M
+rows-spec =
+    tie.close (tie.spec view-of-requires site-of-requires rows-at-requires same-length returns)

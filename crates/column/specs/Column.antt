@@ -1,0 +1,50 @@
+-- Document 01's column: its refusals in order, and the lent buffer afterwards.
+use Prim.Native.Nat.{ℕ, _+_, _*_}
+use mathlib.Core.Bool.{cond, not}
+use mathlib.Core.List.{List, [], _∷_, _++_}
+use lib.Dec.{ltb}
+use lib.IntN.{ℤ}
+use lib.ListN.{length, drop}
+use lib.Ieee.{Float}
+use Rattle.numbers.specs.Literals.{0·0, 2500·0}
+use Rattle.numbers.specs.Tests.{finiteOf}
+use Rattle.setting.specs.declared.Input.{Input}
+use Rattle.setting.specs.declared.View.{View}
+use Rattle.upper.specs.declared.Site.{Site}
+use Rattle.acceptance.specs.declared.Answer.{Answer}
+use Rattle.acceptance.specs.declared.Answer.the-variants.{Accepted, Refused}
+use Rattle.acceptance.specs.Acceptance.{withinOf, judgedOf, acceptedOf, withAltOf}
+use Rattle.atmosphere.specs.Atmosphere.{elevenAtOf, elevenOf}
+
+-- each altitude in order, the first of them with the index k: 2, else 3; place 17 plus the index
+unfoldable pub altitudesFrom : ℕ → List Float → Answer
+altitudesFrom k [] = Accepted
+altitudesFrom k (z ∷ zs) =
+    cond (not (finiteOf z)) (Refused 2 (17 + k))
+    (cond (not (withinOf 0·0 2500·0 z)) (Refused 3 (17 + k))
+    (altitudesFrom (k + 1) zs))
+
+-- the record's answer where it is refused, else what the altitudes meet
+unfoldable pub afterRecord : Answer → List Float → Answer
+afterRecord a alts = cond (not (acceptedOf a)) a (altitudesFrom 0 alts)
+
+-- 5 for more than 512 altitudes; 4 for a buffer shorter than 11 times the count; the record, its own altitude not looked at; the altitudes
+unfoldable pub columnAnswer : List ℤ → Input → List Float → ℕ → Answer
+columnAnswer w n alts len =
+    cond (ltb 512 (length alts)) (Refused 5 512)
+    (cond (ltb len (11 * length alts)) (Refused 4 (11 * length alts))
+    (afterRecord (judgedOf w (withAltOf n 0·0)) alts))
+
+-- the rows of a View and a Site, one after the other
+unfoldable pub rowsAt : View → Site → List Float → List Float
+rowsAt v x [] = []
+rowsAt v x (z ∷ zs) = elevenAtOf v x z ++ rowsAt v x zs
+
+-- the rows of a record: for each altitude the one-altitude call's eleven numbers
+unfoldable pub columnRows : List ℤ → Input → List Float → List Float
+columnRows w n [] = []
+columnRows w n (z ∷ zs) = elevenOf w (withAltOf n z) ++ columnRows w n zs
+
+-- the lent buffer afterwards: the rows and the rest as it was where the call is accepted, else all as it was
+unfoldable pub columnAfter : List ℤ → Input → List Float → List Float → List Float
+columnAfter w n alts xs = cond (acceptedOf (columnAnswer w n alts (length xs))) (columnRows w n alts ++ drop (11 * length alts) xs) xs

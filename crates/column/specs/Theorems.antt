@@ -1,0 +1,81 @@
+-- The column's part of demand 3, and what each of a column's rows is.
+use mathlib.Core.Path.{_≡_, refl, sym, _∙_, ap, ap₂, subst}
+use mathlib.Core.Bool.{Bool, true, false, cond, not}
+use mathlib.Core.List.{List, [], _∷_, _++_}
+use Prim.Native.Nat.{ℕ, _*_}
+use native.Mathlib.Decide.{ℕ-discrete}
+use lib.Dec.{T, ltb}
+use lib.IntN.{ℤ}
+use lib.ListN.{length, drop}
+use lib.Seq.{getD-set-other}
+use lib.Ieee.{Float}
+use Rattle.setting.specs.declared.Input.{Input}
+use Rattle.setting.specs.ApHistory.{lacksHistoryOf}
+use Rattle.acceptance.specs.declared.Answer.{Answer}
+use Rattle.acceptance.specs.declared.Answer.the-variants.{Accepted, Refused}
+use Rattle.acceptance.specs.Acceptance.{judgedOf, acceptedOf, withAltOf}
+use Rattle.numbers.specs.Literals.{0·0}
+use Rattle.atmosphere.specs.Atmosphere.{elevenOf, answerOf}
+use Rattle.shutoff.specs.Fields.{float, missing, field, fields}
+use Rattle.shutoff.specs.Shut.{Alike}
+use Rattle.shutoff.specs.Agree.{Has}
+use Rattle.shutoff.specs.Theorems.{has, has-history, eleven≡}
+use Rattle.column.specs.Column.{afterRecord, columnAnswer, columnRows, columnAfter}
+
+-- records alike under a row stay alike with another altitude
+pub alike-at : (w : List ℤ) (a b : Input) (z : Float) → Alike w a b → Alike w (withAltOf a z) (withAltOf b z)
+unfolding withAltOf
+alike-at w a b z like k h t = go (ℕ-discrete k 3)
+  where
+    go : Dec (k ≡ 3) → field (withAltOf a z) k ≡ field (withAltOf b z) k
+    go (yes e) = subst (λ (j : ℕ). field (withAltOf a z) j ≡ field (withAltOf b z) j) (sym e) refl
+    go (no n) = getD-set-other (fields a) 3 k (float z) missing n ∙ like k h t ∙ sym (getD-set-other (fields b) 3 k (float z) missing n)
+
+-- an accepted answer comes from no refusal before it
+no-refusal : (c : Bool) (n k : ℕ) (x : Answer) → cond c (Refused n k) x ≡ Accepted → x ≡ Accepted
+no-refusal true n k x e = absurd (subst (λ (r : Answer). T (not (acceptedOf r))) e tt)
+no-refusal false n k x e = e
+
+first : (a : Answer) (alts : List Float) → afterRecord a alts ≡ Accepted → a ≡ Accepted
+unfolding afterRecord
+first Accepted alts e = refl
+first (Refused n k) alts e = e
+
+-- an accepted column's record is accepted at an altitude of 0
+pub record-accepted : (w : List ℤ) (n : Input) (alts : List Float) (len : ℕ) → columnAnswer w n alts len ≡ Accepted → answerOf w (withAltOf n 0·0) 11 ≡ Accepted
+unfolding columnAnswer answerOf
+record-accepted w n alts len e =
+    first (judgedOf w (withAltOf n 0·0)) alts
+    (no-refusal (ltb len (11 * length alts)) 4 (11 * length alts) _ (no-refusal (ltb 512 (length alts)) 5 512 _ e))
+
+-- whether the history lacks does not depend on the altitude
+pub has-at : (w : List ℤ) (n : Input) (alts : List Float) (len : ℕ) (z : Float) → columnAnswer w n alts len ≡ Accepted → Has w (withAltOf n z)
+unfolding withAltOf lacksHistoryOf
+has-at w n alts len z e = has w (withAltOf n z) (has-history w (withAltOf n 0·0) 11 (record-accepted w n alts len e))
+
+rows≡ : (w : List ℤ) (a b : Input) → Alike w a b → ((z : Float) → Has w (withAltOf a z)) → (alts : List Float) → columnRows w a alts ≡ columnRows w b alts
+unfolding columnRows
+rows≡ w a b like h [] = refl
+rows≡ w a b like h (z ∷ zs) =
+    ap₂ (λ (l r : List Float). l ++ r) (eleven≡ w (withAltOf a z) (withAltOf b z) (alike-at w a b z like) (h z)) (rows≡ w a b like h zs)
+
+pub written : (w : List ℤ) (n : Input) (alts xs : List Float) → columnAnswer w n alts (length xs) ≡ Accepted
+    → columnAfter w n alts xs ≡ columnRows w n alts ++ drop (11 * length alts) xs
+unfolding columnAfter
+written w n alts xs e = ap (λ (r : Answer). cond (acceptedOf r) (columnRows w n alts ++ drop (11 * length alts) xs) xs) e
+
+-- Demand 3 for columns. For every switch row, any altitudes and any two accepted columns on records alike under that row, whatever the two
+-- lent buffers held: the eleven numbers agree at every altitude, and both buffers begin with the same rows.
+pub demand-3-column : (w : List ℤ) (a b : Input) (alts xs ys : List Float)
+    → Alike w a b
+    → columnAnswer w a alts (length xs) ≡ Accepted
+    → columnAnswer w b alts (length ys) ≡ Accepted
+    → ((z : Float) → elevenOf w (withAltOf a z) ≡ elevenOf w (withAltOf b z))
+    × (columnAfter w a alts xs ≡ columnRows w a alts ++ drop (11 * length alts) xs)
+    × (columnAfter w b alts ys ≡ columnRows w a alts ++ drop (11 * length alts) ys)
+demand-3-column w a b alts xs ys like e f =
+    let h : (z : Float) → Has w (withAltOf a z) = λ z. has-at w a alts (length xs) z e in (
+      λ z. eleven≡ w (withAltOf a z) (withAltOf b z) (alike-at w a b z like) (h z),
+      written w a alts xs e,
+      written w b alts ys f ∙ ap (λ (l : List Float). l ++ drop (11 * length alts) ys) (sym (rows≡ w a b like h alts)),
+    )
