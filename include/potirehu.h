@@ -1,4 +1,4 @@
-/* What libhost.a offers: NRLMSISE-00 at one altitude, and the elementary functions it is built on. */
+/* What libhost.a offers: NRLMSISE-00 at one altitude and at a column of them, and the elementary functions it is built on. */
 #ifndef POTIREHU_H
 #define POTIREHU_H
 
@@ -14,6 +14,12 @@ extern "C" {
    row as it was. A row, fields, ap_array or switches of another length is refused with 4 and the length needed, in this order. */
 uint64_t potirehu_gtd7(int32_t year, int32_t doy, const double *fields, size_t n_fields, const double *ap_array, size_t n_ap,
                        const int32_t *switches, size_t n_switches, double *row, size_t n_row);
+
+/* The same at n altitudes, 0 to 512, the record's own altitude not looked at: each altitude's eleven numbers go into their own part of rows,
+   and what lies behind them stays. More than 512 altitudes are refused with 5 at 512, a buffer shorter than 11 n with 4 and that length, an
+   altitude with 2 or 3 at 17 plus its index. */
+uint64_t potirehu_gtd7_column(int32_t year, int32_t doy, const double *fields, size_t n_fields, const double *ap_array, size_t n_ap,
+                              const int32_t *switches, size_t n_switches, const double *altitudes, size_t n, double *rows, size_t n_rows);
 
 /* The elementary functions of docs/ELEMENTARY.md: total, never refused. */
 double elementary_exp(double x);

@@ -15,6 +15,7 @@ use Rattle.acceptance.specs.declared.Answer.{Answer}
 use Rattle.acceptance.specs.declared.Answer.the-variants.{Accepted, Refused}
 use Rattle.acceptance.specs.Acceptance.{acceptedOf}
 use Rattle.atmosphere.specs.Atmosphere.{answerOf, elevenOf}
+use Rattle.column.specs.Column.{columnAnswer, columnAfter}
 
 -- document 01's number of a refusal and its place, 0 and 0 where the call is accepted
 abbrev pub numberOf : Answer → ℕ
@@ -58,16 +59,28 @@ recordOf year doy f l =
       «ap_array» = valuesOf l;
     }
 
--- the answer: 4 for the row, the fields, the array, the switches, in this order, each with the length needed; then the one-altitude call's
+-- 4 for the fields, the array, the switches, in this order, each with the length needed; then the rest
+unfoldable pub lengthsOf : List Float → List Float → List ℤ → Answer → Answer
+lengthsOf f l w rest =
+    cond (not (eqb (length f) 8)) (Refused 4 8)
+    (cond (not (eqb (length l) 0) && not (eqb (length l) 7)) (Refused 4 7)
+    (cond (not (eqb (length w) 24)) (Refused 4 24) rest))
+
+-- 4 for the row first, then for the other slices, then the one-altitude call's answer
 unfoldable pub hostAnswer : ℤ → ℤ → List Float → List Float → List ℤ → ℕ → Answer
 hostAnswer year doy f l w len =
-    cond (not (eqb len 11)) (Refused 4 11)
-    (cond (not (eqb (length f) 8)) (Refused 4 8)
-    (cond (not (eqb (length l) 0) && not (eqb (length l) 7)) (Refused 4 7)
-    (cond (not (eqb (length w) 24)) (Refused 4 24)
-    (answerOf w (recordOf year doy f l) len))))
+    cond (not (eqb len 11)) (Refused 4 11) (lengthsOf f l w (answerOf w (recordOf year doy f l) len))
 
 -- the lent row afterwards
 unfoldable pub hostRow : ℤ → ℤ → List Float → List Float → List ℤ → List Float → List Float
 hostRow year doy f l w xs =
     cond (acceptedOf (hostAnswer year doy f l w (length xs))) (elevenOf w (recordOf year doy f l)) xs
+
+-- 4 for the slices, then the column's answer
+unfoldable pub hostColumn : ℤ → ℤ → List Float → List Float → List ℤ → List Float → ℕ → Answer
+hostColumn year doy f l w alts len = lengthsOf f l w (columnAnswer w (recordOf year doy f l) alts len)
+
+-- the lent buffer afterwards
+unfoldable pub hostRows : ℤ → ℤ → List Float → List Float → List ℤ → List Float → List Float → List Float
+hostRows year doy f l w alts xs =
+    cond (acceptedOf (hostColumn year doy f l w alts (length xs))) (columnAfter w (recordOf year doy f l) alts xs) xs

@@ -3,11 +3,12 @@ pub mod record;
 
 use acceptance::Answer;
 use atmosphere::gtd7;
+use column::gtd7_column;
 use record::code;
 use record::record_of;
 use record::switch_row;
 ghost use lib.ListN.{length};
-ghost use Rattle.host.specs.Host.{hostAnswer, hostRow, codeOf};
+ghost use Rattle.host.specs.Host.{hostAnswer, hostRow, hostColumn, hostRows, codeOf};
 use elementary::exponential::exp;
 use elementary::logarithm::log;
 use elementary::power::pow;
@@ -91,5 +92,33 @@ pub extern "C" fn potirehu_gtd7(
     let w = switch_row(switches);
     let n = record_of(year, doy, fields, ap_array);
     let a = gtd7(w, n, row);
+    code(a)
+}
+
+// The same at 0 to 512 altitudes, the record's own altitude not looked at; each altitude's eleven numbers go into their own part of rows.
+#[no_mangle]
+pub extern "C" fn potirehu_gtd7_column(
+    year: i32,
+    doy: i32,
+    fields: &[f64],
+    ap_array: &[f64],
+    switches: &[i32],
+    altitudes: &[f64],
+    rows: &mut [f64],
+) -> u64
+    ensures { λ r. ⌜ (r ≡ codeOf (hostColumn year doy (now (fields .entry)) (now («ap_array» .entry)) (now (switches .entry)) (now (altitudes .entry)) (length (now (rows .entry))))) × (now (rows .exit) ≡ hostRows year doy (now (fields .entry)) (now («ap_array» .entry)) (now (switches .entry)) (now (altitudes .entry)) (now (rows .entry))) ⌝ }
+{
+    if fields.len() != 8 {
+        return code(Answer::Refused(4, 8));
+    }
+    if (ap_array.len() != 0) & (ap_array.len() != 7) {
+        return code(Answer::Refused(4, 7));
+    }
+    if switches.len() != 24 {
+        return code(Answer::Refused(4, 24));
+    }
+    let w = switch_row(switches);
+    let n = record_of(year, doy, fields, ap_array);
+    let a = gtd7_column(w, n, altitudes, rows);
     code(a)
 }

@@ -3,8 +3,10 @@ use mathlib.Core.Path.{_∙_, ap₂}
 use borrow.Author.Needs.{needs}
 use mir.Facts.{toZ-ofZ}
 use lib.IntN.{ℤ}
-use Rattle.host.specs.Host.{recordOf}
-use Rattle.host.proofs.Laws.{refused, no-row, no-fields, no-array, no-switches, passed, answered}
+use lib.ListN.{length}
+use Rattle.atmosphere.specs.Atmosphere.{elevenOf}
+use Rattle.host.specs.Host.{recordOf, hostAnswer, hostRow}
+use Rattle.host.proofs.Laws.{refused, no-row, a-row, rest, no-fields, no-array, no-switches, passed, answered}
 use Rattle.host.proofs.potirehu_gtd7.Statement.{statement}
 use Rattle.host.proofs.potirehu_gtd7.Tie as tie
 
@@ -12,33 +14,45 @@ code-requires : tie.Need-code-requires
 code-requires c κs = search needs
 
 returns : tie.Need-returns
+unfolding hostRow
 returns c =
     let A = c .before .before .before .before .before .args in
-    refused (A .year) (A .doy) (A .fields .now) (A .ap-array .now) (A .switches .now) (A .row .now) 4 11 _ (no-row (A .year) (A .doy) (A .fields .now) (A .ap-array .now) (A .switches .now) (A .row .now) (c .before .if1 .taken)) (c .code .ensures)
+    refused (hostAnswer (A .year) (A .doy) (A .fields .now) (A .ap-array .now) (A .switches .now) (length (A .row .now))) (elevenOf (A .switches .now) (recordOf (A .year) (A .doy) (A .fields .now) (A .ap-array .now))) (A .row .now) 4 11 _
+    (no-row (A .year) (A .doy) (A .fields .now) (A .ap-array .now) (A .switches .now) (A .row .now) (c .before .if1 .taken))
+    (c .code .ensures)
 
 code-requires-2 : tie.Need-code-requires-2
 code-requires-2 c κs = search needs
 
 returns-2 : tie.Need-returns-2
+unfolding hostRow
 returns-2 c =
     let A = c .before .before .before .before .before .before .args in
-    refused (A .year) (A .doy) (A .fields .now) (A .ap-array .now) (A .switches .now) (A .row .now) 4 8 _ (no-fields (A .year) (A .doy) (A .fields .now) (A .ap-array .now) (A .switches .now) (A .row .now) (c .before .before .if1 .left) (c .before .if2 .taken)) (c .code2 .ensures)
+    refused (hostAnswer (A .year) (A .doy) (A .fields .now) (A .ap-array .now) (A .switches .now) (length (A .row .now))) (elevenOf (A .switches .now) (recordOf (A .year) (A .doy) (A .fields .now) (A .ap-array .now))) (A .row .now) 4 8 _
+    (a-row (A .year) (A .doy) (A .fields .now) (A .ap-array .now) (A .switches .now) (A .row .now) (c .before .before .if1 .left) ∙ no-fields (A .fields .now) (A .ap-array .now) (A .switches .now) (rest (A .year) (A .doy) (A .fields .now) (A .ap-array .now) (A .switches .now) (A .row .now)) (c .before .if2 .taken))
+    (c .code2 .ensures)
 
 code-requires-3 : tie.Need-code-requires-3
 code-requires-3 c κs = search needs
 
 returns-3 : tie.Need-returns-3
+unfolding hostRow
 returns-3 c =
     let A = c .before .before .before .before .before .before .before .args in
-    refused (A .year) (A .doy) (A .fields .now) (A .ap-array .now) (A .switches .now) (A .row .now) 4 7 _ (no-array (A .year) (A .doy) (A .fields .now) (A .ap-array .now) (A .switches .now) (A .row .now) (c .before .before .before .if1 .left) (c .before .before .if2 .left) (c .before .if3 .taken)) (c .code3 .ensures)
+    refused (hostAnswer (A .year) (A .doy) (A .fields .now) (A .ap-array .now) (A .switches .now) (length (A .row .now))) (elevenOf (A .switches .now) (recordOf (A .year) (A .doy) (A .fields .now) (A .ap-array .now))) (A .row .now) 4 7 _
+    (a-row (A .year) (A .doy) (A .fields .now) (A .ap-array .now) (A .switches .now) (A .row .now) (c .before .before .before .if1 .left) ∙ no-array (A .fields .now) (A .ap-array .now) (A .switches .now) (rest (A .year) (A .doy) (A .fields .now) (A .ap-array .now) (A .switches .now) (A .row .now)) (c .before .before .if2 .left) (c .before .if3 .taken))
+    (c .code3 .ensures)
 
 code-requires-4 : tie.Need-code-requires-4
 code-requires-4 c κs = search needs
 
 returns-4 : tie.Need-returns-4
+unfolding hostRow
 returns-4 c =
     let A = c .before .before .before .before .before .before .before .before .args in
-    refused (A .year) (A .doy) (A .fields .now) (A .ap-array .now) (A .switches .now) (A .row .now) 4 24 _ (no-switches (A .year) (A .doy) (A .fields .now) (A .ap-array .now) (A .switches .now) (A .row .now) (c .before .before .before .before .if1 .left) (c .before .before .before .if2 .left) (c .before .before .if3 .left) (c .before .if4 .taken)) (c .code4 .ensures)
+    refused (hostAnswer (A .year) (A .doy) (A .fields .now) (A .ap-array .now) (A .switches .now) (length (A .row .now))) (elevenOf (A .switches .now) (recordOf (A .year) (A .doy) (A .fields .now) (A .ap-array .now))) (A .row .now) 4 24 _
+    (a-row (A .year) (A .doy) (A .fields .now) (A .ap-array .now) (A .switches .now) (A .row .now) (c .before .before .before .before .if1 .left) ∙ no-switches (A .fields .now) (A .ap-array .now) (A .switches .now) (rest (A .year) (A .doy) (A .fields .now) (A .ap-array .now) (A .switches .now) (A .row .now)) (c .before .before .before .if2 .left) (c .before .before .if3 .left) (c .before .if4 .taken))
+    (c .code4 .ensures)
 
 switch-row-requires : tie.Need-switch-row-requires
 switch-row-requires c κs = search needs
@@ -64,7 +78,7 @@ returns-5 c =
     (c .code5 .ensures) (g .ensures .0) (g .ensures .1)
     (c .before .before .before .before .before .record-of .ensures ∙ ap₂ (λ (y d : ℤ). recordOf y d (A .fields .now) (A .ap-array .now)) (toZ-ofZ (F .year)) (toZ-ofZ (F .doy)))
     (c .before .before .before .before .before .before .switch-row .ensures)
-    (passed (A .year) (A .doy) (A .fields .now) (A .ap-array .now) (A .switches .now) (A .row .now) (c .before .before .before .before .before .before .before .before .before .before .if1 .left) (c .before .before .before .before .before .before .before .before .before .if2 .left) (c .before .before .before .before .before .before .before .before .if3 .left) (c .before .before .before .before .before .before .before .if4 .left))
+    (a-row (A .year) (A .doy) (A .fields .now) (A .ap-array .now) (A .switches .now) (A .row .now) (c .before .before .before .before .before .before .before .before .before .before .if1 .left) ∙ passed (A .fields .now) (A .ap-array .now) (A .switches .now) (rest (A .year) (A .doy) (A .fields .now) (A .ap-array .now) (A .switches .now) (A .row .now)) (c .before .before .before .before .before .before .before .before .before .if2 .left) (c .before .before .before .before .before .before .before .before .if3 .left) (c .before .before .before .before .before .before .before .if4 .left))
 
 pub potirehu-gtd7-spec : {M : Type 1} → statement M
 potirehu-gtd7-spec =
