@@ -17,6 +17,20 @@ extern "C" {
         row: *mut f64,
         n_row: usize,
     ) -> u64;
+    fn potirehu_gtd7_column(
+        year: i32,
+        doy: i32,
+        fields: *const f64,
+        n_fields: usize,
+        ap_array: *const f64,
+        n_ap: usize,
+        switches: *const i32,
+        n_switches: usize,
+        altitudes: *const f64,
+        n: usize,
+        rows: *mut f64,
+        n_rows: usize,
+    ) -> u64;
 }
 
 fn ours(r: &Input, w: &[i32; 24], row: &mut [f64]) -> (u64, u64) {
@@ -25,6 +39,29 @@ fn ours(r: &Input, w: &[i32; 24], row: &mut [f64]) -> (u64, u64) {
     let n_ap = if r.ap_array.is_some() { 7 } else { 0 };
     let code = unsafe {
         potirehu_gtd7(r.year, r.doy, fields.as_ptr(), 8, ap.as_ptr(), n_ap, w.as_ptr(), 24, row.as_mut_ptr(), row.len())
+    };
+    (code >> 32, code & 0xffff_ffff)
+}
+
+fn ours_column(r: &Input, w: &[i32; 24], alts: &[f64], rows: &mut [f64]) -> (u64, u64) {
+    let fields = [r.sec, r.alt, r.g_lat, r.g_long, r.lst, r.f107a, r.f107, r.ap];
+    let ap = r.ap_array.unwrap_or([0.0; 7]);
+    let n_ap = if r.ap_array.is_some() { 7 } else { 0 };
+    let code = unsafe {
+        potirehu_gtd7_column(
+            r.year,
+            r.doy,
+            fields.as_ptr(),
+            8,
+            ap.as_ptr(),
+            n_ap,
+            w.as_ptr(),
+            24,
+            alts.as_ptr(),
+            alts.len(),
+            rows.as_mut_ptr(),
+            rows.len(),
+        )
     };
     (code >> 32, code & 0xffff_ffff)
 }
@@ -311,6 +348,74 @@ fn pairs(g: &mut Random, count: u64) -> u64 {
     bad
 }
 
+// Columns against one-altitude calls: refusals in document 01's order, each altitude's row, and what lies behind them.
+fn columns(g: &mut Random, count: u64) -> u64 {
+    let (mut accepted, mut rows, mut bad) = (0u64, 0u64, 0u64);
+    for i in 0..count {
+        let w = row_of(g);
+        let mut r = record(g);
+        let n = match g.below(40) {
+            0 => 513,
+            1 => 512,
+            2 => 0,
+            _ => g.below(12) as usize,
+        };
+        let mut alts: Vec<f64> = (0..n).map(|_| altitude(g)).collect();
+        if i % 5 == 0 {
+            r = spoiled(g, r);
+        }
+        if i % 7 == 0 && n > 0 {
+            let k = g.below(n as u64) as usize;
+            alts[k] = [f64::NAN, f64::INFINITY, -1.0, 2500.5, f64::from_bits(g.next())][g.below(5) as usize];
+        }
+        let len = if g.below(9) == 0 { (11 * n).saturating_sub(1 + g.below(3) as usize) } else { 11 * n + g.below(5) as usize };
+        let before: Vec<f64> = (0..len).map(|_| f64::from_bits(g.next())).collect();
+        let mut out = before.clone();
+        let answer = ours_column(&r, &w, &alts, &mut out);
+        let mut at_zero = r;
+        at_zero.alt = 0.0;
+        let want = if n > 512 {
+            (5, 512)
+        } else if len < 11 * n {
+            (4, 11 * n as u64)
+        } else if judged(&at_zero, &w) != (0, 0) {
+            judged(&at_zero, &w)
+        } else {
+            alts.iter()
+                .enumerate()
+                .find_map(|(k, z)| {
+                    let place = 17 + k as u64;
+                    if !z.is_finite() {
+                        Some((2, place))
+                    } else if !(0.0..=2500.0).contains(z) {
+                        Some((3, place))
+                    } else {
+                        None
+                    }
+                })
+                .unwrap_or((0, 0))
+        };
+        let mut expect = before.clone();
+        if want == (0, 0) {
+            accepted += 1;
+            for (k, z) in alts.iter().enumerate() {
+                let mut one = r;
+                one.alt = *z;
+                rows += 1;
+                ours(&one, &w, &mut expect[11 * k..11 * k + 11]);
+            }
+        }
+        if answer != want || !(0..len).all(|k| same(out[k], expect[k])) {
+            bad += 1;
+            if bad <= 3 {
+                println!("column differs: answer {answer:?}, wanted {want:?}, {r:?} {w:?} {alts:?}");
+            }
+        }
+    }
+    println!("columns: {count}, {accepted} accepted with {rows} rows, {bad} differences");
+    bad
+}
+
 fn apart(a: f64, b: f64) -> f64 {
     if a == b || (a.is_nan() && b.is_nan()) {
         0.0
@@ -448,6 +553,30 @@ fn time() {
     }
 }
 
+// A column of 512 altitudes against 512 calls of the untouched Rust.
+fn time_column() {
+    let r = sample(172, 29000.0, 0.0, 60.0, -70.0, 16.0, 150.0, 150.0, 4.0);
+    let w = [1; 24];
+    let alts: Vec<f64> = (0..512).map(|k| 1000.0 * k as f64 / 511.0).collect();
+    let (mut best, mut best_rust, mut sum) = (f64::INFINITY, f64::INFINITY, 0.0);
+    for _ in 0..15 {
+        let mut rows = vec![0.0; 11 * 512];
+        let t = Instant::now();
+        ours_column(&r, &w, &alts, &mut rows);
+        best = best.min(t.elapsed().as_nanos() as f64 / 512.0);
+        sum += rows[5];
+        let flags = untouched::astro::atmosphere::Flags::new(w);
+        let t = Instant::now();
+        for z in &alts {
+            let mut one = r;
+            one.alt = *z;
+            sum += untouched::astro::atmosphere::gtd7(&one, &flags).unwrap().d[5];
+        }
+        best_rust = best_rust.min(t.elapsed().as_nanos() as f64 / 512.0);
+    }
+    println!("a column of 512 from 0 to 1000 km, ns per altitude: {best:.0}, the untouched Rust {best_rust:.0}, ratio {:.2}{}", best / best_rust, if sum == 1.5 { "!" } else { "" });
+}
+
 // seed count records that are accepted, each line: switches, year, doy, fields, array or -, the routed Rust's row, all floats by their bits.
 fn replay(g: &mut Random, count: u64) {
     let mut done = 0;
@@ -481,6 +610,7 @@ fn main() {
     let bad = match args.get(1).map(String::as_str) {
         Some("differential") => differential(&mut g, count),
         Some("pairs") => pairs(&mut g, count),
+        Some("columns") => columns(&mut g, count),
         Some("near") => near(&mut g, count),
         Some("samples") => samples(&args[2]),
         Some("counts") => {
@@ -489,6 +619,7 @@ fn main() {
         }
         Some("time") => {
             time();
+            time_column();
             0
         }
         Some("replay") => {
@@ -496,7 +627,7 @@ fn main() {
             0
         }
         _ => {
-            eprintln!("model differential|pairs|near|replay [SEED] [COUNT], samples FILE, counts, time");
+            eprintln!("model differential|pairs|columns|near|replay [SEED] [COUNT], samples FILE, counts, time");
             std::process::exit(2);
         }
     };
