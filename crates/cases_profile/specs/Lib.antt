@@ -1,2 +1,0 @@
--- Cases of document 01 that follow from the definitions.
-pub mod Cases
