@@ -1,0 +1,18 @@
+-- `closed` meets its contract.
+use Rattle.line_form.specs.Grammar.{closedOf}
+use borrow.Author.Needs.{needs}
+use Rattle.line_form.proofs.closed.Statement.{statement}
+use Rattle.line_form.proofs.closed.Tie as tie
+
+starts-requires : tie.Need-starts-requires
+starts-requires c κs = search needs
+
+add-q : tie.Need-add-q
+add-q c = search needs
+
+returns : tie.Need-returns
+unfolding closedOf
+returns c = simp (← c .starts .ensures)
+
+pub closed-spec : {M : Type 1} → statement M
+closed-spec = tie.close (tie.spec starts-requires add-q returns)
