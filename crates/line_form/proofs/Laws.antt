@@ -1,12 +1,11 @@
--- A line's bytes met one by one: texts and digits.
+-- A line's bytes met one by one: texts, digits, numbers and fields; and the numbers as a record and a switch row.
 use mathlib.Core.Path.{_≡_, refl, sym, ap, _∙_, subst}
 use mathlib.Core.Bool.{Bool, true, false, cond, not, _&&_, false≢true}
 use mathlib.Core.List.{List, [], _∷_}
 use Prim.Native.Nat.{ℕ, zero, suc, _+_, _*_, _-_, _<_, _≤_, zero-le}
-use native.Mathlib.Numerals.{add-one}
 use native.Mathlib.Omega.{arith}
-use borrow.Author.Tests.{lt-ltb, le-ltb, eq-eqb, ne-eqb, ltb-true, ltb-false, not-false}
-use lib.Dec.{ltb, leb, eqb, lit<}
+use borrow.Author.Tests.{lt-ltb, le-ltb, eq-eqb, ne-eqb, ltb-true, not-false}
+use lib.Dec.{ltb, eqb, lit<}
 use lib.IntN.{ℤ, pos, negsuc, _-ℤ_, +ℤ-idl}
 use native.Mathlib.Nat.{lt-trans}
 use mir.Syntax.{w32}
@@ -20,7 +19,6 @@ use Rattle.line_form.specs.declared.Digits.{Digits}
 use Rattle.line_form.specs.declared.WholeNumber.{WholeNumber}
 use Rattle.line_form.specs.declared.Reading.{Reading}
 use Rattle.line_form.specs.declared.Run.{Run}
-use Rattle.setting.specs.declared.Input.{Input}
 use Rattle.setting.specs.declared.History.{History}
 use lib.Ieee.{Float}
 use Rattle.line_form.specs.Grammar.{hereOf, startsOf, digitOf, moreOf, signedOf, positiveOf, numberOf, stoppedOf, numbersOf, fieldOf, startOf, laterOf, partOf, thousandthsAt, historyOf, arrayOf, inputOf}
