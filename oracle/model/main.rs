@@ -31,6 +31,17 @@ extern "C" {
         rows: *mut f64,
         n_rows: usize,
     ) -> u64;
+    fn state_number(
+        year: i32,
+        doy: i32,
+        fields: *const f64,
+        n_fields: usize,
+        ap_array: *const f64,
+        n_ap: usize,
+        switches: *const i32,
+        n_switches: usize,
+        k: usize,
+    ) -> f64;
 }
 
 fn ours(r: &Input, w: &[i32; 24], row: &mut [f64]) -> (u64, u64) {
@@ -96,6 +107,14 @@ fn to_counted(r: &Input) -> counted::astro::atmosphere::NrlmsiseInput {
         ap: r.ap,
         ap_array: r.ap_array,
     }
+}
+
+// State after gtd7, number by number.
+fn state(r: &Input, w: &[i32; 24], k: usize) -> f64 {
+    let fields = [r.sec, r.alt, r.g_lat, r.g_long, r.lst, r.f107a, r.f107, r.ap];
+    let ap = r.ap_array.unwrap_or([0.0; 7]);
+    let n_ap = if r.ap_array.is_some() { 7 } else { 0 };
+    unsafe { state_number(r.year, r.doy, fields.as_ptr(), 8, ap.as_ptr(), n_ap, w.as_ptr(), 24, k) }
 }
 
 // splitmix64
@@ -300,6 +319,29 @@ fn differential(g: &mut Random, count: u64) -> u64 {
         }
     }
     println!("routed Rust: {count} records, {accepted} accepted ({nan} with a NaN), {refused} refused, {bad} differences");
+    bad
+}
+
+// All 78 numbers of State after gtd7 against the routed Rust, on accepted records.
+fn states(g: &mut Random, count: u64) -> u64 {
+    let (mut done, mut bad) = (0u64, 0u64);
+    while done < count {
+        let w = row_of(g);
+        let r = record(g);
+        if judged(&r, &w) != (0, 0) {
+            continue;
+        }
+        done += 1;
+        let (_, want) = routed::astro::atmosphere::shim::gtd7(&to_routed(&r), w);
+        let have: Vec<f64> = (0..78).map(|k| state(&r, &w, k)).collect();
+        if !(0..78).all(|k| same(have[k], want[k])) {
+            bad += 1;
+            if bad <= 3 {
+                show("State differs", &r, &w, &have, &want);
+            }
+        }
+    }
+    println!("State after gtd7: {done} accepted records, 78 numbers each, {bad} differences");
     bad
 }
 
@@ -646,6 +688,7 @@ fn main() {
     let bad = match args.get(1).map(String::as_str) {
         Some("differential") => differential(&mut g, count),
         Some("pairs") => pairs(&mut g, count),
+        Some("states") => states(&mut g, count),
         Some("columns") => columns(&mut g, count),
         Some("near") => near(&mut g, count),
         Some("samples") => samples(&args[2]),
@@ -663,7 +706,7 @@ fn main() {
             0
         }
         _ => {
-            eprintln!("model differential|pairs|columns|near [SEED] [COUNT], forms SEED COUNT INPUT OUTPUT, samples FILE, counts, time");
+            eprintln!("model differential|pairs|states|columns|near [SEED] [COUNT], forms SEED COUNT INPUT OUTPUT, samples FILE, counts, time");
             std::process::exit(2);
         }
     };

@@ -1,0 +1,55 @@
+-- The State that gtd7 leaves, number by number.
+use Prim.Native.Nat.{ℕ, _-_}
+use mathlib.Core.Bool.{cond, not}
+use mathlib.Core.List.{List, [], _∷_}
+use lib.Dec.{eqb, ltb}
+use lib.IntN.{ℤ}
+use lib.ListN.{length}
+use lib.Ieee.{Float}
+use Rattle.numbers.specs.Arithmetic.{_‼_}
+use Rattle.numbers.specs.Literals.{0·0}
+use Rattle.setting.specs.declared.Input.{Input}
+use Rattle.setting.specs.declared.State.{State}
+use Rattle.setting.specs.State.{freshOf}
+use Rattle.setting.specs.View.{viewOf}
+use Rattle.upper.specs.Upper.{siteOf}
+use Rattle.plan.specs.Plan.{run}
+use Rattle.atmosphere.specs.Atmosphere.{gtd7Plan, stateAfterOf}
+use Rattle.host.specs.Host.{recordOf}
+
+-- gsurf to dm14, then the nodes
+unfoldable pub nodesOf : State → List Float
+nodesOf s =
+    s .gsurf ∷ s .re ∷ s .dd ∷ s .dm04 ∷ s .dm16 ∷ s .dm28 ∷ s .dm32 ∷ s .dm40 ∷ s .dm01 ∷ s .dm14 ∷
+    (s .«meso_tn1» ‼ 0) ∷ (s .«meso_tn1» ‼ 1) ∷ (s .«meso_tn1» ‼ 2) ∷ (s .«meso_tn1» ‼ 3) ∷ (s .«meso_tn1» ‼ 4) ∷
+    (s .«meso_tn2» ‼ 0) ∷ (s .«meso_tn2» ‼ 1) ∷ (s .«meso_tn2» ‼ 2) ∷ (s .«meso_tn2» ‼ 3) ∷
+    (s .«meso_tn3» ‼ 0) ∷ (s .«meso_tn3» ‼ 1) ∷ (s .«meso_tn3» ‼ 2) ∷ (s .«meso_tn3» ‼ 3) ∷ (s .«meso_tn3» ‼ 4) ∷
+    (s .«meso_tgn1» ‼ 0) ∷ (s .«meso_tgn1» ‼ 1) ∷ (s .«meso_tgn2» ‼ 0) ∷ (s .«meso_tgn2» ‼ 1) ∷ (s .«meso_tgn3» ‼ 0) ∷ (s .«meso_tgn3» ‼ 1) ∷ []
+
+-- ctloc to apt
+unfoldable pub lastOf : State → List Float
+lastOf s =
+    s .ctloc ∷ s .stloc ∷ s .c2tloc ∷ s .s2tloc ∷ s .s3tloc ∷ s .c3tloc ∷ s .apdf ∷
+    (s .apt ‼ 0) ∷ (s .apt ‼ 1) ∷ (s .apt ‼ 2) ∷ (s .apt ‼ 3) ∷ []
+
+-- number k in the order of the fields, dfa being number 30 and the Legendre values 31 to 66
+unfoldable pub numberOf : State → ℕ → Float
+numberOf s k =
+    cond (ltb k 30) (nodesOf s ‼ k)
+    (cond (eqb k 30) (s .dfa)
+    (cond (ltb k 67) (s .plg ‼ (k - 31))
+    (cond (ltb k 78) (lastOf s ‼ (k - 67)) 0·0)))
+
+-- the State after gtd7 from a fresh one
+unfoldable pub leftOf : List ℤ → Input → State
+leftOf w n =
+    let v = viewOf w n in
+    let x = siteOf (v .sw) (n .«g_lat») (v .doy) (n .f107a) in
+    let a = run v (gtd7Plan (v .sw) x (n .alt)) freshOf in
+    stateAfterOf x (a .result) (a .left)
+
+unfoldable pub stateNumber : ℤ → ℤ → List Float → List Float → List ℤ → ℕ → Float
+stateNumber year doy f l w k =
+    cond (not (eqb (length f) 8)) 0·0
+    (cond (not (eqb (length w) 24)) 0·0
+    (numberOf (leftOf w (recordOf year doy f l)) k))
