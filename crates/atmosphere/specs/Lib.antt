@@ -1,2 +1,3 @@
--- The definitions that the contracts of this crate cite.
+-- The definitions that the contracts of this crate cite (Atmosphere), and why gtd7 needs no State (Answers).
 pub mod Atmosphere
+pub mod Answers

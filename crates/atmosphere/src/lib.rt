@@ -1,24 +1,26 @@
 // gtd7 and the one-altitude call.
 ghost use mathlib.Core.Path.{_≡_};
 ghost use lib.ListN.{length};
-ghost use Rattle.plan.specs.Plan.{run, ends};
+ghost use Rattle.plan.specs.Plan.{told, given};
 ghost use Rattle.atmosphere.specs.Atmosphere.{gtd7Plan, elevenAtOf, elevenOf, stateAfterOf, answerOf, rowAfter};
 use acceptance::Answer;
 use acceptance::accepted;
 use acceptance::judge;
+use levels::levels_of;
+use levels::need_at;
 use lower::Whole;
 use lower::above;
 use lower::below;
 use lower::lower_stage;
 use lower::meso_stage;
 use numbers::pick;
+use plan::Levels;
 use profile::gravity::zeta;
 use profile::unchecked::bates;
 use profile::unchecked::gradient;
 use setting::Input;
 use setting::State;
 use setting::View;
-use setting::fresh;
 use setting::views::view_of;
 use tables::pdl1;
 use tables::ptm;
@@ -26,37 +28,28 @@ use thermosphere::gts7;
 use upper::Site;
 use upper::site_of;
 
-// gtd7's answer with the State that its expansions leave.
-pub struct Atmosphere {
-    pub whole: Whole,
-    pub state: State,
-}
-
-// State::gtd7 over a View and a Site.
-pub fn gtd7_stage(v: View, x: Site, alt: f64, s: State) -> Atmosphere
-    ensures { λ r. ⌜ run v (gtd7Plan (v .sw) x alt) s ≡ ends (r .whole) (r .state) ⌝ }
+// State::gtd7 over a Site and the values of its expansions.
+pub fn gtd7_stage(sw: [f64; 24], x: Site, alt: f64, l: Levels) -> Whole
+    ensures { λ r. ⌜ r ≡ told (given l) (gtd7Plan sw x alt) ⌝ }
 {
     let altt = pick(alt > 72.5, alt, 72.5);
-    let a = gts7(v, x, altt, s);
-    let u = a.upper;
-    let t = a.state;
+    let u = gts7(sw, x, altt, l);
     if alt >= 72.5 {
-        let w = above(u);
-        return Atmosphere { whole: w, state: t };
+        return above(u);
     }
-    let m = meso_stage(v, u, t);
-    let n = lower_stage(v, alt, m, t);
-    let w = below(v.sw[0], x, alt, u, n);
-    Atmosphere { whole: w, state: t }
+    let m = meso_stage(sw, u, l);
+    let n = lower_stage(sw, alt, m, l);
+    below(sw[0], x, alt, u, n)
 }
 
 // The eleven numbers at an altitude, from a fresh State.
 pub fn eleven_at(v: View, x: Site, alt: f64) -> [f64; 11]
     ensures { λ r. ⌜ r ≡ elevenAtOf v x alt ⌝ }
 {
-    let s = fresh();
-    let a = gtd7_stage(v, x, alt, s);
-    let b = a.whole;
+    let n = need_at(alt);
+    let l = levels_of(v, n);
+    let sw = v.sw;
+    let b = gtd7_stage(sw, x, alt, l);
     b.row
 }
 

@@ -14,7 +14,8 @@ use Rattle.setting.specs.declared.State.{State}
 use Rattle.setting.specs.declared.View.{View}
 use Rattle.setting.specs.declared.Input.{Input}
 use Rattle.setting.specs.View.{viewOf}
-use Rattle.expansion.specs.Expansion.{level7sOf, glob7sOf}
+use Rattle.legendre.specs.Legendre.{rowsOf}
+use Rattle.expansion.specs.Expansion.{carriedOf, level7sOf, glob7sFrom, glob7sOf}
 use Rattle.calls.specs.Calls.{accepted, glob7sCallOf}
 
 -- what glob7s asks of p[99]
@@ -23,8 +24,8 @@ unfolding ofBits eq ne
 at-99 x y e = ap (λ (z : Float). cond (ne (cond (eq z 0·0) 2·0 z) 2·0) (neg 1·0) y) e
 
 minus-one : (v : View) (p : List Float) (s : State) → p ‼ 99 ≡ 1·0 → glob7sOf v p s ≡ neg 1·0
-unfolding glob7sOf
-minus-one v p s e = at-99 (p ‼ 99) (level7sOf v p s) e
+unfolding glob7sOf glob7sFrom
+minus-one v p s e = at-99 (p ‼ 99) (level7sOf v p (rowsOf (s .plg)) (carriedOf s)) e
 
 not-below : (m n : ℕ) → n ≤ m → ltb m n ≡ false
 not-below m n h = go (ltb m n) (ltb→lt m n)

@@ -1,6 +1,6 @@
 -- The altitudes met one by one, the rows written one by one, and the column call's outcomes.
-use mathlib.Core.Path.{_≡_, refl, sym, ap, _∙_}
-use mathlib.Core.Bool.{Bool, true, false, cond, not, false≢true}
+use mathlib.Core.Path.{_≡_, refl, sym, ap, ap₂, _∙_}
+use mathlib.Core.Bool.{Bool, true, false, cond, not, _||_, false≢true}
 use mathlib.Core.List.{List, [], _∷_, _++_, append-assoc}
 use Prim.Native.Nat.{ℕ, suc, _+_, _*_, _-_, _<_, _≤_}
 use native.Mathlib.Numerals.{add-one}
@@ -15,15 +15,19 @@ use lib.Ieee.{Float, nan}
 use Rattle.numbers.specs.Literals.{0·0, 2500·0}
 use Rattle.numbers.specs.Tests.{finiteOf}
 use Rattle.setting.specs.declared.Input.{Input}
-use Rattle.setting.specs.declared.View.{View}
 use Rattle.setting.specs.View.{turnedOf, viewOf}
 use Rattle.upper.specs.declared.Site.{Site}
 use Rattle.upper.specs.Upper.{siteOf}
 use Rattle.acceptance.specs.declared.Answer.{Answer}
 use Rattle.acceptance.specs.declared.Answer.the-variants.{Accepted, Refused}
 use Rattle.acceptance.specs.Acceptance.{withinOf, judgedOf, acceptedOf, withAltOf}
+use Rattle.plan.specs.declared.Levels.{Levels}
+use Rattle.levels.specs.declared.Need.{Need}
+use Rattle.levels.specs.Levels.{needAt, bothOf, levelsOf}
+use Rattle.lower.specs.declared.Whole.{Whole}
 use Rattle.atmosphere.specs.Atmosphere.{elevenAtOf, elevenOf}
-use Rattle.column.specs.Column.{altitudesFrom, afterRecord, columnAnswer, rowsAt, columnRows, columnAfter}
+use Rattle.atmosphere.specs.Answers.{Covers, itself, gtd7-covered}
+use Rattle.column.specs.Column.{altitudesFrom, afterRecord, columnAnswer, noneOf, needsFrom, elevenFrom, rowsAt, columnRows, columnAfter}
 
 -- ---- the altitudes
 
@@ -49,51 +53,116 @@ pub all-passed : (alts : List Float) (k : ℕ) → k ≡ length alts → Accepte
 unfolding altitudesFrom
 all-passed alts k e = rw (e, drop-length alts)
 
+-- ---- the sets that are needed
+
+pub not-begun : (alts : List Float) (n : Need) → n ≡ noneOf → needsFrom n (drop 0 alts) ≡ needsFrom noneOf alts
+not-begun alts n e = ap (λ (m : Need). needsFrom m alts) e
+
+pub one-more : (alts : List Float) (k : ℕ) (n a m : Need) → k < length alts → a ≡ needAt (getD alts k nan) → m ≡ bothOf n a
+    → needsFrom m (drop (k + 1) alts) ≡ needsFrom n (drop k alts)
+unfolding needsFrom
+one-more alts k n a m h e f = rw (f, e, add-one, drop-cons alts k nan h)
+
+pub all-met : (alts : List Float) (k : ℕ) (n : Need) → k ≡ length alts → n ≡ needsFrom n (drop k alts)
+unfolding needsFrom
+all-met alts k n e = rw (e, drop-length alts)
+
+or-l : (a b : Bool) → a ≡ true → (a || b) ≡ true
+or-l true b e = refl
+or-l false b e = absurd (false≢true e)
+
+or-r : (a b : Bool) → b ≡ true → (a || b) ≡ true
+or-r true b e = refl
+or-r false b e = e
+
+-- what holds the sets of two holds those of each
+first-of : (n a b : Need) → Covers n (bothOf a b) → Covers n a
+unfolding bothOf
+first-of n a b c =
+    record {
+      pt = λ e. c .pt (or-l (a .pt) (b .pt) e);
+      ps = λ e. c .ps (or-l (a .ps) (b .ps) e);
+      nodes = λ e. c .nodes (or-l (a .nodes) (b .nodes) e);
+      meso = λ e. c .meso (or-l (a .meso) (b .meso) e);
+      tropo = λ e. c .tropo (or-l (a .tropo) (b .tropo) e);
+    }
+
+second-of : (n a b : Need) → Covers n (bothOf a b) → Covers n b
+unfolding bothOf
+second-of n a b c =
+    record {
+      pt = λ e. c .pt (or-r (a .pt) (b .pt) e);
+      ps = λ e. c .ps (or-r (a .ps) (b .ps) e);
+      nodes = λ e. c .nodes (or-r (a .nodes) (b .nodes) e);
+      meso = λ e. c .meso (or-r (a .meso) (b .meso) e);
+      tropo = λ e. c .tropo (or-r (a .tropo) (b .tropo) e);
+    }
+
+-- the sets that the altitudes need hold those of the first and those of the others
+first-covered : (m : Need) (alts : List Float) → Covers (needsFrom m alts) m
+unfolding needsFrom
+first-covered m [] = itself m
+first-covered m (z ∷ zs) = first-of _ m (needAt z) (first-covered (bothOf m (needAt z)) zs)
+
 -- ---- the rows
 
-module _ (v : View) (x : Site) where
-  rows-append : (xs ys : List Float) → rowsAt v x (xs ++ ys) ≡ rowsAt v x xs ++ rowsAt v x ys
+module _ (sw : List Float) (x : Site) (l : Levels) where
+  rows-append : (xs ys : List Float) → rowsAt sw x l (xs ++ ys) ≡ rowsAt sw x l xs ++ rowsAt sw x l ys
   unfolding rowsAt
   rows-append [] ys = refl
-  rows-append (z ∷ zs) ys = ap (λ (l : List Float). elevenAtOf v x z ++ l) (rows-append zs ys) ∙ sym (append-assoc (elevenAtOf v x z) (rowsAt v x zs) (rowsAt v x ys))
+  rows-append (z ∷ zs) ys = ap (λ (r : List Float). elevenFrom sw x l z ++ r) (rows-append zs ys) ∙ sym (append-assoc (elevenFrom sw x l z) (rowsAt sw x l zs) (rowsAt sw x l ys))
 
-  append-none : (l : List Float) → l ++ [] ≡ l
+  append-none : (r : List Float) → r ++ [] ≡ r
   append-none [] = refl
-  append-none (z ∷ zs) = ap (λ (l : List Float). z ∷ l) (append-none zs)
+  append-none (z ∷ zs) = ap (λ (r : List Float). z ∷ r) (append-none zs)
 
-  rows-one : (z : Float) → rowsAt v x (z ∷ []) ≡ elevenAtOf v x z
+  rows-one : (z : Float) → rowsAt sw x l (z ∷ []) ≡ elevenFrom sw x l z
   unfolding rowsAt
-  rows-one z = append-none (elevenAtOf v x z)
+  rows-one z = append-none (elevenFrom sw x l z)
 
-  rows-more : (alts row : List Float) (k : ℕ) → k < length alts → row ≡ elevenAtOf v x (getD alts k nan)
-      → rowsAt v x (take (k + 1) alts) ≡ rowsAt v x (take k alts) ++ row
+  rows-more : (alts row : List Float) (k : ℕ) → k < length alts → row ≡ elevenFrom sw x l (getD alts k nan)
+      → rowsAt sw x l (take (k + 1) alts) ≡ rowsAt sw x l (take k alts) ++ row
   rows-more alts row k h f = rw (add-one, take-suc alts k nan h, rows-append, rows-one, f)
 
-  pub more-length : (alts row : List Float) (k : ℕ) → k < length alts → row ≡ elevenAtOf v x (getD alts k nan) → length row ≡ 11
-      → length (rowsAt v x (take k alts)) ≡ 11 * k
-      → length (rowsAt v x (take (k + 1) alts)) ≡ 11 * (k + 1)
-  more-length alts row k h f l m = ap length (rows-more alts row k h f) ∙ (length-append (rowsAt v x (take k alts)) row ∙ omega arith)
+  pub more-length : (alts row : List Float) (k : ℕ) → k < length alts → row ≡ elevenFrom sw x l (getD alts k nan) → length row ≡ 11
+      → length (rowsAt sw x l (take k alts)) ≡ 11 * k
+      → length (rowsAt sw x l (take (k + 1) alts)) ≡ 11 * (k + 1)
+  more-length alts row k h f e m = ap length (rows-more alts row k h f) ∙ (length-append (rowsAt sw x l (take k alts)) row ∙ omega arith)
 
   -- a row put in the place of the next eleven numbers
   pub turn : (alts out₀ out row : List Float) (k : ℕ) → k < length alts
-      → length (rowsAt v x (take k alts)) ≡ 11 * k
-      → out ≡ rowsAt v x (take k alts) ++ drop (11 * k) out₀
-      → row ≡ elevenAtOf v x (getD alts k nan)
-      → putMid (11 * k) (11 * k + 11 - 11 * k) out row ≡ rowsAt v x (take (k + 1) alts) ++ drop (11 * (k + 1)) out₀
+      → length (rowsAt sw x l (take k alts)) ≡ 11 * k
+      → out ≡ rowsAt sw x l (take k alts) ++ drop (11 * k) out₀
+      → row ≡ elevenFrom sw x l (getD alts k nan)
+      → putMid (11 * k) (11 * k + 11 - 11 * k) out row ≡ rowsAt sw x l (take (k + 1) alts) ++ drop (11 * (k + 1)) out₀
   turn alts out₀ out row k h len e f =
-      let R = rowsAt v x (take k alts) in
+      let R = rowsAt sw x l (take k alts) in
       let X = drop (11 * k) out₀ in
       let eleven : 11 * k + 11 - 11 * k ≡ 11 = omega arith in
       let more : 11 * k + 11 ≡ 11 * (k + 1) = omega arith in
       rw (e, take-at R X (11 * k) len, drop-at R X (11 * k) len, eleven, drop-drop, more, rows-more alts row k h f, append-assoc)
 
 -- nothing of the View and the Site depends on the record's own altitude
+row-is : (w : List ℤ) (n : Input) (m : Need) (z : Float) → Covers m (needAt z)
+    → elevenFrom ((viewOf w n) .sw) (siteOf ((viewOf w n) .sw) (n .«g_lat») ((viewOf w n) .doy) (n .f107a)) (levelsOf (viewOf w n) m) z ≡ elevenOf w (withAltOf n z)
+unfolding elevenFrom elevenOf elevenAtOf withAltOf viewOf turnedOf
+row-is w n m z c =
+    let v = viewOf w n in
+    sym (ap (λ (r : Whole). r .row) (gtd7-covered v m (siteOf (v .sw) (n .«g_lat») (v .doy) (n .f107a)) z c))
+
+rows-covered : (w : List ℤ) (n : Input) (m : Need) (alts : List Float)
+    → rowsAt ((viewOf w n) .sw) (siteOf ((viewOf w n) .sw) (n .«g_lat») ((viewOf w n) .doy) (n .f107a)) (levelsOf (viewOf w n) (needsFrom m alts)) alts ≡ columnRows w n alts
+unfolding rowsAt columnRows needsFrom
+rows-covered w n m [] = refl
+rows-covered w n m (z ∷ zs) =
+    let k = bothOf m (needAt z) in
+    ap₂ (λ (r t : List Float). r ++ t)
+    (row-is w n (needsFrom k zs) z (second-of _ m (needAt z) (first-covered k zs)))
+    (rows-covered w n k zs)
+
 pub rows-are : (w : List ℤ) (n : Input) (alts : List Float)
-    → rowsAt (viewOf w n) (siteOf ((viewOf w n) .sw) (n .«g_lat») ((viewOf w n) .doy) (n .f107a)) alts ≡ columnRows w n alts
-unfolding rowsAt columnRows elevenOf withAltOf viewOf turnedOf
-rows-are w n [] = refl
-rows-are w n (z ∷ zs) =
-    ap (λ (l : List Float). elevenAtOf (viewOf w n) (siteOf ((viewOf w n) .sw) (n .«g_lat») ((viewOf w n) .doy) (n .f107a)) z ++ l) (rows-are w n zs)
+    → rowsAt ((viewOf w n) .sw) (siteOf ((viewOf w n) .sw) (n .«g_lat») ((viewOf w n) .doy) (n .f107a)) (levelsOf (viewOf w n) (needsFrom noneOf alts)) alts ≡ columnRows w n alts
+rows-are w n alts = rows-covered w n noneOf alts
 
 -- ---- the call
 

@@ -3,18 +3,21 @@ ghost use mathlib.Core.Path.{_≡_};
 ghost use mathlib.Core.List.{_++_};
 ghost use Prim.Native.Nat.{_*_, _≤_};
 ghost use lib.ListN.{length, drop};
-ghost use Rattle.atmosphere.specs.Atmosphere.{elevenAtOf};
-ghost use Rattle.column.specs.Column.{altitudesFrom, columnAnswer, columnAfter, rowsAt, columnRows};
+ghost use Rattle.column.specs.Column.{altitudesFrom, columnAnswer, columnAfter, noneOf, needsFrom, elevenFrom, rowsAt, columnRows};
 use acceptance::Answer;
 use acceptance::accepted;
 use acceptance::judge;
 use acceptance::with_alt;
 use acceptance::within;
-use atmosphere::eleven_at;
+use atmosphere::gtd7_stage;
 use atmosphere::put;
+use levels::Need;
+use levels::both;
+use levels::levels_of;
+use levels::need_at;
 use numbers::finite;
+use plan::Levels;
 use setting::Input;
-use setting::View;
 use setting::views::view_of;
 use upper::Site;
 use upper::site_of;
@@ -57,31 +60,58 @@ pub fn column_answer(w: [i32; 24], n: Input, alts: &[f64], len: usize) -> Answer
     altitudes(alts)
 }
 
-// The one-altitude call after its checks: the eleven numbers at an altitude into a row of eleven.
-pub fn row_at(v: View, x: Site, alt: f64, out: &mut [f64])
-    requires { ⌜ length (now out) ≡ 11 ⌝ }
-    ensures { λ _. ⌜ now (out .exit) ≡ elevenAtOf v x alt ⌝ }
+pub fn none() -> Need
+    ensures { λ r. ⌜ r ≡ noneOf ⌝ }
 {
-    let row = eleven_at(v, x, alt);
+    Need {
+        pt: false,
+        ps: false,
+        nodes: false,
+        meso: false,
+        tropo: false,
+    }
+}
+
+// Which coefficient sets the altitudes need.
+pub fn needs(alts: &[f64]) -> Need
+    ensures { λ r. ⌜ r ≡ needsFrom noneOf (now (alts .entry)) ⌝ }
+{
+    let mut n = none();
+    let mut k: usize = 0;
+    while k < alts.len() {
+        let a = need_at(alts[k]);
+        n = both(n, a);
+        k += 1;
+    }
+    n
+}
+
+// The one-altitude call after its checks: the eleven numbers at an altitude into a row of eleven.
+pub fn row_at(sw: [f64; 24], x: Site, l: Levels, alt: f64, out: &mut [f64])
+    requires { ⌜ length (now out) ≡ 11 ⌝ }
+    ensures { λ _. ⌜ now (out .exit) ≡ elevenFrom sw x l alt ⌝ }
+{
+    let b = gtd7_stage(sw, x, alt, l);
+    let row = b.row;
     put(out, row);
 }
 
 // Each altitude's row into its own part of the buffer.
-pub fn rows_at(v: View, x: Site, alts: &[f64], out: &mut [f64])
+pub fn rows_at(sw: [f64; 24], x: Site, l: Levels, alts: &[f64], out: &mut [f64])
     requires { ⌜ 11 * length (now alts) ≤ length (now out) ⌝ }
-    ensures { λ _. ⌜ now (out .exit) ≡ rowsAt v x (now (alts .entry)) ++ drop (11 * length (now (alts .entry))) (now (out .entry)) ⌝ }
+    ensures { λ _. ⌜ now (out .exit) ≡ rowsAt sw x l (now (alts .entry)) ++ drop (11 * length (now (alts .entry))) (now (out .entry)) ⌝ }
 {
     let mut i: usize = 0;
     while i < alts.len() {
         let z = alts[i];
         let lo = 11 * i;
         let hi = lo + 11;
-        row_at(v, x, z, &mut out[lo..hi]);
+        row_at(sw, x, l, z, &mut out[lo..hi]);
         i += 1;
     }
 }
 
-// The rows of a record; what does not depend on the altitude is worked out once.
+// The rows of a record; what does not depend on the altitude, the expansions above all, is worked out once.
 pub fn rows(w: [i32; 24], n: Input, alts: &[f64], out: &mut [f64])
     requires { ⌜ 11 * length (now alts) ≤ length (now out) ⌝ }
     ensures { λ _. ⌜ now (out .exit) ≡ columnRows w n (now (alts .entry)) ++ drop (11 * length (now (alts .entry))) (now (out .entry)) ⌝ }
@@ -89,7 +119,9 @@ pub fn rows(w: [i32; 24], n: Input, alts: &[f64], out: &mut [f64])
     let v = view_of(w, n);
     let sw = v.sw;
     let x = site_of(sw, n.g_lat, v.doy, n.f107a);
-    rows_at(v, x, alts, out);
+    let a = needs(alts);
+    let l = levels_of(v, a);
+    rows_at(sw, x, l, alts, out);
 }
 
 // The column call: refused, the buffer as it was; accepted, the rows and the rest of the buffer as it was.

@@ -11,30 +11,30 @@ use Rattle.setting.specs.declared.View.{View}
 use Rattle.setting.specs.declared.views.Turns.{Turns}
 use Rattle.parts.specs.declared.Seasons.{Seasons}
 use Rattle.expansion.specs.declared.Early.{Early}
+use Rattle.expansion.specs.declared.Carried.{Carried}
 use Rattle.terms.specs.Terms.{t0Of, f1Of, f2Of, t1Of, t3Of, t4Of, t5Of, t1sOf, t2sOf, t3sOf, t4sOf}
-use Rattle.legendre.specs.Legendre.{legendreOf, flatOf, rowsOf}
+use Rattle.legendre.specs.Legendre.{legendreOf, flatOf}
 use Rattle.activity.specs.Activity.{apdfNextOf, aptNextOf}
 use Rattle.parts.specs.Parts.{dayCosinesOf, t6Of, t7Of, t8Of, t10Of, t11Of, t12Of, t13Of, weightedOf, t6sOf, t7sOf, t8sOf, t10sOf, t13sOf}
 use Rattle.expansion.specs.Expansion.{early7Of, level7Of, turnsAfterOf, afterOf, level7sOf}
 
-pub level7-law : (v : View) (p : List Float) (s : State)
-    (x·end : Float) (x13 : Float) (x12 : Float) (x11 : Float) (x10 : Float) (x8 : Float) (x7 : Float) (x6 : Float) (fb : Float) (y : Early) (d : Seasons) (g : List (List Float))
+pub level7-law : (v : View) (p : List Float) (g : List (List Float)) (s : Carried)
+    (x·end : Float) (x13 : Float) (x12 : Float) (x11 : Float) (x10 : Float) (x8 : Float) (x7 : Float) (x6 : Float) (fb : Float) (y : Early) (d : Seasons)
     → x·end ≡ weightedOf (p ‼ 30) (v .sw) ((y .x0) ∷ (y .x1) ∷ (y .x2) ∷ (y .x3) ∷ (y .x4) ∷ (y .x5) ∷ x6 ∷ x7 ∷ x8 ∷ 0·0 ∷ x10 ∷ x11 ∷ x12 ∷ x13 ∷ [])
     → x13 ≡ t13Of p g ((v .sw) ‼ 14) fb (d .cd14) ((v .swc) ‼ 5) (s .c3tloc) (s .s3tloc)
-    → x12 ≡ t12Of v p g (d .cd14) (s .apdf) ((s .apt) ‼ 0)
+    → x12 ≡ t12Of v p g (d .cd14) (s .apdf) (s .apt)
     → x11 ≡ t11Of v p g (d .cd14)
     → x10 ≡ t10Of v p g (d .cd14)
-    → x8 ≡ t8Of v p g (d .cd14) (s .apdf) ((s .apt) ‼ 0)
+    → x8 ≡ t8Of v p g (d .cd14) (s .apdf) (s .apt)
     → x7 ≡ t7Of p g ((v .sw) ‼ 8) fb (d .cd14) ((v .swc) ‼ 5) (s .c2tloc) (s .s2tloc)
     → x6 ≡ t6Of p g ((v .sw) ‼ 7) fb (d .cd14) ((v .swc) ‼ 5) (s .ctloc) (s .stloc)
     → fb ≡ f2Of p (v .df) (v .dfa) ((v .swc) ‼ 1)
     → y ≡ early7Of v p g d
     → d ≡ dayCosinesOf (v .doy) p
-    → g ≡ rowsOf (s .plg)
-    → _≡_ {A = Float} (x·end) (level7Of v p s)
+    → _≡_ {A = Float} (x·end) (level7Of v p g s)
 unfolding level7Of
-level7-law v p s x·end x13 x12 x11 x10 x8 x7 x6 fb y d g e0 e1 e2 e3 e4 e5 e6 e7 e8 e9 e10 e11 =
-    simp (e0, e1, e2, e3, e4, e5, e6, e7, e8, e9, e10, e11)
+level7-law v p g s x·end x13 x12 x11 x10 x8 x7 x6 fb y d e0 e1 e2 e3 e4 e5 e6 e7 e8 e9 e10 =
+    simp (e0, e1, e2, e3, e4, e5, e6, e7, e8, e9, e10)
 
 pub early7-law : (v : View) (p : List Float) (g : List (List Float)) (d : Seasons)
     (x5 : Float) (x4 : Float) (x3 : Float) (x1 : Float) (x0 : Float) (fa : Float)
@@ -49,12 +49,12 @@ unfolding early7Of
 early7-law v p g d x5 x4 x3 x1 x0 fa e0 e1 e2 e3 e4 e5 =
     simp (e0, e1, e2, e3, e4, e5)
 
-pub level7s-law : (v : View) (p : List Float) (s : State)
-    (x·end : Float) (x13 : Float) (x10 : Float) (x8 : Float) (x7 : Float) (x6 : Float) (x5 : Float) (x4 : Float) (x3 : Float) (x2 : Float) (x1 : Float) (d : Seasons) (g : List (List Float))
+pub level7s-law : (v : View) (p : List Float) (g : List (List Float)) (s : Carried)
+    (x·end : Float) (x13 : Float) (x10 : Float) (x8 : Float) (x7 : Float) (x6 : Float) (x5 : Float) (x4 : Float) (x3 : Float) (x2 : Float) (x1 : Float) (d : Seasons)
     → x·end ≡ weightedOf 0·0 (v .sw) ((p ‼ 21 ⊗ s .dfa) ∷ x1 ∷ x2 ∷ x3 ∷ x4 ∷ x5 ∷ x6 ∷ x7 ∷ x8 ∷ 0·0 ∷ x10 ∷ 0·0 ∷ 0·0 ∷ x13 ∷ [])
     → x13 ≡ t13sOf p g ((v .sw) ‼ 14) (s .c3tloc) (s .s3tloc)
     → x10 ≡ t10sOf v p g
-    → x8 ≡ t8sOf v p g (s .apdf) ((s .apt) ‼ 0)
+    → x8 ≡ t8sOf v p g (s .apdf) (s .apt)
     → x7 ≡ t7sOf p g ((v .sw) ‼ 8) (d .cd14) ((v .swc) ‼ 5) (s .c2tloc) (s .s2tloc)
     → x6 ≡ t6sOf p g ((v .sw) ‼ 7) (d .cd14) ((v .swc) ‼ 5) (s .ctloc) (s .stloc)
     → x5 ≡ t5Of p g (d .cd39)
@@ -63,11 +63,10 @@ pub level7s-law : (v : View) (p : List Float) (s : State)
     → x2 ≡ t2sOf p g (d .cd32)
     → x1 ≡ t1sOf p g
     → d ≡ dayCosinesOf (v .doy) p
-    → g ≡ rowsOf (s .plg)
-    → _≡_ {A = Float} (x·end) (level7sOf v p s)
+    → _≡_ {A = Float} (x·end) (level7sOf v p g s)
 unfolding level7sOf
-level7s-law v p s x·end x13 x10 x8 x7 x6 x5 x4 x3 x2 x1 d g e0 e1 e2 e3 e4 e5 e6 e7 e8 e9 e10 e11 e12 =
-    simp (e0, e1, e2, e3, e4, e5, e6, e7, e8, e9, e10, e11, e12)
+level7s-law v p g s x·end x13 x10 x8 x7 x6 x5 x4 x3 x2 x1 d e0 e1 e2 e3 e4 e5 e6 e7 e8 e9 e10 e11 =
+    simp (e0, e1, e2, e3, e4, e5, e6, e7, e8, e9, e10, e11)
 
 pub after-law : (v : View) (p : List Float) (s : State)
     (apt : Float) (apdf : Float) (t : Turns) (q : List Float) (g : List (List Float))

@@ -10,6 +10,7 @@ use Rattle.setting.specs.declared.View.{View}
 use Rattle.setting.specs.declared.Valued.{Valued}
 use Rattle.parts.specs.declared.Seasons.{Seasons}
 use Rattle.expansion.specs.declared.Early.{Early}
+use Rattle.expansion.specs.declared.Carried.{Carried}
 use Rattle.terms.specs.Terms.{t0Of, f1Of, f2Of, t1Of, t3Of, t4Of, t5Of, t1sOf, t2sOf, t3sOf, t4sOf}
 use Rattle.legendre.specs.Legendre.{legendreOf, flatOf, rowsOf}
 use Rattle.activity.specs.Activity.{apdfNextOf, aptNextOf}
@@ -29,10 +30,24 @@ early7Of v p g d =
       x5 = t5Of p g (d .cd39);
     }
 
--- The value of globe7, from the State after it
-unfoldable pub level7Of : View → List Float → State → Float
-level7Of v p s =
-    let g = rowsOf (s .plg) in
+-- What State carries for the terms, beside the Legendre values
+unfoldable pub carriedOf : State → Carried
+carriedOf s =
+    record {
+      dfa = s .dfa;
+      ctloc = s .ctloc;
+      stloc = s .stloc;
+      c2tloc = s .c2tloc;
+      s2tloc = s .s2tloc;
+      s3tloc = s .s3tloc;
+      c3tloc = s .c3tloc;
+      apdf = s .apdf;
+      apt = s .apt ‼ 0;
+    }
+
+-- The value of globe7, from what the State after it carries
+unfoldable pub level7Of : View → List Float → List (List Float) → Carried → Float
+level7Of v p g s =
     let d = dayCosinesOf (v .doy) p in
     let y = early7Of v p g d in
     let c5 = v .swc ‼ 5 in
@@ -41,9 +56,9 @@ level7Of v p s =
     y .x0 ∷ y .x1 ∷ y .x2 ∷ y .x3 ∷ y .x4 ∷ y .x5 ∷
     t6Of p g (v .sw ‼ 7) fb (d .cd14) c5 (s .ctloc) (s .stloc) ∷
     t7Of p g (v .sw ‼ 8) fb (d .cd14) c5 (s .c2tloc) (s .s2tloc) ∷
-    t8Of v p g (d .cd14) (s .apdf) (s .apt ‼ 0) ∷ 0·0 ∷
+    t8Of v p g (d .cd14) (s .apdf) (s .apt) ∷ 0·0 ∷
     t10Of v p g (d .cd14) ∷ t11Of v p g (d .cd14) ∷
-    t12Of v p g (d .cd14) (s .apdf) (s .apt ‼ 0) ∷
+    t12Of v p g (d .cd14) (s .apdf) (s .apt) ∷
     t13Of p g (v .sw ‼ 14) fb (d .cd14) c5 (s .c3tloc) (s .s3tloc) ∷ [])
 
 -- The sines of local time after globe7: new only where switch 7, 8 or 14 is on
@@ -95,12 +110,11 @@ afterOf v p s =
 -- globe7 from a View
 unfoldable pub globe7Of : View → List Float → State → Valued
 globe7Of v p s =
-    let a = afterOf v p s in record { value = level7Of v p a; state = a }
+    let a = afterOf v p s in record { value = level7Of v p (rowsOf (a .plg)) (carriedOf a); state = a }
 
 -- The value of glob7s
-unfoldable pub level7sOf : View → List Float → State → Float
-level7sOf v p s =
-    let g = rowsOf (s .plg) in
+unfoldable pub level7sOf : View → List Float → List (List Float) → Carried → Float
+level7sOf v p g s =
     let d = dayCosinesOf (v .doy) p in
     weightedOf 0·0 (v .sw) (
     (p ‼ 21 ⊗ s .dfa) ∷
@@ -111,16 +125,20 @@ level7sOf v p s =
     t5Of p g (d .cd39) ∷
     t6sOf p g (v .sw ‼ 7) (d .cd14) (v .swc ‼ 5) (s .ctloc) (s .stloc) ∷
     t7sOf p g (v .sw ‼ 8) (d .cd14) (v .swc ‼ 5) (s .c2tloc) (s .s2tloc) ∷
-    t8sOf v p g (s .apdf) (s .apt ‼ 0) ∷
+    t8sOf v p g (s .apdf) (s .apt) ∷
     0·0 ∷
     t10sOf v p g ∷
     0·0 ∷
     0·0 ∷
     t13sOf p g (v .sw ‼ 14) (s .c3tloc) (s .s3tloc) ∷ [])
 
--- glob7s from a View
-unfoldable pub glob7sOf : View → List Float → State → Float
-glob7sOf v p s =
+-- glob7s from what State carries
+unfoldable pub glob7sFrom : View → List Float → List (List Float) → Carried → Float
+glob7sFrom v p g s =
     let p99 = cond (eq (p ‼ 99) 0·0) 2·0 (p ‼ 99) in
     cond (ne p99 2·0) (neg 1·0) (
-    level7sOf v p s)
+    level7sOf v p g s)
+
+-- glob7s from a View
+unfoldable pub glob7sOf : View → List Float → State → Float
+glob7sOf v p s = glob7sFrom v p (rowsOf (s .plg)) (carriedOf s)

@@ -2,7 +2,7 @@
 ghost use mathlib.Core.Path.{_≡_};
 ghost use Prim.Native.Nat.{_≤_};
 ghost use lib.ListN.{length};
-ghost use Rattle.expansion.specs.Expansion.{early7Of, level7Of, turnsAfterOf, afterOf, globe7Of, level7sOf, glob7sOf};
+ghost use Rattle.expansion.specs.Expansion.{early7Of, carriedOf, level7Of, turnsAfterOf, afterOf, globe7Of, level7sOf, glob7sFrom, glob7sOf};
 use activity::apdf_next;
 use activity::apt_next;
 use legendre::flat;
@@ -50,6 +50,35 @@ pub struct Early {
     pub x5: f64,
 }
 
+// What State carries for the terms, beside the Legendre values.
+pub struct Carried {
+    pub dfa: f64,
+    pub ctloc: f64,
+    pub stloc: f64,
+    pub c2tloc: f64,
+    pub s2tloc: f64,
+    pub s3tloc: f64,
+    pub c3tloc: f64,
+    pub apdf: f64,
+    pub apt: f64,
+}
+
+pub fn carried_in(s: State) -> Carried
+    ensures { λ r. ⌜ r ≡ carriedOf s ⌝ }
+{
+    Carried {
+        dfa: s.dfa,
+        ctloc: s.ctloc,
+        stloc: s.stloc,
+        c2tloc: s.c2tloc,
+        s2tloc: s.s2tloc,
+        s3tloc: s.s3tloc,
+        c3tloc: s.c3tloc,
+        apdf: s.apdf,
+        apt: s.apt[0],
+    }
+}
+
 // t[0] to t[5] of globe7.
 pub fn early7(v: View, p: &[f64], g: [[f64; 9]; 4], d: Seasons) -> Early
     requires { ⌜ length (now p) ≡ 150 ⌝ }
@@ -71,22 +100,20 @@ pub fn early7(v: View, p: &[f64], g: [[f64; 9]; 4], d: Seasons) -> Early
     }
 }
 
-// The value of globe7, from the State after it.
-pub fn level7(v: View, p: &[f64], s: State) -> f64
+// The value of globe7, from what the State after it carries.
+pub fn level7(v: View, p: &[f64], g: [[f64; 9]; 4], s: Carried) -> f64
     requires { ⌜ length (now p) ≡ 150 ⌝ }
-    ensures { λ r. ⌜ r ≡ level7Of v (now (p .entry)) s ⌝ }
+    ensures { λ r. ⌜ r ≡ level7Of v (now (p .entry)) g s ⌝ }
 {
-    let q = s.plg;
-    let g = rows(q);
     let d = day_cosines(v.doy, p);
     let y = early7(v, p, g, d);
     let fb = f2(p, v.df, v.dfa, v.swc[1]);
     let x6 = t6(p, g, v.sw[7], fb, d.cd14, v.swc[5], s.ctloc, s.stloc);
     let x7 = t7(p, g, v.sw[8], fb, d.cd14, v.swc[5], s.c2tloc, s.s2tloc);
-    let x8 = t8(v, p, g, d.cd14, s.apdf, s.apt[0]);
+    let x8 = t8(v, p, g, d.cd14, s.apdf, s.apt);
     let x10 = t10(v, p, g, d.cd14);
     let x11 = t11(v, p, g, d.cd14);
-    let x12 = t12(v, p, g, d.cd14, s.apdf, s.apt[0]);
+    let x12 = t12(v, p, g, d.cd14, s.apdf, s.apt);
     let x13 = t13(p, g, v.sw[14], fb, d.cd14, v.swc[5], s.c3tloc, s.s3tloc);
     let t = [
         y.x0,
@@ -161,17 +188,18 @@ pub fn globe7(v: View, p: &[f64], s: State) -> Valued
     ensures { λ r. ⌜ r ≡ globe7Of v (now (p .entry)) s ⌝ }
 {
     let a = after(v, p, s);
-    let x = level7(v, p, a);
+    let q = a.plg;
+    let g = rows(q);
+    let c = carried_in(a);
+    let x = level7(v, p, g, c);
     Valued { value: x, state: a }
 }
 
 // The value of glob7s.
-pub fn level7s(v: View, p: &[f64], s: State) -> f64
+pub fn level7s(v: View, p: &[f64], g: [[f64; 9]; 4], s: Carried) -> f64
     requires { ⌜ 100 ≤ length (now p) ⌝ }
-    ensures { λ r. ⌜ r ≡ level7sOf v (now (p .entry)) s ⌝ }
+    ensures { λ r. ⌜ r ≡ level7sOf v (now (p .entry)) g s ⌝ }
 {
-    let q = s.plg;
-    let g = rows(q);
     let d = day_cosines(v.doy, p);
     let x0 = p[21] * s.dfa;
     let x1 = t1s(p, g);
@@ -181,7 +209,7 @@ pub fn level7s(v: View, p: &[f64], s: State) -> f64
     let x5 = t5(p, g, d.cd39);
     let x6 = t6s(p, g, v.sw[7], d.cd14, v.swc[5], s.ctloc, s.stloc);
     let x7 = t7s(p, g, v.sw[8], d.cd14, v.swc[5], s.c2tloc, s.s2tloc);
-    let x8 = t8s(v, p, g, s.apdf, s.apt[0]);
+    let x8 = t8s(v, p, g, s.apdf, s.apt);
     let x10 = t10s(v, p, g);
     let x13 = t13s(p, g, v.sw[14], s.c3tloc, s.s3tloc);
     let t = [x0, x1, x2, x3, x4, x5, x6, x7, x8, 0.0, x10, 0.0, 0.0, x13];
@@ -189,14 +217,25 @@ pub fn level7s(v: View, p: &[f64], s: State) -> f64
     weighted(0.0, a, t)
 }
 
-// glob7s from a View.
-pub fn glob7s(v: View, p: &[f64], s: State) -> f64
+// glob7s from what State carries.
+pub fn glob7s_from(v: View, p: &[f64], g: [[f64; 9]; 4], s: Carried) -> f64
     requires { ⌜ 100 ≤ length (now p) ⌝ }
-    ensures { λ r. ⌜ r ≡ glob7sOf v (now (p .entry)) s ⌝ }
+    ensures { λ r. ⌜ r ≡ glob7sFrom v (now (p .entry)) g s ⌝ }
 {
     let p99 = pick(p[99] == 0.0, 2.0, p[99]);
     if p99 != 2.0 {
         return -1.0;
     }
-    level7s(v, p, s)
+    level7s(v, p, g, s)
+}
+
+// glob7s from a View.
+pub fn glob7s(v: View, p: &[f64], s: State) -> f64
+    requires { ⌜ 100 ≤ length (now p) ⌝ }
+    ensures { λ r. ⌜ r ≡ glob7sOf v (now (p .entry)) s ⌝ }
+{
+    let q = s.plg;
+    let g = rows(q);
+    let c = carried_in(s);
+    glob7s_from(v, p, g, c)
 }

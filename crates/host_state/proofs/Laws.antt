@@ -1,6 +1,6 @@
 -- The ranges of a number's place in State, and the State after gtd7 from the values of the calls.
 use Prim.Native.Nat.{ℕ, _-_, _<_, _≤_}
-use mathlib.Core.Path.{_≡_, sym, _∙_, ap}
+use mathlib.Core.Path.{_≡_, refl, sym, _∙_, ap₂}
 use mathlib.Core.List.{List}
 use borrow.Author.Tests.{lt-ltb, le-ltb, eq-eqb, ne-eqb}
 use lib.IntN.{ℤ}
@@ -16,9 +16,14 @@ use Rattle.setting.specs.View.{viewOf}
 use Rattle.upper.specs.declared.Site.{Site}
 use Rattle.upper.specs.Upper.{siteOf}
 use Rattle.lower.specs.declared.Whole.{Whole}
-use Rattle.plan.specs.Plan.{Ran, run, ends}
-use Rattle.atmosphere.specs.declared.Atmosphere.{Atmosphere}
+use Rattle.tables.specs.Tables.{pdT7, pdT8}
+use Rattle.expansion.specs.Expansion.{afterOf}
+use Rattle.plan.specs.declared.Levels.{Levels}
+use Rattle.plan.specs.Plan.{told, given}
+use Rattle.levels.specs.declared.Need.{Need}
+use Rattle.levels.specs.Levels.{needAt, levelsOf}
 use Rattle.atmosphere.specs.Atmosphere.{gtd7Plan, stateAfterOf}
+use Rattle.atmosphere.specs.Answers.{gtd7-told, gtd7-left}
 use Rattle.host.specs.Host.{recordOf}
 use Rattle.host_state.specs.HostState.{nodesOf, lastOf, numberOf, leftOf, stateNumber}
 
@@ -46,16 +51,27 @@ module _ (s : State) (k : ℕ) where
         unfolding numberOf
         beyond h = simp (le-ltb k 30 a, ne-eqb k 30 b, le-ltb k 67 c, le-ltb k 78 h)
 
-pub left-law : (w : List ℤ) (n : Input) (r : State) (a : Atmosphere) (s : State) (x : Site) (v : View)
-    → r ≡ stateAfterOf x (a .whole) (a .state)
-    → run v (gtd7Plan (v .sw) x (n .alt)) s ≡ ends (a .whole) (a .state)
+pub left-law : (w : List ℤ) (n : Input)
+    (r s8 : State) (p8 : List Float) (s7 : State) (p7 : List Float) (s : State) (b : Whole) (l : Levels) (a : Need) (x : Site) (v : View)
+    → r ≡ stateAfterOf x b s8
+    → s8 ≡ afterOf v p8 s7
+    → p8 ≡ pdT8
+    → s7 ≡ afterOf v p7 s
+    → p7 ≡ pdT7
     → s ≡ freshOf
+    → b ≡ told (given l) (gtd7Plan (v .sw) x (n .alt))
+    → l ≡ levelsOf v a
+    → a ≡ needAt (n .alt)
     → x ≡ siteOf (v .sw) (n .«g_lat») (v .doy) (n .f107a)
     → v ≡ viewOf w n
     → r ≡ leftOf w n
 unfolding leftOf
-left-law w n r a s x v e0 e1 e2 e3 e4 =
-    e0 ∙ sym (ap (λ (q : Ran Whole). stateAfterOf x (q .result) (q .left)) (rw e2 at e1)) ∙ rw (e3, e4)
+left-law w n r s8 p8 s7 p7 s b l a x v e0 e1 e2 e3 e4 e5 e6 e7 e8 e9 e10 =
+    e0
+    ∙ ap₂ (stateAfterOf x)
+    (rw (e7, e8) at e6 ∙ sym (gtd7-told v x (n .alt)))
+    (e1 ∙ rw (e2, e3, e4, e5) refl ∙ sym (gtd7-left v x (n .alt)))
+    ∙ rw (e9, e10)
 
 module _ (year doy : ℤ) (f l : List Float) (w : List ℤ) (k : ℕ) where
   pub no-fields : (length f ≡ 8 → ⊥) → 0·0 ≡ stateNumber year doy f l w k

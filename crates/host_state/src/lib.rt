@@ -3,12 +3,17 @@ ghost use mathlib.Core.Path.{_≡_};
 ghost use Rattle.host_state.specs.HostState.{nodesOf, lastOf, numberOf, leftOf, stateNumber};
 use atmosphere::gtd7_stage;
 use atmosphere::state_after;
+use expansion::after;
 use host::record::record_of;
 use host::record::switch_row;
+use levels::levels_of;
+use levels::need_at;
 use setting::Input;
 use setting::State;
 use setting::fresh;
 use setting::views::view_of;
+use tables::pd7;
+use tables::pd8;
 use upper::site_of;
 
 // The first thirty numbers of State: ten fields, then the nodes.
@@ -90,18 +95,22 @@ pub fn number(s: State, k: usize) -> f64
     0.0
 }
 
-// The State after gtd7 from a fresh one.
+// The State after gtd7 from a fresh one: its expansions leave what PD[7] and PD[8] leave.
 pub fn left(w: [i32; 24], n: Input) -> State
     ensures { λ r. ⌜ r ≡ leftOf w n ⌝ }
 {
     let v = view_of(w, n);
     let sw = v.sw;
     let x = site_of(sw, n.g_lat, v.doy, n.f107a);
+    let a = need_at(n.alt);
+    let l = levels_of(v, a);
+    let b = gtd7_stage(sw, x, n.alt, l);
     let s = fresh();
-    let a = gtd7_stage(v, x, n.alt, s);
-    let b = a.whole;
-    let t = a.state;
-    state_after(x, b, t)
+    let p7 = pd7();
+    let s7 = after(v, &p7, s);
+    let p8 = pd8();
+    let s8 = after(v, &p8, s7);
+    state_after(x, b, s8)
 }
 
 // Number k of the State after gtd7, with no check of the record; 0 where a slice has not its length.

@@ -1,4 +1,4 @@
--- The plans of the lower nodes, run, and the densities below 72.5 km: from the values of the calls.
+-- The plans of the lower nodes, told their answers, and the densities below 72.5 km: from the values of the calls.
 use mathlib.Core.Path.{_≡_}
 use mathlib.Core.Bool.{true, false, not}
 use mathlib.Core.List.{List, [], _∷_}
@@ -6,11 +6,10 @@ use lib.Ieee.{Float, lt}
 use Rattle.numbers.specs.Arithmetic.{_⊕_, _⊖_, _⊗_, _⊘_, _‼_}
 use Rattle.numbers.specs.Literals.{0·0, 1·0, 2·0, 32·5}
 use Rattle.elementary.specs.Pow.{powOf}
-use Rattle.setting.specs.declared.State.{State}
-use Rattle.setting.specs.declared.View.{View}
 use Rattle.profile.specs.declared.unchecked.Profile.{Profile}
 use Rattle.profile.specs.Profile.{densityIn, temperatureIn}
-use Rattle.plan.specs.Plan.{_>>=_, onePlusGlob7sOf, oneMinusGlob7sOf, answer, run, ends}
+use Rattle.plan.specs.declared.Levels.{Levels}
+use Rattle.plan.specs.Plan.{_>>=_, told, given}
 use Rattle.tables.specs.Tables.{pavgmT, pdmT0, pdmT3, pdmT4, pmaT0, pmaT1, pmaT2, pmaT3, pmaT4, pmaT5, pmaT6, pmaT7, pmaT9}
 use Rattle.upper.specs.declared.Site.{Site}
 use Rattle.upper.specs.declared.Upper.{Upper}
@@ -20,39 +19,29 @@ use Rattle.lower.specs.declared.Nodes.{Nodes}
 use Rattle.lower.specs.declared.Whole.{Whole}
 use Rattle.lower.specs.Lower.{mesosphereOf, troposphereOf, unsetOf, mesoPlan, lowerPlan, dmcOf, dm28mOf, n2Of, warmthOf, fullOf, kilogramsOf, belowOf}
 
-pub meso-law : (v : View) (u : Upper) (s : State)
-    (x : Meso) (e c b a k : Float) (p9 p2 p1 p0 q : List Float)
-    → x ≡ mesosphereOf u q (p0 ‼ 0) (p1 ‼ 0) (p2 ‼ 0) (p9 ‼ 0) k a b c e
-    → e ≡ onePlusGlob7sOf v (v .sw ‼ 20 ⊗ v .sw ‼ 22) p9 s
-    → c ≡ oneMinusGlob7sOf v (v .sw ‼ 20 ⊗ v .sw ‼ 22) p2 s
-    → b ≡ oneMinusGlob7sOf v (v .sw ‼ 20) p1 s
-    → a ≡ oneMinusGlob7sOf v (v .sw ‼ 20) p0 s
+pub meso-law : (sw : List Float) (u : Upper) (l : Levels) (x : Meso) (k : Float) (p9 p2 p1 p0 q : List Float)
+    → x ≡ mesosphereOf u q (p0 ‼ 0) (p1 ‼ 0) (p2 ‼ 0) (p9 ‼ 0) k (1·0 ⊖ sw ‼ 20 ⊗ l .pma0) (1·0 ⊖ sw ‼ 20 ⊗ l .pma1) (1·0 ⊖ sw ‼ 20 ⊗ sw ‼ 22 ⊗ l .pma2)
+    (1·0 ⊕ sw ‼ 20 ⊗ sw ‼ 22 ⊗ l .pma9)
     → k ≡ powOf (p2 ‼ 0 ⊗ q ‼ 2) 2·0
     → p9 ≡ pmaT9
     → p2 ≡ pmaT2
     → p1 ≡ pmaT1
     → p0 ≡ pmaT0
     → q ≡ pavgmT
-    → run v (mesoPlan (v .sw) u) s ≡ ends x s
-unfolding run answer mesoPlan _>>=_
-meso-law v u s x e c b a k p9 p2 p1 p0 q e0 e1 e2 e3 e4 e5 e6 e7 e8 e9 e10 =
-    simp (e0, e1, e2, e3, e4, e5, e6, e7, e8, e9, e10)
+    → x ≡ told (given l) (mesoPlan sw u)
+unfolding told mesoPlan _>>=_
+meso-law sw u l x k p9 p2 p1 p0 q e0 e1 e2 e3 e4 e5 e6 = simp (e0, e1, e2, e3, e4, e5, e6)
 
-pub lower-above : (v : View) (alt : Float) (m : Meso) (s : State) (x : Nodes)
+pub lower-above : (sw : List Float) (alt : Float) (m : Meso) (l : Levels) (x : Nodes)
     → x ≡ unsetOf m
     → not (lt alt 32·5) ≡ true
-    → run v (lowerPlan (v .sw) alt m) s ≡ ends x s
-unfolding run lowerPlan
-lower-above v alt m s x e0 e1 = simp (e0, e1)
+    → x ≡ told (given l) (lowerPlan sw alt m)
+unfolding told lowerPlan
+lower-above sw alt m l x e0 e1 = simp (e0, e1)
 
-pub lower-below : (v : View) (alt : Float) (m : Meso) (s : State)
-    (x : Nodes) (g e c b a k : Float) (p7 p6 p5 p4 p3 q : List Float)
-    → x ≡ troposphereOf m q (p3 ‼ 0) (p4 ‼ 0) (p5 ‼ 0) (p6 ‼ 0) (p7 ‼ 0) k a b c e g
-    → g ≡ onePlusGlob7sOf v (v .sw ‼ 22) p7 s
-    → e ≡ oneMinusGlob7sOf v (v .sw ‼ 22) p6 s
-    → c ≡ oneMinusGlob7sOf v (v .sw ‼ 22) p5 s
-    → b ≡ oneMinusGlob7sOf v (v .sw ‼ 22) p4 s
-    → a ≡ oneMinusGlob7sOf v (v .sw ‼ 22) p3 s
+pub lower-below : (sw : List Float) (alt : Float) (m : Meso) (l : Levels) (x : Nodes) (k : Float) (p7 p6 p5 p4 p3 q : List Float)
+    → x ≡ troposphereOf m q (p3 ‼ 0) (p4 ‼ 0) (p5 ‼ 0) (p6 ‼ 0) (p7 ‼ 0) k (1·0 ⊖ sw ‼ 22 ⊗ l .pma3) (1·0 ⊖ sw ‼ 22 ⊗ l .pma4) (1·0 ⊖ sw ‼ 22 ⊗ l .pma5)
+    (1·0 ⊖ sw ‼ 22 ⊗ l .pma6) (1·0 ⊕ sw ‼ 22 ⊗ l .pma7)
     → k ≡ powOf (p6 ‼ 0 ⊗ q ‼ 6) 2·0
     → p7 ≡ pmaT7
     → p6 ≡ pmaT6
@@ -61,10 +50,9 @@ pub lower-below : (v : View) (alt : Float) (m : Meso) (s : State)
     → p3 ≡ pmaT3
     → q ≡ pavgmT
     → not (lt alt 32·5) ≡ false
-    → run v (lowerPlan (v .sw) alt m) s ≡ ends x s
-unfolding run answer lowerPlan _>>=_
-lower-below v alt m s x g e c b a k p7 p6 p5 p4 p3 q e0 e1 e2 e3 e4 e5 e6 e7 e8 e9 e10 e11 e12 e13 =
-    simp (e0, e1, e2, e3, e4, e5, e13, e6, e7, e8, e9, e10, e11, e12)
+    → x ≡ told (given l) (lowerPlan sw alt m)
+unfolding told lowerPlan _>>=_
+lower-below sw alt m l x k p7 p6 p5 p4 p3 q e0 e1 e2 e3 e4 e5 e6 e7 e8 = simp (e0, e8, e1, e2, e3, e4, e5, e6, e7)
 
 pub below-law : (sw0 : Float) (x : Site) (alt : Float) (u : Upper) (w : Nodes)
     (t1 dd : Float) (b : Profile) (tz all g ar o2 he n : Float) (a : Profile) (d c : Float) (m4 m3 m0 : List Float)

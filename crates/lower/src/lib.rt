@@ -1,17 +1,14 @@
 // gtd7 below 72.5 km: its nodes from the expansions, its densities and temperature.
 ghost use mathlib.Core.Path.{_≡_};
-ghost use Rattle.plan.specs.Plan.{run, ends};
+ghost use Rattle.plan.specs.Plan.{told, given};
 ghost use Rattle.lower.specs.Lower.{mesosphereOf, troposphereOf, unsetOf, dmcOf, dm28mOf, n2Of, fullOf, kilogramsOf, warmthOf, belowOf, aboveOf, mesoPlan, lowerPlan};
 use elementary::power::pow;
 use numbers::pick;
-use plan::one_minus_glob7s;
-use plan::one_plus_glob7s;
+use plan::Levels;
 use profile::unchecked::Profile;
 use profile::unchecked::density_in;
 use profile::unchecked::densm54;
 use profile::unchecked::temperature_in;
-use setting::State;
-use setting::View;
 use tables::pavgm;
 use tables::pdm0;
 use tables::pdm2;
@@ -119,8 +116,8 @@ pub fn unset(m: Meso) -> Nodes
     }
 }
 
-pub fn meso_stage(v: View, u: Upper, s: State) -> Meso
-    ensures { λ r. ⌜ run v (mesoPlan (v .sw) u) s ≡ ends r s ⌝ }
+pub fn meso_stage(sw: [f64; 24], u: Upper, l: Levels) -> Meso
+    ensures { λ r. ⌜ r ≡ told (given l) (mesoPlan sw u) ⌝ }
 {
     let q = pavgm();
     let p0 = pma0();
@@ -128,16 +125,15 @@ pub fn meso_stage(v: View, u: Upper, s: State) -> Meso
     let p2 = pma2();
     let p9 = pma9();
     let k = pow(p2[0] * q[2], 2.0);
-    let f = v.sw[20] * v.sw[22];
-    let a = one_minus_glob7s(v, v.sw[20], &p0, s);
-    let b = one_minus_glob7s(v, v.sw[20], &p1, s);
-    let c = one_minus_glob7s(v, f, &p2, s);
-    let e = one_plus_glob7s(v, f, &p9, s);
+    let a = 1.0 - sw[20] * l.pma0;
+    let b = 1.0 - sw[20] * l.pma1;
+    let c = 1.0 - sw[20] * sw[22] * l.pma2;
+    let e = 1.0 + sw[20] * sw[22] * l.pma9;
     mesosphere(u, q, p0[0], p1[0], p2[0], p9[0], k, a, b, c, e)
 }
 
-pub fn lower_stage(v: View, alt: f64, m: Meso, s: State) -> Nodes
-    ensures { λ r. ⌜ run v (lowerPlan (v .sw) alt m) s ≡ ends r s ⌝ }
+pub fn lower_stage(sw: [f64; 24], alt: f64, m: Meso, l: Levels) -> Nodes
+    ensures { λ r. ⌜ r ≡ told (given l) (lowerPlan sw alt m) ⌝ }
 {
     if !(alt < 32.5) {
         return unset(m);
@@ -149,11 +145,11 @@ pub fn lower_stage(v: View, alt: f64, m: Meso, s: State) -> Nodes
     let p6 = pma6();
     let p7 = pma7();
     let k = pow(p6[0] * q[6], 2.0);
-    let a = one_minus_glob7s(v, v.sw[22], &p3, s);
-    let b = one_minus_glob7s(v, v.sw[22], &p4, s);
-    let c = one_minus_glob7s(v, v.sw[22], &p5, s);
-    let e = one_minus_glob7s(v, v.sw[22], &p6, s);
-    let g = one_plus_glob7s(v, v.sw[22], &p7, s);
+    let a = 1.0 - sw[22] * l.pma3;
+    let b = 1.0 - sw[22] * l.pma4;
+    let c = 1.0 - sw[22] * l.pma5;
+    let e = 1.0 - sw[22] * l.pma6;
+    let g = 1.0 + sw[22] * l.pma7;
     troposphere(m, q, p3[0], p4[0], p5[0], p6[0], p7[0], k, a, b, c, e, g)
 }
 

@@ -1,5 +1,5 @@
 -- Plans: what gts7 and gtd7 ask of the expansions, in order, and what they make of the answers. A plan sees no record and no View.
-use mathlib.Core.Path.{_≡_, refl, ap, _∙_}
+use mathlib.Core.Path.{_≡_, refl, sym, ap, _∙_}
 use mathlib.Core.List.{List}
 use mathlib.Core.Bool.{Bool, true, false}
 use lib.Ieee.{Float}
@@ -9,7 +9,8 @@ use Rattle.elementary.specs.Exp.{expOf}
 use Rattle.setting.specs.declared.State.{State}
 use Rattle.setting.specs.declared.View.{View}
 use Rattle.setting.specs.declared.Valued.{Valued}
-use Rattle.tables.specs.Names.{Wide, Narrow, wide, narrow}
+use Rattle.tables.specs.Names.{Wide, Narrow, wide, narrow, PT, PS, PD0, PD1, PD2, PD3, PD4, PD5, PD6, PD7, PD8, PTL0, PTL1, PTL2, PTL3, PMA0, PMA1, PMA2, PMA3, PMA4, PMA5, PMA6, PMA7, PMA8, PMA9}
+use Rattle.plan.specs.declared.Levels.{Levels}
 use Rattle.expansion.specs.Expansion.{globe7Of, glob7sOf}
 
 -- 1 + f * globe7
@@ -81,11 +82,58 @@ unfolding run _>>=_
 run->>= v (done a) k s = refl
 run->>= v (ask q f) k s = run->>= v (f ((answer v q s) .value)) k ((answer v q s) .state)
 
--- a stage whose end is known, then the rest
-pub then : {A B : Type 0} (v : View) (m : Plan A) (k : A → Plan B) (s : State) (a : A) (t : State)
-    → run v m s ≡ ends a t → run v (m >>= k) s ≡ run v (k a) t
-then v m k s a t e = run->>= v m k s ∙ ap (λ (r : Ran _). run v (k (r .result)) (r .left)) e
+-- a plan told its answers: what it makes of them, with no State
+unfoldable pub told : {A : Type 0} → (Ask → Float) → Plan A → A
+told g (done a) = a
+told g (ask q k) = told g (k (g q))
 
-pub last : {A : Type 0} (v : View) (a : A) (s : State) → run v (done a) s ≡ ends a s
-unfolding run
-last v a s = refl
+pub told->>= : {A B : Type 0} (g : Ask → Float) (m : Plan A) (k : A → Plan B) → told g (m >>= k) ≡ told g (k (told g m))
+unfolding told _>>=_
+told->>= g (done a) k = refl
+told->>= g (ask q f) k = told->>= g (f (g q)) k
+
+-- a stage whose result is known, then the rest
+pub then : {A B : Type 0} (g : Ask → Float) (m : Plan A) (k : A → Plan B) (a : A) → a ≡ told g m → told g (m >>= k) ≡ told g (k a)
+then g m k a e = told->>= g m k ∙ ap (λ (r : _). told g (k r)) (sym e)
+
+pub last : {A : Type 0} (g : Ask → Float) (a : A) → told g (done a) ≡ a
+unfolding told
+last g a = refl
+
+-- the value of globe7 over a set, among the Levels
+abbrev pub wideIn : Levels → Wide → Float
+wideIn l PT = l .pt
+wideIn l PS = l .ps
+wideIn l PD0 = l .pd0
+wideIn l PD1 = l .pd1
+wideIn l PD2 = l .pd2
+wideIn l PD3 = l .pd3
+wideIn l PD4 = l .pd4
+wideIn l PD5 = l .pd5
+wideIn l PD6 = l .pd6
+wideIn l PD7 = l .pd7
+wideIn l PD8 = l .pd8
+
+-- the value of glob7s over a set, among the Levels
+abbrev pub narrowIn : Levels → Narrow → Float
+narrowIn l PTL0 = l .ptl0
+narrowIn l PTL1 = l .ptl1
+narrowIn l PTL2 = l .ptl2
+narrowIn l PTL3 = l .ptl3
+narrowIn l PMA0 = l .pma0
+narrowIn l PMA1 = l .pma1
+narrowIn l PMA2 = l .pma2
+narrowIn l PMA3 = l .pma3
+narrowIn l PMA4 = l .pma4
+narrowIn l PMA5 = l .pma5
+narrowIn l PMA6 = l .pma6
+narrowIn l PMA7 = l .pma7
+narrowIn l PMA8 = l .pma8
+narrowIn l PMA9 = l .pma9
+
+-- the answer, from the Levels
+abbrev pub given : Levels → Ask → Float
+given l (one-plus-globe7 f p) = 1·0 ⊕ f ⊗ wideIn l p
+given l (exp-globe7 f p) = expOf (f ⊗ wideIn l p)
+given l (one-plus-glob7s f p) = 1·0 ⊕ f ⊗ narrowIn l p
+given l (one-minus-glob7s f p) = 1·0 ⊖ f ⊗ narrowIn l p

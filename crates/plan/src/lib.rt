@@ -1,53 +1,30 @@
-// The four ways in which an expansion over a table enters gts7 and gtd7.
-ghost use mathlib.Core.Path.{_≡_};
-ghost use Prim.Native.Nat.{_≤_};
-ghost use lib.ListN.{length};
-ghost use Rattle.plan.specs.Plan.{onePlusGlobe7Of, expGlobe7Of, onePlusGlob7sOf, oneMinusGlob7sOf};
-use elementary::exponential::exp;
-use expansion::glob7s;
-use expansion::globe7;
-use setting::State;
-use setting::Valued;
-use setting::View;
+// The values of the expansions over the coefficient sets, as gts7 and gtd7 ask for them.
 
-// 1 + f * globe7.
-pub fn one_plus_globe7(v: View, f: f64, p: &[f64], s: State) -> Valued
-    requires { ⌜ length (now p) ≡ 150 ⌝ }
-    ensures { λ r. ⌜ r ≡ onePlusGlobe7Of v f (now (p .entry)) s ⌝ }
-{
-    let g = globe7(v, p, s);
-    let t = g.state;
-    Valued {
-        value: 1.0 + f * g.value,
-        state: t,
-    }
-}
-
-// exp(f * globe7).
-pub fn exp_globe7(v: View, f: f64, p: &[f64], s: State) -> Valued
-    requires { ⌜ length (now p) ≡ 150 ⌝ }
-    ensures { λ r. ⌜ r ≡ expGlobe7Of v f (now (p .entry)) s ⌝ }
-{
-    let g = globe7(v, p, s);
-    let e = exp(f * g.value);
-    let t = g.state;
-    Valued { value: e, state: t }
-}
-
-// 1 + f * glob7s.
-pub fn one_plus_glob7s(v: View, f: f64, p: &[f64], s: State) -> f64
-    requires { ⌜ 100 ≤ length (now p) ⌝ }
-    ensures { λ r. ⌜ r ≡ onePlusGlob7sOf v f (now (p .entry)) s ⌝ }
-{
-    let g = glob7s(v, p, s);
-    1.0 + f * g
-}
-
-// 1 - f * glob7s.
-pub fn one_minus_glob7s(v: View, f: f64, p: &[f64], s: State) -> f64
-    requires { ⌜ 100 ≤ length (now p) ⌝ }
-    ensures { λ r. ⌜ r ≡ oneMinusGlob7sOf v f (now (p .entry)) s ⌝ }
-{
-    let g = glob7s(v, p, s);
-    1.0 - f * g
+// globe7 over PT, PS and PD, glob7s over PTL and PMA.
+pub struct Levels {
+    pub pt: f64,
+    pub ps: f64,
+    pub pd0: f64,
+    pub pd1: f64,
+    pub pd2: f64,
+    pub pd3: f64,
+    pub pd4: f64,
+    pub pd5: f64,
+    pub pd6: f64,
+    pub pd7: f64,
+    pub pd8: f64,
+    pub ptl0: f64,
+    pub ptl1: f64,
+    pub ptl2: f64,
+    pub ptl3: f64,
+    pub pma0: f64,
+    pub pma1: f64,
+    pub pma2: f64,
+    pub pma3: f64,
+    pub pma4: f64,
+    pub pma5: f64,
+    pub pma6: f64,
+    pub pma7: f64,
+    pub pma8: f64,
+    pub pma9: f64,
 }

@@ -22,7 +22,7 @@ use Rattle.tables.specs.Names.{wide, narrow}
 use Rattle.legendre.specs.Legendre.{rowsOf}
 use Rattle.activity.specs.Activity.{apdfNextOf, aptNextOf, apdfFromOf, sg0Of, exp1Of}
 use Rattle.parts.specs.Parts.{dayCosinesOf, t8Of, history8Of, daily8Of, t10Of, t11Of, t12Of, history12Of, daily12Of, t8sOf, t10sOf}
-use Rattle.expansion.specs.Expansion.{early7Of, level7Of, turnsAfterOf, afterOf, globe7Of, level7sOf, glob7sOf}
+use Rattle.expansion.specs.Expansion.{early7Of, carriedOf, level7Of, turnsAfterOf, afterOf, globe7Of, level7sOf, glob7sFrom, glob7sOf}
 use Rattle.plan.specs.Plan.{Ask, one-plus-globe7, exp-globe7, one-plus-glob7s, one-minus-glob7s, onePlusGlobe7Of, expGlobe7Of, onePlusGlob7sOf, oneMinusGlob7sOf, Plan, done, ask, answer, run}
 use Rattle.shutoff.specs.Nine.{asks-minus-one}
 use Rattle.shutoff.specs.Fields.{whole, float, inHistory, fields, field}
@@ -270,12 +270,12 @@ module _ (w : List ℤ) (a b : Input) (like : Alike w a b) where
         (λ _. skip (ne (p ‼ 51) 0·0) (λ _. cc (e .apt, glong-13 u v, sec-13 u v)))
         (λ x. cc (e .apdf (ap-13 x u v), glong-13 u v, sec-13 u v)))
 
-    pub level7≡ : level7Of (plainView w a) p s ≡ level7Of (plainView w b) p t
-    unfolding level7Of early7Of
+    pub level7≡ : level7Of (plainView w a) p (rowsOf (s .plg)) (carriedOf s) ≡ level7Of (plainView w b) p (rowsOf (t .plg)) (carriedOf t)
+    unfolding level7Of early7Of carriedOf
     level7≡ =
         let g = rowsOf (s .plg) in
         let c = (dayCosinesOf (ofInt binary64 (a .doy)) p) .cd14 in
-        cc (doy≡, f107≡, f107a≡, e .dfa, e .plg, e .ct, e .st, e .c2t, e .s2t, e .c3t, e .s3t, t8≡ g c, t10≡ g c, t11≡ g c, t12≡ g c)
+        cc (doy≡, f107≡, f107a≡, e .plg, e .ct, e .st, e .c2t, e .s2t, e .c3t, e .s3t, t8≡ g c, t10≡ g c, t11≡ g c, t12≡ g c)
 
     t8s≡ : (g : List (List Float)) → t8sOf (plainView w a) p g (s .apdf) (s .apt ‼ 0) ≡ t8sOf (plainView w b) p g (t .apdf) (t .apt ‼ 0)
     unfolding t8sOf
@@ -288,7 +288,7 @@ module _ (w : List ℤ) (a b : Input) (like : Alike w a b) where
         (λ u v. cc (glong-s u v)) (λ u v. cc (glong-s u v, doy≡))
 
     pub glob7s≡ : glob7sOf (plainView w a) p s ≡ glob7sOf (plainView w b) p t
-    unfolding glob7sOf level7sOf
+    unfolding glob7sOf glob7sFrom level7sOf carriedOf
     glob7s≡ =
         let g = rowsOf (s .plg) in
         cc (doy≡, e .dfa, e .plg, e .ct, e .st, e .c2t, e .s2t, e .c3t, e .s3t, t8s≡ g, t10s≡ g)

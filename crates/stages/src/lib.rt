@@ -1,13 +1,10 @@
 // A function for each stage of gts7 that asks one expansion, proved against its plan.
 ghost use mathlib.Core.Path.{_≡_};
-ghost use Rattle.plan.specs.Plan.{run, ends};
+ghost use Rattle.plan.specs.Plan.{told, given};
 ghost use Rattle.stages.specs.Stages.{tinfPlan, gradientPlan, tlbPlan, n2Plan, heliumPlan, oxygenPlan, o2Plan, argonPlan, hydrogenPlan, nitrogenPlan, hotPlan};
-use plan::exp_globe7;
-use plan::one_plus_globe7;
+use elementary::exponential::exp;
+use plan::Levels;
 use profile::unchecked::Shape;
-use setting::State;
-use setting::Valued;
-use setting::View;
 use species::Blend;
 use species::Mixture;
 use species::argon;
@@ -41,168 +38,159 @@ use tables::ps;
 use tables::pt;
 use tables::ptm;
 
-// N2 with the State after it.
-pub struct Based {
-    pub base: Blend,
-    pub state: State,
-}
-
-// A species with the State after it.
-pub struct Stage {
-    pub value: Mixture,
-    pub state: State,
-}
-
 // Exospheric temperature; its variation counts above za.
-pub fn tinf_stage(v: View, z: f64, s: State) -> Valued
-    ensures { λ r. ⌜ run v (tinfPlan (v .sw) z) s ≡ ends (r .value) (r .state) ⌝ }
+pub fn tinf_stage(sw: [f64; 24], z: f64, l: Levels) -> f64
+    ensures { λ r. ⌜ r ≡ told (given l) (tinfPlan sw z) ⌝ }
 {
     let p = pt();
     let m = ptm();
-    let l = pdl1();
-    if z > l[15] {
-        let a = one_plus_globe7(v, v.sw[16], &p, s);
-        let t = a.state;
-        return Valued {
-            value: m[0] * p[0] * a.value,
-            state: t,
-        };
+    let d = pdl1();
+    if z > d[15] {
+        return m[0] * p[0] * (1.0 + sw[16] * l.pt);
     }
-    Valued {
-        value: m[0] * p[0],
-        state: s,
-    }
+    m[0] * p[0]
 }
 
 // g0 of gts7, the gradient at the lower boundary; its variation counts above zn1[4].
-pub fn gradient_stage(v: View, z: f64, s: State) -> Valued
-    ensures { λ r. ⌜ run v (gradientPlan (v .sw) z) s ≡ ends (r .value) (r .state) ⌝ }
+pub fn gradient_stage(sw: [f64; 24], z: f64, l: Levels) -> f64
+    ensures { λ r. ⌜ r ≡ told (given l) (gradientPlan sw z) ⌝ }
 {
     let p = ps();
     let m = ptm();
     if z > 72.5 {
-        let a = one_plus_globe7(v, v.sw[19], &p, s);
-        let t = a.state;
-        return Valued {
-            value: m[3] * p[0] * a.value,
-            state: t,
-        };
+        return m[3] * p[0] * (1.0 + sw[19] * l.ps);
     }
-    Valued {
-        value: m[3] * p[0],
-        state: s,
-    }
+    m[3] * p[0]
 }
 
 // tlb, the temperature at the lower boundary.
-pub fn tlb_stage(v: View, s: State) -> Valued
-    ensures { λ r. ⌜ run v (tlbPlan (v .sw)) s ≡ ends (r .value) (r .state) ⌝ }
+pub fn tlb_stage(sw: [f64; 24], l: Levels) -> f64
+    ensures { λ r. ⌜ r ≡ told (given l) (tlbPlan sw) ⌝ }
 {
     let p = pd3();
     let m = ptm();
-    let a = one_plus_globe7(v, v.sw[17], &p, s);
-    let t = a.state;
-    Valued {
-        value: m[1] * a.value * p[0],
-        state: t,
-    }
+    m[1] * (1.0 + sw[17] * l.pd3) * p[0]
 }
 
-pub fn n2_stage(v: View, h: Shape, z: f64, zhf: f64, s: State) -> Based
-    ensures { λ r. ⌜ run v (n2Plan (v .sw) h z zhf) s ≡ ends (r .base) (r .state) ⌝ }
+pub fn n2_stage(sw: [f64; 24], h: Shape, z: f64, zhf: f64, l: Levels) -> Blend
+    ensures { λ r. ⌜ r ≡ told (given l) (n2Plan sw h z zhf) ⌝ }
 {
     let p = pd2();
     let m = pdm2();
-    let a = exp_globe7(v, v.sw[21], &p, s);
-    let d = n2(h, v.sw[15], z, m[0] * a.value * p[0], zhf);
-    let t = a.state;
-    Based { base: d, state: t }
+    let g = exp(sw[21] * l.pd2);
+    n2(h, sw[15], z, m[0] * g * p[0], zhf)
 }
 
 // Anomalous oxygen.
-pub fn hot_stage(v: View, h: Shape, z: f64, s: State) -> Valued
-    ensures { λ r. ⌜ run v (hotPlan (v .sw) h z) s ≡ ends (r .value) (r .state) ⌝ }
+pub fn hot_stage(sw: [f64; 24], h: Shape, z: f64, l: Levels) -> f64
+    ensures { λ r. ⌜ r ≡ told (given l) (hotPlan sw h z) ⌝ }
 {
     let p = pd8();
     let m = pdm7();
-    let l = pdl0();
-    let a = exp_globe7(v, v.sw[21], &p, s);
-    let d = hot(h, z, m[0] * a.value * p[0], m[5], m[4], m[9] * l[6]);
-    let t = a.state;
-    Valued { value: d, state: t }
+    let d = pdl0();
+    let g = exp(sw[21] * l.pd8);
+    hot(h, z, m[0] * g * p[0], m[5], m[4], m[9] * d[6])
 }
 
-pub fn helium_stage(v: View, h: Shape, z: f64, b28: f64, zhm: f64, xmm: f64, s: State) -> Stage
-    ensures { λ r. ⌜ run v (heliumPlan (v .sw) h z b28 zhm xmm) s ≡ ends (r .value) (r .state) ⌝ }
+pub fn helium_stage(
+    sw: [f64; 24],
+    h: Shape,
+    z: f64,
+    b28: f64,
+    zhm: f64,
+    xmm: f64,
+    l: Levels,
+) -> Mixture
+    ensures { λ r. ⌜ r ≡ told (given l) (heliumPlan sw h z b28 zhm xmm) ⌝ }
 {
     let p = pd0();
     let m = pdm0();
-    let a = exp_globe7(v, v.sw[21], &p, s);
-    let d = helium(h, v.sw[15], z, b28, m[0] * a.value * p[0], zhm, xmm);
-    let t = a.state;
-    Stage { value: d, state: t }
+    let g = exp(sw[21] * l.pd0);
+    helium(h, sw[15], z, b28, m[0] * g * p[0], zhm, xmm)
 }
 
-pub fn oxygen_stage(v: View, h: Shape, z: f64, zhm: f64, xmm: f64, flux: f64, s: State) -> Stage
-    ensures { λ r. ⌜ run v (oxygenPlan (v .sw) h z zhm xmm flux) s ≡ ends (r .value) (r .state) ⌝ }
+pub fn oxygen_stage(
+    sw: [f64; 24],
+    h: Shape,
+    z: f64,
+    zhm: f64,
+    xmm: f64,
+    flux: f64,
+    l: Levels,
+) -> Mixture
+    ensures { λ r. ⌜ r ≡ told (given l) (oxygenPlan sw h z zhm xmm flux) ⌝ }
 {
     let p = pd1();
     let m = pdm1();
-    let a = exp_globe7(v, v.sw[21], &p, s);
-    let d = oxygen(h, v.sw[15], z, m[0] * a.value * p[0], zhm, xmm, flux);
-    let t = a.state;
-    Stage { value: d, state: t }
+    let g = exp(sw[21] * l.pd1);
+    oxygen(h, sw[15], z, m[0] * g * p[0], zhm, xmm, flux)
 }
 
 pub fn o2_stage(
-    v: View,
+    sw: [f64; 24],
     h: Shape,
     z: f64,
     b28: f64,
     zhm: f64,
     xmm: f64,
     flux: f64,
-    s: State,
-) -> Stage
-    ensures { λ r. ⌜ run v (o2Plan (v .sw) h z b28 zhm xmm flux) s ≡ ends (r .value) (r .state) ⌝ }
+    l: Levels,
+) -> Mixture
+    ensures { λ r. ⌜ r ≡ told (given l) (o2Plan sw h z b28 zhm xmm flux) ⌝ }
 {
     let p = pd4();
     let m = pdm3();
-    let a = exp_globe7(v, v.sw[21], &p, s);
-    let d = o2(h, v.sw[15], z, b28, m[0] * a.value * p[0], zhm, xmm, flux);
-    let t = a.state;
-    Stage { value: d, state: t }
+    let g = exp(sw[21] * l.pd4);
+    o2(h, sw[15], z, b28, m[0] * g * p[0], zhm, xmm, flux)
 }
 
-pub fn argon_stage(v: View, h: Shape, z: f64, b28: f64, zhm: f64, xmm: f64, s: State) -> Stage
-    ensures { λ r. ⌜ run v (argonPlan (v .sw) h z b28 zhm xmm) s ≡ ends (r .value) (r .state) ⌝ }
+pub fn argon_stage(
+    sw: [f64; 24],
+    h: Shape,
+    z: f64,
+    b28: f64,
+    zhm: f64,
+    xmm: f64,
+    l: Levels,
+) -> Mixture
+    ensures { λ r. ⌜ r ≡ told (given l) (argonPlan sw h z b28 zhm xmm) ⌝ }
 {
     let p = pd5();
     let m = pdm4();
-    let a = exp_globe7(v, v.sw[21], &p, s);
-    let d = argon(h, v.sw[15], z, b28, m[0] * a.value * p[0], zhm, xmm);
-    let t = a.state;
-    Stage { value: d, state: t }
+    let g = exp(sw[21] * l.pd5);
+    argon(h, sw[15], z, b28, m[0] * g * p[0], zhm, xmm)
 }
 
-pub fn hydrogen_stage(v: View, h: Shape, z: f64, b28: f64, zhm: f64, xmm: f64, s: State) -> Stage
-    ensures { λ r. ⌜ run v (hydrogenPlan (v .sw) h z b28 zhm xmm) s ≡ ends (r .value) (r .state) ⌝ }
+pub fn hydrogen_stage(
+    sw: [f64; 24],
+    h: Shape,
+    z: f64,
+    b28: f64,
+    zhm: f64,
+    xmm: f64,
+    l: Levels,
+) -> Mixture
+    ensures { λ r. ⌜ r ≡ told (given l) (hydrogenPlan sw h z b28 zhm xmm) ⌝ }
 {
     let p = pd6();
     let m = pdm5();
-    let a = exp_globe7(v, v.sw[21], &p, s);
-    let d = hydrogen(h, v.sw[15], z, b28, m[0] * a.value * p[0], zhm, xmm);
-    let t = a.state;
-    Stage { value: d, state: t }
+    let g = exp(sw[21] * l.pd6);
+    hydrogen(h, sw[15], z, b28, m[0] * g * p[0], zhm, xmm)
 }
 
-pub fn nitrogen_stage(v: View, h: Shape, z: f64, b28: f64, zhm: f64, xmm: f64, s: State) -> Stage
-    ensures { λ r. ⌜ run v (nitrogenPlan (v .sw) h z b28 zhm xmm) s ≡ ends (r .value) (r .state) ⌝ }
+pub fn nitrogen_stage(
+    sw: [f64; 24],
+    h: Shape,
+    z: f64,
+    b28: f64,
+    zhm: f64,
+    xmm: f64,
+    l: Levels,
+) -> Mixture
+    ensures { λ r. ⌜ r ≡ told (given l) (nitrogenPlan sw h z b28 zhm xmm) ⌝ }
 {
     let p = pd7();
     let m = pdm6();
-    let a = exp_globe7(v, v.sw[21], &p, s);
-    let d = nitrogen(h, v.sw[15], z, b28, m[0] * a.value * p[0], zhm, xmm);
-    let t = a.state;
-    Stage { value: d, state: t }
+    let g = exp(sw[21] * l.pd7);
+    nitrogen(h, sw[15], z, b28, m[0] * g * p[0], zhm, xmm)
 }

@@ -11,6 +11,12 @@ view-of-requires c κs = search needs
 site-of-requires : tie.Need-site-of-requires
 site-of-requires c κs = search needs
 
+needs-requires : tie.Need-needs-requires
+needs-requires c κs = search needs
+
+levels-of-requires : tie.Need-levels-of-requires
+levels-of-requires c κs = search needs
+
 rows-at-requires : tie.Need-rows-at-requires
 rows-at-requires c κs = search needs
 
@@ -20,10 +26,19 @@ same-length c = search needs
 returns : tie.Need-returns
 returns c =
     let made = c .before .before .before .before in
-    let args = made .before .before .before .before .before .args in
+    let at = made .before .before in
+    let args = at .before .before .before .before .before .args in
     c .before .before .rows-at .ensures
-    ∙ rw (made .site-of .ensures, made .before .before .view-of .ensures, rows-are (args .w) (args .n) (args .alts .now))
+    ∙ rw (made .levels-of .ensures, made .before .needs .ensures, at .site-of .ensures, at .before .before .view-of .ensures, rows-are (args .w) (args .n) (args .alts .now))
 
 pub rows-spec : {M : Type 1} → statement M
 rows-spec =
-    tie.close (tie.spec view-of-requires site-of-requires rows-at-requires same-length returns)
+    tie.close
+    (tie.spec
+    view-of-requires
+    site-of-requires
+    needs-requires
+    levels-of-requires
+    rows-at-requires
+    same-length
+    returns)

@@ -12,11 +12,11 @@ use Rattle.column.proofs.rows_at.Statement.{statement}
 use Rattle.column.proofs.rows_at.Tie as tie
 
 abbrev Inv-loop : tie.InvT-loop
-Inv-loop v x alts out₀ i₀ out i =
-    (i ≤ length alts) × (length out ≡ length out₀) × (length (rowsAt v x (take i alts)) ≡ 11 * i) × (out ≡ rowsAt v x (take i alts) ++ drop (11 * i) out₀)
+Inv-loop sw x l alts out₀ i₀ out i =
+    (i ≤ length alts) × (length out ≡ length out₀) × (length (rowsAt sw x l (take i alts)) ≡ 11 * i) × (out ≡ rowsAt sw x l (take i alts) ++ drop (11 * i) out₀)
 
 abbrev μ-loop : tie.MeasureT-loop
-μ-loop v x alts out₀ i₀ out i = length alts - i
+μ-loop sw x l alts out₀ i₀ out i = length alts - i
 
 loop-holds : tie.Need-loop-holds Inv-loop μ-loop
 unfolding rowsAt
@@ -62,8 +62,8 @@ loop-again c =
     let at = test .before .loop in (
       search needs,
       search needs,
-      more-length _ _ _ _ (at .i) (test .loop-test .taken) (row .ensures) (search needs) (at .inv .2),
-      turn _ _ _ _ _ _ (at .i) (test .loop-test .taken) (at .inv .2) (at .inv .3) (row .ensures),
+      more-length _ _ _ _ _ (at .i) (test .loop-test .taken) (row .ensures) (search needs) (at .inv .2),
+      turn _ _ _ _ _ _ _ (at .i) (test .loop-test .taken) (at .inv .2) (at .inv .3) (row .ensures),
     )
 
 same-length : tie.Need-same-length Inv-loop μ-loop

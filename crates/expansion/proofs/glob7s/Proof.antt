@@ -4,33 +4,24 @@ use borrow.Author.Needs.{needs}
 use Rattle.expansion.proofs.glob7s.Statement.{statement}
 use Rattle.expansion.proofs.glob7s.Tie as tie
 
-shared-slice-read-pick : tie.Need-shared-slice-read-pick
-shared-slice-read-pick c = search needs
+rows-requires : tie.Need-rows-requires
+rows-requires c κs = search needs
 
-shared-slice-read-pick-2 : tie.Need-shared-slice-read-pick-2
-shared-slice-read-pick-2 c = search needs
+carried-in-requires : tie.Need-carried-in-requires
+carried-in-requires c κs = search needs
 
-pick-requires : tie.Need-pick-requires
-pick-requires c κs = search needs
+glob7s-from-requires : tie.Need-glob7s-from-requires
+glob7s-from-requires c κs = search needs
 
 returns : tie.Need-returns
 unfolding glob7sOf
-returns c = simp (← c .before .pick .ensures) (simp (c .if1 .taken))
-
-level7s-requires : tie.Need-level7s-requires
-level7s-requires c κs = search needs
-
-returns-2 : tie.Need-returns-2
-unfolding glob7sOf
-returns-2 c = simp (← c .level7s .ensures, ← c .before .before .pick .ensures) (simp (c .before .if1 .left))
+returns c = simp (← (c .glob7s-from .ensures), ← (c .before .carried-in .ensures), ← (c .before .before .rows .ensures))
 
 pub glob7s-spec : {M : Type 1} → statement M
 glob7s-spec =
     tie.close
     (tie.spec
-    shared-slice-read-pick
-    shared-slice-read-pick-2
-    pick-requires
-    returns
-    level7s-requires
-    returns-2)
+    rows-requires
+    carried-in-requires
+    glob7s-from-requires
+    returns)

@@ -4,9 +4,6 @@ use borrow.Author.Needs.{needs}
 use Rattle.expansion.proofs.level7s.Statement.{statement}
 use Rattle.expansion.proofs.level7s.Tie as tie
 
-rows-requires : tie.Need-rows-requires
-rows-requires c κs = search needs
-
 day-cosines-requires : tie.Need-day-cosines-requires
 day-cosines-requires c κs = search needs
 
@@ -46,9 +43,6 @@ element-copy-out-t7s-2 c = search needs
 t7s-requires : tie.Need-t7s-requires
 t7s-requires c κs = search needs
 
-element-copy-out-t8s : tie.Need-element-copy-out-t8s
-element-copy-out-t8s c = search needs
-
 t8s-requires : tie.Need-t8s-requires
 t8s-requires c κs = search needs
 
@@ -59,47 +53,43 @@ element-copy-out-t13s : tie.Need-element-copy-out-t13s
 element-copy-out-t13s c = search needs
 
 t13s-requires : tie.Need-t13s-requires
-t13s-requires c κs = c .before .before .before .before .before .before .before .before .before .before .before .before .before .before .before .before .before .before .before .before .pre
+t13s-requires c κs = (c .before .before .before .before .before .before .before .before .before .before .before .before .before .before .before .before .before .before .pre)
 
 weighted-requires : tie.Need-weighted-requires
 weighted-requires c κs = search needs
 
 returns : tie.Need-returns
-returns c =
-    let A = c .before .before .before .before .before .before .before .before .before .before .before .before .before .before .before .before .before .before .before .before .before .before .before .args in
-    level7s-law (A .t1) (A .p .now) (A .t3)
+returns c = let A = (c .before .before .before .before .before .before .before .before .before .before .before .before .before .before .before .before .before .before .before .before .before .args) in
+    level7s-law (A .t1) (A .p .now) (A .g) (A .s)
     (c .weighted .result)
     (c .before .before .t13s .result)
     (c .before .before .before .before .t10s .result)
     (c .before .before .before .before .before .t8s .result)
-    (c .before .before .before .before .before .before .before .t7s .result)
-    (c .before .before .before .before .before .before .before .before .before .before .t6s .result)
-    (c .before .before .before .before .before .before .before .before .before .before .before .before .before .t5 .result)
-    (c .before .before .before .before .before .before .before .before .before .before .before .before .before .before .t4s .result)
-    (c .before .before .before .before .before .before .before .before .before .before .before .before .before .before .before .t3s .result)
-    (c .before .before .before .before .before .before .before .before .before .before .before .before .before .before .before .before .t2s .result)
-    (c .before .before .before .before .before .before .before .before .before .before .before .before .before .before .before .before .before .t1s .result)
+    (c .before .before .before .before .before .before .t7s .result)
+    (c .before .before .before .before .before .before .before .before .before .t6s .result)
+    (c .before .before .before .before .before .before .before .before .before .before .before .before .t5 .result)
+    (c .before .before .before .before .before .before .before .before .before .before .before .before .before .t4s .result)
+    (c .before .before .before .before .before .before .before .before .before .before .before .before .before .before .t3s .result)
+    (c .before .before .before .before .before .before .before .before .before .before .before .before .before .before .before .t2s .result)
+    (c .before .before .before .before .before .before .before .before .before .before .before .before .before .before .before .before .t1s .result)
     (c .before .before .before .before .before .before .before .before .before .before .before .before .before .before .before .before .before .before .before .day-cosines .result)
-    (c .before .before .before .before .before .before .before .before .before .before .before .before .before .before .before .before .before .before .before .before .rows .result)
     (c .weighted .ensures)
     (c .before .before .t13s .ensures)
     (c .before .before .before .before .t10s .ensures)
     (c .before .before .before .before .before .t8s .ensures)
-    (c .before .before .before .before .before .before .before .t7s .ensures)
-    (c .before .before .before .before .before .before .before .before .before .before .t6s .ensures)
-    (c .before .before .before .before .before .before .before .before .before .before .before .before .before .t5 .ensures)
-    (c .before .before .before .before .before .before .before .before .before .before .before .before .before .before .t4s .ensures)
-    (c .before .before .before .before .before .before .before .before .before .before .before .before .before .before .before .t3s .ensures)
-    (c .before .before .before .before .before .before .before .before .before .before .before .before .before .before .before .before .t2s .ensures)
-    (c .before .before .before .before .before .before .before .before .before .before .before .before .before .before .before .before .before .t1s .ensures)
+    (c .before .before .before .before .before .before .t7s .ensures)
+    (c .before .before .before .before .before .before .before .before .before .t6s .ensures)
+    (c .before .before .before .before .before .before .before .before .before .before .before .before .t5 .ensures)
+    (c .before .before .before .before .before .before .before .before .before .before .before .before .before .t4s .ensures)
+    (c .before .before .before .before .before .before .before .before .before .before .before .before .before .before .t3s .ensures)
+    (c .before .before .before .before .before .before .before .before .before .before .before .before .before .before .before .t2s .ensures)
+    (c .before .before .before .before .before .before .before .before .before .before .before .before .before .before .before .before .t1s .ensures)
     (c .before .before .before .before .before .before .before .before .before .before .before .before .before .before .before .before .before .before .before .day-cosines .ensures)
-    (c .before .before .before .before .before .before .before .before .before .before .before .before .before .before .before .before .before .before .before .before .rows .ensures)
 
 pub level7s-spec : {M : Type 1} → statement M
 level7s-spec =
     tie.close
     (tie.spec
-    rows-requires
     day-cosines-requires
     shared-slice-read-x0
     t1s-requires
@@ -113,7 +103,6 @@ level7s-spec =
     element-copy-out-t7s
     element-copy-out-t7s-2
     t7s-requires
-    element-copy-out-t8s
     t8s-requires
     t10s-requires
     element-copy-out-t13s

@@ -1,6 +1,5 @@
 -- `lower_stage` meets its contract.
-use Rattle.lower.proofs.Laws.{lower-below}
-use Rattle.lower.proofs.Laws.{lower-above}
+use Rattle.lower.proofs.Laws.{lower-above, lower-below}
 use borrow.Author.Needs.{needs}
 use Rattle.lower.proofs.lower_stage.Statement.{statement}
 use Rattle.lower.proofs.lower_stage.Tie as tie
@@ -9,9 +8,8 @@ unset-requires : tie.Need-unset-requires
 unset-requires c κs = search needs
 
 returns : tie.Need-returns
-returns c =
-    let A = c .before .before .args in
-    lower-above (A .t1) (A .alt) (A .m) (A .s)
+returns c = let A = (c .before .before .args) in
+    lower-above (A .t1) (A .alt) (A .m) (A .l)
     (c .unset .result)
     (c .unset .ensures)
     (c .before .if1 .taken)
@@ -43,50 +41,20 @@ array-read-pow-2 c = search needs
 pow-requires : tie.Need-pow-requires
 pow-requires c κs = search needs
 
-element-copy-out-one-minus-glob7s : tie.Need-element-copy-out-one-minus-glob7s
-element-copy-out-one-minus-glob7s c = search needs
+array-read-a : tie.Need-array-read-a
+array-read-a c = search needs
 
-slice-aggregate-one-minus-glob7s : tie.Need-slice-aggregate-one-minus-glob7s
-slice-aggregate-one-minus-glob7s c = search needs
+array-read-b : tie.Need-array-read-b
+array-read-b c = search needs
 
-one-minus-glob7s-requires : tie.Need-one-minus-glob7s-requires
-one-minus-glob7s-requires c κs = search needs
+array-read-c : tie.Need-array-read-c
+array-read-c c = search needs
 
-element-copy-out-one-minus-glob7s-2 : tie.Need-element-copy-out-one-minus-glob7s-2
-element-copy-out-one-minus-glob7s-2 c = search needs
+array-read-e : tie.Need-array-read-e
+array-read-e c = search needs
 
-slice-aggregate-one-minus-glob7s-2 : tie.Need-slice-aggregate-one-minus-glob7s-2
-slice-aggregate-one-minus-glob7s-2 c = search needs
-
-one-minus-glob7s-requires-2 : tie.Need-one-minus-glob7s-requires-2
-one-minus-glob7s-requires-2 c κs = search needs
-
-element-copy-out-one-minus-glob7s-3 : tie.Need-element-copy-out-one-minus-glob7s-3
-element-copy-out-one-minus-glob7s-3 c = search needs
-
-slice-aggregate-one-minus-glob7s-3 : tie.Need-slice-aggregate-one-minus-glob7s-3
-slice-aggregate-one-minus-glob7s-3 c = search needs
-
-one-minus-glob7s-requires-3 : tie.Need-one-minus-glob7s-requires-3
-one-minus-glob7s-requires-3 c κs = search needs
-
-element-copy-out-one-minus-glob7s-4 : tie.Need-element-copy-out-one-minus-glob7s-4
-element-copy-out-one-minus-glob7s-4 c = search needs
-
-slice-aggregate-one-minus-glob7s-4 : tie.Need-slice-aggregate-one-minus-glob7s-4
-slice-aggregate-one-minus-glob7s-4 c = search needs
-
-one-minus-glob7s-requires-4 : tie.Need-one-minus-glob7s-requires-4
-one-minus-glob7s-requires-4 c κs = search needs
-
-element-copy-out-one-plus-glob7s : tie.Need-element-copy-out-one-plus-glob7s
-element-copy-out-one-plus-glob7s c = search needs
-
-slice-aggregate-one-plus-glob7s : tie.Need-slice-aggregate-one-plus-glob7s
-slice-aggregate-one-plus-glob7s c = search needs
-
-one-plus-glob7s-requires : tie.Need-one-plus-glob7s-requires
-one-plus-glob7s-requires c κs = search needs
+array-read-g : tie.Need-array-read-g
+array-read-g c = search needs
 
 array-read-troposphere : tie.Need-array-read-troposphere
 array-read-troposphere c = search needs
@@ -107,36 +75,25 @@ troposphere-requires : tie.Need-troposphere-requires
 troposphere-requires c κs = search needs
 
 returns-2 : tie.Need-returns-2
-returns-2 c =
-    let A = c .before .before .before .before .before .before .before .before .before .before .before .before .before .before .before .before .before .before .before .before .before .before .before .before .args in
-    lower-below (A .t1) (A .alt) (A .m) (A .s)
+returns-2 c = let A = (c .before .before .before .before .before .before .before .before .before .before .before .before .before .before .args) in
+    lower-below (A .t1) (A .alt) (A .m) (A .l)
     (c .troposphere .result)
-    (c .before .one-plus-glob7s .result)
-    (c .before .before .before .before .one-minus-glob7s4 .result)
-    (c .before .before .before .before .before .before .before .one-minus-glob7s3 .result)
-    (c .before .before .before .before .before .before .before .before .before .before .one-minus-glob7s2 .result)
-    (c .before .before .before .before .before .before .before .before .before .before .before .before .before .one-minus-glob7s .result)
-    (c .before .before .before .before .before .before .before .before .before .before .before .before .before .before .before .before .pow .result)
-    (c .before .before .before .before .before .before .before .before .before .before .before .before .before .before .before .before .before .pma7 .result)
-    (c .before .before .before .before .before .before .before .before .before .before .before .before .before .before .before .before .before .before .pma6 .result)
-    (c .before .before .before .before .before .before .before .before .before .before .before .before .before .before .before .before .before .before .before .pma5 .result)
-    (c .before .before .before .before .before .before .before .before .before .before .before .before .before .before .before .before .before .before .before .before .pma4 .result)
-    (c .before .before .before .before .before .before .before .before .before .before .before .before .before .before .before .before .before .before .before .before .before .pma3 .result)
-    (c .before .before .before .before .before .before .before .before .before .before .before .before .before .before .before .before .before .before .before .before .before .before .pavgm .result)
+    (c .before .before .before .before .before .before .pow .result)
+    (c .before .before .before .before .before .before .before .pma7 .result)
+    (c .before .before .before .before .before .before .before .before .pma6 .result)
+    (c .before .before .before .before .before .before .before .before .before .pma5 .result)
+    (c .before .before .before .before .before .before .before .before .before .before .pma4 .result)
+    (c .before .before .before .before .before .before .before .before .before .before .before .pma3 .result)
+    (c .before .before .before .before .before .before .before .before .before .before .before .before .pavgm .result)
     (c .troposphere .ensures)
-    (c .before .one-plus-glob7s .ensures)
-    (c .before .before .before .before .one-minus-glob7s4 .ensures)
-    (c .before .before .before .before .before .before .before .one-minus-glob7s3 .ensures)
-    (c .before .before .before .before .before .before .before .before .before .before .one-minus-glob7s2 .ensures)
-    (c .before .before .before .before .before .before .before .before .before .before .before .before .before .one-minus-glob7s .ensures)
-    (c .before .before .before .before .before .before .before .before .before .before .before .before .before .before .before .before .pow .ensures)
-    (c .before .before .before .before .before .before .before .before .before .before .before .before .before .before .before .before .before .pma7 .ensures)
-    (c .before .before .before .before .before .before .before .before .before .before .before .before .before .before .before .before .before .before .pma6 .ensures)
-    (c .before .before .before .before .before .before .before .before .before .before .before .before .before .before .before .before .before .before .before .pma5 .ensures)
-    (c .before .before .before .before .before .before .before .before .before .before .before .before .before .before .before .before .before .before .before .before .pma4 .ensures)
-    (c .before .before .before .before .before .before .before .before .before .before .before .before .before .before .before .before .before .before .before .before .before .pma3 .ensures)
-    (c .before .before .before .before .before .before .before .before .before .before .before .before .before .before .before .before .before .before .before .before .before .before .pavgm .ensures)
-    (c .before .before .before .before .before .before .before .before .before .before .before .before .before .before .before .before .before .before .before .before .before .before .before .if1 .left)
+    (c .before .before .before .before .before .before .pow .ensures)
+    (c .before .before .before .before .before .before .before .pma7 .ensures)
+    (c .before .before .before .before .before .before .before .before .pma6 .ensures)
+    (c .before .before .before .before .before .before .before .before .before .pma5 .ensures)
+    (c .before .before .before .before .before .before .before .before .before .before .pma4 .ensures)
+    (c .before .before .before .before .before .before .before .before .before .before .before .pma3 .ensures)
+    (c .before .before .before .before .before .before .before .before .before .before .before .before .pavgm .ensures)
+    (c .before .before .before .before .before .before .before .before .before .before .before .before .before .if1 .left)
 
 pub lower-stage-spec : {M : Type 1} → statement M
 lower-stage-spec =
@@ -153,21 +110,11 @@ lower-stage-spec =
     array-read-pow
     array-read-pow-2
     pow-requires
-    element-copy-out-one-minus-glob7s
-    slice-aggregate-one-minus-glob7s
-    one-minus-glob7s-requires
-    element-copy-out-one-minus-glob7s-2
-    slice-aggregate-one-minus-glob7s-2
-    one-minus-glob7s-requires-2
-    element-copy-out-one-minus-glob7s-3
-    slice-aggregate-one-minus-glob7s-3
-    one-minus-glob7s-requires-3
-    element-copy-out-one-minus-glob7s-4
-    slice-aggregate-one-minus-glob7s-4
-    one-minus-glob7s-requires-4
-    element-copy-out-one-plus-glob7s
-    slice-aggregate-one-plus-glob7s
-    one-plus-glob7s-requires
+    array-read-a
+    array-read-b
+    array-read-c
+    array-read-e
+    array-read-g
     array-read-troposphere
     array-read-troposphere-2
     array-read-troposphere-3

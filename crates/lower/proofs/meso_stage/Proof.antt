@@ -28,41 +28,23 @@ array-read-pow-2 c = search needs
 pow-requires : tie.Need-pow-requires
 pow-requires c κs = search needs
 
-element-copy-out-f : tie.Need-element-copy-out-f
-element-copy-out-f c = search needs
+array-read-a : tie.Need-array-read-a
+array-read-a c = search needs
 
-element-copy-out-f-2 : tie.Need-element-copy-out-f-2
-element-copy-out-f-2 c = search needs
+array-read-b : tie.Need-array-read-b
+array-read-b c = search needs
 
-element-copy-out-one-minus-glob7s : tie.Need-element-copy-out-one-minus-glob7s
-element-copy-out-one-minus-glob7s c = search needs
+array-read-c : tie.Need-array-read-c
+array-read-c c = search needs
 
-slice-aggregate-one-minus-glob7s : tie.Need-slice-aggregate-one-minus-glob7s
-slice-aggregate-one-minus-glob7s c = search needs
+array-read-c-2 : tie.Need-array-read-c-2
+array-read-c-2 c = search needs
 
-one-minus-glob7s-requires : tie.Need-one-minus-glob7s-requires
-one-minus-glob7s-requires c κs = search needs
+array-read-e : tie.Need-array-read-e
+array-read-e c = search needs
 
-element-copy-out-one-minus-glob7s-2 : tie.Need-element-copy-out-one-minus-glob7s-2
-element-copy-out-one-minus-glob7s-2 c = search needs
-
-slice-aggregate-one-minus-glob7s-2 : tie.Need-slice-aggregate-one-minus-glob7s-2
-slice-aggregate-one-minus-glob7s-2 c = search needs
-
-one-minus-glob7s-requires-2 : tie.Need-one-minus-glob7s-requires-2
-one-minus-glob7s-requires-2 c κs = search needs
-
-slice-aggregate-one-minus-glob7s-3 : tie.Need-slice-aggregate-one-minus-glob7s-3
-slice-aggregate-one-minus-glob7s-3 c = search needs
-
-one-minus-glob7s-requires-3 : tie.Need-one-minus-glob7s-requires-3
-one-minus-glob7s-requires-3 c κs = search needs
-
-slice-aggregate-one-plus-glob7s : tie.Need-slice-aggregate-one-plus-glob7s
-slice-aggregate-one-plus-glob7s c = search needs
-
-one-plus-glob7s-requires : tie.Need-one-plus-glob7s-requires
-one-plus-glob7s-requires c κs = search needs
+array-read-e-2 : tie.Need-array-read-e-2
+array-read-e-2 c = search needs
 
 array-read-mesosphere : tie.Need-array-read-mesosphere
 array-read-mesosphere c = search needs
@@ -80,31 +62,22 @@ mesosphere-requires : tie.Need-mesosphere-requires
 mesosphere-requires c κs = search needs
 
 returns : tie.Need-returns
-returns c =
-    let A = c .before .before .before .before .before .before .before .before .before .before .before .before .before .before .before .before .before .before .before .args in
-    meso-law (A .t1) (A .u) (A .s)
+returns c = let A = (c .before .before .before .before .before .before .before .before .before .before .before .args) in
+    meso-law (A .t1) (A .u) (A .l)
     (c .mesosphere .result)
-    (c .before .one-plus-glob7s .result)
-    (c .before .before .before .one-minus-glob7s3 .result)
-    (c .before .before .before .before .before .one-minus-glob7s2 .result)
-    (c .before .before .before .before .before .before .before .before .one-minus-glob7s .result)
-    (c .before .before .before .before .before .before .before .before .before .before .before .before .before .pow .result)
-    (c .before .before .before .before .before .before .before .before .before .before .before .before .before .before .pma9 .result)
-    (c .before .before .before .before .before .before .before .before .before .before .before .before .before .before .before .pma2 .result)
-    (c .before .before .before .before .before .before .before .before .before .before .before .before .before .before .before .before .pma1 .result)
-    (c .before .before .before .before .before .before .before .before .before .before .before .before .before .before .before .before .before .pma0 .result)
-    (c .before .before .before .before .before .before .before .before .before .before .before .before .before .before .before .before .before .before .pavgm .result)
+    (c .before .before .before .before .before .pow .result)
+    (c .before .before .before .before .before .before .pma9 .result)
+    (c .before .before .before .before .before .before .before .pma2 .result)
+    (c .before .before .before .before .before .before .before .before .pma1 .result)
+    (c .before .before .before .before .before .before .before .before .before .pma0 .result)
+    (c .before .before .before .before .before .before .before .before .before .before .pavgm .result)
     (c .mesosphere .ensures)
-    (c .before .one-plus-glob7s .ensures)
-    (c .before .before .before .one-minus-glob7s3 .ensures)
-    (c .before .before .before .before .before .one-minus-glob7s2 .ensures)
-    (c .before .before .before .before .before .before .before .before .one-minus-glob7s .ensures)
-    (c .before .before .before .before .before .before .before .before .before .before .before .before .before .pow .ensures)
-    (c .before .before .before .before .before .before .before .before .before .before .before .before .before .before .pma9 .ensures)
-    (c .before .before .before .before .before .before .before .before .before .before .before .before .before .before .before .pma2 .ensures)
-    (c .before .before .before .before .before .before .before .before .before .before .before .before .before .before .before .before .pma1 .ensures)
-    (c .before .before .before .before .before .before .before .before .before .before .before .before .before .before .before .before .before .pma0 .ensures)
-    (c .before .before .before .before .before .before .before .before .before .before .before .before .before .before .before .before .before .before .pavgm .ensures)
+    (c .before .before .before .before .before .pow .ensures)
+    (c .before .before .before .before .before .before .pma9 .ensures)
+    (c .before .before .before .before .before .before .before .pma2 .ensures)
+    (c .before .before .before .before .before .before .before .before .pma1 .ensures)
+    (c .before .before .before .before .before .before .before .before .before .pma0 .ensures)
+    (c .before .before .before .before .before .before .before .before .before .before .pavgm .ensures)
 
 pub meso-stage-spec : {M : Type 1} → statement M
 meso-stage-spec =
@@ -118,18 +91,12 @@ meso-stage-spec =
     array-read-pow
     array-read-pow-2
     pow-requires
-    element-copy-out-f
-    element-copy-out-f-2
-    element-copy-out-one-minus-glob7s
-    slice-aggregate-one-minus-glob7s
-    one-minus-glob7s-requires
-    element-copy-out-one-minus-glob7s-2
-    slice-aggregate-one-minus-glob7s-2
-    one-minus-glob7s-requires-2
-    slice-aggregate-one-minus-glob7s-3
-    one-minus-glob7s-requires-3
-    slice-aggregate-one-plus-glob7s
-    one-plus-glob7s-requires
+    array-read-a
+    array-read-b
+    array-read-c
+    array-read-c-2
+    array-read-e
+    array-read-e-2
     array-read-mesosphere
     array-read-mesosphere-2
     array-read-mesosphere-3

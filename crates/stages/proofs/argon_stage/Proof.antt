@@ -16,17 +16,11 @@ pd5-requires c κs = search needs
 pdm4-requires : tie.Need-pdm4-requires
 pdm4-requires c κs = search needs
 
-element-copy-out-exp-globe7 : tie.Need-element-copy-out-exp-globe7
-element-copy-out-exp-globe7 c = search needs
+array-read-exp : tie.Need-array-read-exp
+array-read-exp c = search needs
 
-slice-aggregate-exp-globe7 : tie.Need-slice-aggregate-exp-globe7
-slice-aggregate-exp-globe7 c = search needs
-
-exp-globe7-requires : tie.Need-exp-globe7-requires
-exp-globe7-requires c κs = search needs
-
-element-copy-out-argon : tie.Need-element-copy-out-argon
-element-copy-out-argon c = search needs
+exp-requires : tie.Need-exp-requires
+exp-requires c κs = search needs
 
 array-read-argon : tie.Need-array-read-argon
 array-read-argon c = search needs
@@ -34,22 +28,24 @@ array-read-argon c = search needs
 array-read-argon-2 : tie.Need-array-read-argon-2
 array-read-argon-2 c = search needs
 
+array-read-argon-3 : tie.Need-array-read-argon-3
+array-read-argon-3 c = search needs
+
 argon-requires : tie.Need-argon-requires
 argon-requires c κs = search needs
 
 returns : tie.Need-returns
 unfolding argonPlan
-returns c =
-    let A = c .before .before .before .before .before .before .before .before .before .args in
-    species-law (A .t1) (λ (x : Float). argonOf (A .h) (A .t1 .sw ‼ 15) (A .z) (A .b28) x (A .zhm) (A .xmm)) (A .t1 .sw ‼ 21) PD5 pdmT4 (A .s)
-    (c .before .argon .result)
-    (c .before .before .before .before .exp-globe7 .result)
-    (c .before .before .before .before .before .before .before .pdm4 .result)
-    (c .before .before .before .before .before .before .before .before .pd5 .result)
-    (c .before .argon .ensures)
-    (c .before .before .before .before .exp-globe7 .ensures)
-    (c .before .before .before .before .before .before .before .pdm4 .ensures)
-    (c .before .before .before .before .before .before .before .before .pd5 .ensures)
+returns c = let A = (c .before .before .before .before .before .args) in
+    species-law (A .l) (λ (x : Float). argonOf (A .h) (A .t1 ‼ 15) (A .z) (A .b28) x (A .zhm) (A .xmm)) (A .t1 ‼ 21) PD5 pdmT4
+    (c .argon .result)
+    (c .before .exp .result)
+    (c .before .before .before .pdm4 .result)
+    (c .before .before .before .before .pd5 .result)
+    (c .argon .ensures)
+    (c .before .exp .ensures)
+    (c .before .before .before .pdm4 .ensures)
+    (c .before .before .before .before .pd5 .ensures)
 
 pub argon-stage-spec : {M : Type 1} → statement M
 argon-stage-spec =
@@ -57,11 +53,10 @@ argon-stage-spec =
     (tie.spec
     pd5-requires
     pdm4-requires
-    element-copy-out-exp-globe7
-    slice-aggregate-exp-globe7
-    exp-globe7-requires
-    element-copy-out-argon
+    array-read-exp
+    exp-requires
     array-read-argon
     array-read-argon-2
+    array-read-argon-3
     argon-requires
     returns)

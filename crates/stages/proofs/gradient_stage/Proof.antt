@@ -1,6 +1,5 @@
 -- `gradient_stage` meets its contract.
-use Rattle.stages.proofs.Laws.{gradient-below}
-use Rattle.stages.proofs.Laws.{gradient-above}
+use Rattle.stages.proofs.Laws.{gradient-above, gradient-below}
 use borrow.Author.Needs.{needs}
 use Rattle.stages.proofs.gradient_stage.Statement.{statement}
 use Rattle.stages.proofs.gradient_stage.Tie as tie
@@ -11,43 +10,33 @@ ps-requires c κs = search needs
 ptm-requires : tie.Need-ptm-requires
 ptm-requires c κs = search needs
 
-element-copy-out-one-plus-globe7 : tie.Need-element-copy-out-one-plus-globe7
-element-copy-out-one-plus-globe7 c = search needs
+array-read-result : tie.Need-array-read-result
+array-read-result c = search needs
 
-slice-aggregate-one-plus-globe7 : tie.Need-slice-aggregate-one-plus-globe7
-slice-aggregate-one-plus-globe7 c = search needs
+array-read-result-2 : tie.Need-array-read-result-2
+array-read-result-2 c = search needs
 
-one-plus-globe7-requires : tie.Need-one-plus-globe7-requires
-one-plus-globe7-requires c κs = search needs
-
-array-read-t15 : tie.Need-array-read-t15
-array-read-t15 c = search needs
-
-array-read-t22 : tie.Need-array-read-t22
-array-read-t22 c = search needs
+array-read-result-3 : tie.Need-array-read-result-3
+array-read-result-3 c = search needs
 
 returns : tie.Need-returns
-returns c =
-    let A = c .before .before .before .before .before .before .before .before .args in
-    gradient-above (A .t1) (A .z) (A .s)
-    (c .before .before .one-plus-globe7 .result)
-    (c .before .before .before .before .before .before .ptm .result)
-    (c .before .before .before .before .before .before .before .ps .result)
-    (c .before .before .one-plus-globe7 .ensures)
-    (c .before .before .before .before .before .before .ptm .ensures)
-    (c .before .before .before .before .before .before .before .ps .ensures)
-    (c .before .before .before .before .before .if1 .taken)
+returns c = let A = (c .before .before .before .before .args) in
+    gradient-above (A .t1) (A .z) (A .l)
+    (c .before .before .ptm .result)
+    (c .before .before .before .ps .result)
+    (c .before .before .ptm .ensures)
+    (c .before .before .before .ps .ensures)
+    (c .before .if1 .taken)
 
-array-read-t27 : tie.Need-array-read-t27
-array-read-t27 c = search needs
+array-read-result-4 : tie.Need-array-read-result-4
+array-read-result-4 c = search needs
 
-array-read-t30 : tie.Need-array-read-t30
-array-read-t30 c = search needs
+array-read-result-5 : tie.Need-array-read-result-5
+array-read-result-5 c = search needs
 
 returns-2 : tie.Need-returns-2
-returns-2 c =
-    let A = c .before .before .before .args in
-    gradient-below (A .t1) (A .z) (A .s)
+returns-2 c = let A = (c .before .before .before .args) in
+    gradient-below (A .t1) (A .z) (A .l)
     (c .before .ptm .result)
     (c .before .before .ps .result)
     (c .before .ptm .ensures)
@@ -60,12 +49,10 @@ gradient-stage-spec =
     (tie.spec
     ps-requires
     ptm-requires
-    element-copy-out-one-plus-globe7
-    slice-aggregate-one-plus-globe7
-    one-plus-globe7-requires
-    array-read-t15
-    array-read-t22
+    array-read-result
+    array-read-result-2
+    array-read-result-3
     returns
-    array-read-t27
-    array-read-t30
+    array-read-result-4
+    array-read-result-5
     returns-2)

@@ -16,17 +16,11 @@ pd0-requires c κs = search needs
 pdm0-requires : tie.Need-pdm0-requires
 pdm0-requires c κs = search needs
 
-element-copy-out-exp-globe7 : tie.Need-element-copy-out-exp-globe7
-element-copy-out-exp-globe7 c = search needs
+array-read-exp : tie.Need-array-read-exp
+array-read-exp c = search needs
 
-slice-aggregate-exp-globe7 : tie.Need-slice-aggregate-exp-globe7
-slice-aggregate-exp-globe7 c = search needs
-
-exp-globe7-requires : tie.Need-exp-globe7-requires
-exp-globe7-requires c κs = search needs
-
-element-copy-out-helium : tie.Need-element-copy-out-helium
-element-copy-out-helium c = search needs
+exp-requires : tie.Need-exp-requires
+exp-requires c κs = search needs
 
 array-read-helium : tie.Need-array-read-helium
 array-read-helium c = search needs
@@ -34,22 +28,24 @@ array-read-helium c = search needs
 array-read-helium-2 : tie.Need-array-read-helium-2
 array-read-helium-2 c = search needs
 
+array-read-helium-3 : tie.Need-array-read-helium-3
+array-read-helium-3 c = search needs
+
 helium-requires : tie.Need-helium-requires
 helium-requires c κs = search needs
 
 returns : tie.Need-returns
 unfolding heliumPlan
-returns c =
-    let A = c .before .before .before .before .before .before .before .before .before .args in
-    species-law (A .t1) (λ (x : Float). heliumOf (A .h) (A .t1 .sw ‼ 15) (A .z) (A .b28) x (A .zhm) (A .xmm)) (A .t1 .sw ‼ 21) PD0 pdmT0 (A .s)
-    (c .before .helium .result)
-    (c .before .before .before .before .exp-globe7 .result)
-    (c .before .before .before .before .before .before .before .pdm0 .result)
-    (c .before .before .before .before .before .before .before .before .pd0 .result)
-    (c .before .helium .ensures)
-    (c .before .before .before .before .exp-globe7 .ensures)
-    (c .before .before .before .before .before .before .before .pdm0 .ensures)
-    (c .before .before .before .before .before .before .before .before .pd0 .ensures)
+returns c = let A = (c .before .before .before .before .before .args) in
+    species-law (A .l) (λ (x : Float). heliumOf (A .h) (A .t1 ‼ 15) (A .z) (A .b28) x (A .zhm) (A .xmm)) (A .t1 ‼ 21) PD0 pdmT0
+    (c .helium .result)
+    (c .before .exp .result)
+    (c .before .before .before .pdm0 .result)
+    (c .before .before .before .before .pd0 .result)
+    (c .helium .ensures)
+    (c .before .exp .ensures)
+    (c .before .before .before .pdm0 .ensures)
+    (c .before .before .before .before .pd0 .ensures)
 
 pub helium-stage-spec : {M : Type 1} → statement M
 helium-stage-spec =
@@ -57,11 +53,10 @@ helium-stage-spec =
     (tie.spec
     pd0-requires
     pdm0-requires
-    element-copy-out-exp-globe7
-    slice-aggregate-exp-globe7
-    exp-globe7-requires
-    element-copy-out-helium
+    array-read-exp
+    exp-requires
     array-read-helium
     array-read-helium-2
+    array-read-helium-3
     helium-requires
     returns)

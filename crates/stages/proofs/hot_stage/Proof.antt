@@ -13,14 +13,11 @@ pdm7-requires c κs = search needs
 pdl0-requires : tie.Need-pdl0-requires
 pdl0-requires c κs = search needs
 
-element-copy-out-exp-globe7 : tie.Need-element-copy-out-exp-globe7
-element-copy-out-exp-globe7 c = search needs
+array-read-exp : tie.Need-array-read-exp
+array-read-exp c = search needs
 
-slice-aggregate-exp-globe7 : tie.Need-slice-aggregate-exp-globe7
-slice-aggregate-exp-globe7 c = search needs
-
-exp-globe7-requires : tie.Need-exp-globe7-requires
-exp-globe7-requires c κs = search needs
+exp-requires : tie.Need-exp-requires
+exp-requires c κs = search needs
 
 array-read-hot : tie.Need-array-read-hot
 array-read-hot c = search needs
@@ -44,19 +41,18 @@ hot-requires : tie.Need-hot-requires
 hot-requires c κs = search needs
 
 returns : tie.Need-returns
-returns c =
-    let A = c .before .before .before .before .before .before .before .before .before .args in
-    hot-law (A .t1) (A .h) (A .z) (A .s)
-    (c .before .hot .result)
-    (c .before .before .before .exp-globe7 .result)
-    (c .before .before .before .before .before .before .pdl0 .result)
-    (c .before .before .before .before .before .before .before .pdm7 .result)
-    (c .before .before .before .before .before .before .before .before .pd8 .result)
-    (c .before .hot .ensures)
-    (c .before .before .before .exp-globe7 .ensures)
-    (c .before .before .before .before .before .before .pdl0 .ensures)
-    (c .before .before .before .before .before .before .before .pdm7 .ensures)
-    (c .before .before .before .before .before .before .before .before .pd8 .ensures)
+returns c = let A = (c .before .before .before .before .before .before .args) in
+    hot-law (A .t1) (A .h) (A .z) (A .l)
+    (c .hot .result)
+    (c .before .exp .result)
+    (c .before .before .before .pdl0 .result)
+    (c .before .before .before .before .pdm7 .result)
+    (c .before .before .before .before .before .pd8 .result)
+    (c .hot .ensures)
+    (c .before .exp .ensures)
+    (c .before .before .before .pdl0 .ensures)
+    (c .before .before .before .before .pdm7 .ensures)
+    (c .before .before .before .before .before .pd8 .ensures)
 
 pub hot-stage-spec : {M : Type 1} → statement M
 hot-stage-spec =
@@ -65,9 +61,8 @@ hot-stage-spec =
     pd8-requires
     pdm7-requires
     pdl0-requires
-    element-copy-out-exp-globe7
-    slice-aggregate-exp-globe7
-    exp-globe7-requires
+    array-read-exp
+    exp-requires
     array-read-hot
     array-read-hot-2
     array-read-hot-3

@@ -16,17 +16,11 @@ pd7-requires c κs = search needs
 pdm6-requires : tie.Need-pdm6-requires
 pdm6-requires c κs = search needs
 
-element-copy-out-exp-globe7 : tie.Need-element-copy-out-exp-globe7
-element-copy-out-exp-globe7 c = search needs
+array-read-exp : tie.Need-array-read-exp
+array-read-exp c = search needs
 
-slice-aggregate-exp-globe7 : tie.Need-slice-aggregate-exp-globe7
-slice-aggregate-exp-globe7 c = search needs
-
-exp-globe7-requires : tie.Need-exp-globe7-requires
-exp-globe7-requires c κs = search needs
-
-element-copy-out-nitrogen : tie.Need-element-copy-out-nitrogen
-element-copy-out-nitrogen c = search needs
+exp-requires : tie.Need-exp-requires
+exp-requires c κs = search needs
 
 array-read-nitrogen : tie.Need-array-read-nitrogen
 array-read-nitrogen c = search needs
@@ -34,22 +28,24 @@ array-read-nitrogen c = search needs
 array-read-nitrogen-2 : tie.Need-array-read-nitrogen-2
 array-read-nitrogen-2 c = search needs
 
+array-read-nitrogen-3 : tie.Need-array-read-nitrogen-3
+array-read-nitrogen-3 c = search needs
+
 nitrogen-requires : tie.Need-nitrogen-requires
 nitrogen-requires c κs = search needs
 
 returns : tie.Need-returns
 unfolding nitrogenPlan
-returns c =
-    let A = c .before .before .before .before .before .before .before .before .before .args in
-    species-law (A .t1) (λ (x : Float). nitrogenOf (A .h) (A .t1 .sw ‼ 15) (A .z) (A .b28) x (A .zhm) (A .xmm)) (A .t1 .sw ‼ 21) PD7 pdmT6 (A .s)
-    (c .before .nitrogen .result)
-    (c .before .before .before .before .exp-globe7 .result)
-    (c .before .before .before .before .before .before .before .pdm6 .result)
-    (c .before .before .before .before .before .before .before .before .pd7 .result)
-    (c .before .nitrogen .ensures)
-    (c .before .before .before .before .exp-globe7 .ensures)
-    (c .before .before .before .before .before .before .before .pdm6 .ensures)
-    (c .before .before .before .before .before .before .before .before .pd7 .ensures)
+returns c = let A = (c .before .before .before .before .before .args) in
+    species-law (A .l) (λ (x : Float). nitrogenOf (A .h) (A .t1 ‼ 15) (A .z) (A .b28) x (A .zhm) (A .xmm)) (A .t1 ‼ 21) PD7 pdmT6
+    (c .nitrogen .result)
+    (c .before .exp .result)
+    (c .before .before .before .pdm6 .result)
+    (c .before .before .before .before .pd7 .result)
+    (c .nitrogen .ensures)
+    (c .before .exp .ensures)
+    (c .before .before .before .pdm6 .ensures)
+    (c .before .before .before .before .pd7 .ensures)
 
 pub nitrogen-stage-spec : {M : Type 1} → statement M
 nitrogen-stage-spec =
@@ -57,11 +53,10 @@ nitrogen-stage-spec =
     (tie.spec
     pd7-requires
     pdm6-requires
-    element-copy-out-exp-globe7
-    slice-aggregate-exp-globe7
-    exp-globe7-requires
-    element-copy-out-nitrogen
+    array-read-exp
+    exp-requires
     array-read-nitrogen
     array-read-nitrogen-2
+    array-read-nitrogen-3
     nitrogen-requires
     returns)

@@ -16,17 +16,11 @@ pd4-requires c κs = search needs
 pdm3-requires : tie.Need-pdm3-requires
 pdm3-requires c κs = search needs
 
-element-copy-out-exp-globe7 : tie.Need-element-copy-out-exp-globe7
-element-copy-out-exp-globe7 c = search needs
+array-read-exp : tie.Need-array-read-exp
+array-read-exp c = search needs
 
-slice-aggregate-exp-globe7 : tie.Need-slice-aggregate-exp-globe7
-slice-aggregate-exp-globe7 c = search needs
-
-exp-globe7-requires : tie.Need-exp-globe7-requires
-exp-globe7-requires c κs = search needs
-
-element-copy-out-o2 : tie.Need-element-copy-out-o2
-element-copy-out-o2 c = search needs
+exp-requires : tie.Need-exp-requires
+exp-requires c κs = search needs
 
 array-read-o2 : tie.Need-array-read-o2
 array-read-o2 c = search needs
@@ -34,22 +28,24 @@ array-read-o2 c = search needs
 array-read-o2-2 : tie.Need-array-read-o2-2
 array-read-o2-2 c = search needs
 
+array-read-o2-3 : tie.Need-array-read-o2-3
+array-read-o2-3 c = search needs
+
 o2-requires : tie.Need-o2-requires
 o2-requires c κs = search needs
 
 returns : tie.Need-returns
 unfolding o2Plan
-returns c =
-    let A = c .before .before .before .before .before .before .before .before .before .args in
-    species-law (A .t1) (λ (x : Float). o2Of (A .h) (A .t1 .sw ‼ 15) (A .z) (A .b28) x (A .zhm) (A .xmm) (A .flux)) (A .t1 .sw ‼ 21) PD4 pdmT3 (A .s)
-    (c .before .o2 .result)
-    (c .before .before .before .before .exp-globe7 .result)
-    (c .before .before .before .before .before .before .before .pdm3 .result)
-    (c .before .before .before .before .before .before .before .before .pd4 .result)
-    (c .before .o2 .ensures)
-    (c .before .before .before .before .exp-globe7 .ensures)
-    (c .before .before .before .before .before .before .before .pdm3 .ensures)
-    (c .before .before .before .before .before .before .before .before .pd4 .ensures)
+returns c = let A = (c .before .before .before .before .before .args) in
+    species-law (A .l) (λ (x : Float). o2Of (A .h) (A .t1 ‼ 15) (A .z) (A .b28) x (A .zhm) (A .xmm) (A .flux)) (A .t1 ‼ 21) PD4 pdmT3
+    (c .o2 .result)
+    (c .before .exp .result)
+    (c .before .before .before .pdm3 .result)
+    (c .before .before .before .before .pd4 .result)
+    (c .o2 .ensures)
+    (c .before .exp .ensures)
+    (c .before .before .before .pdm3 .ensures)
+    (c .before .before .before .before .pd4 .ensures)
 
 pub o2-stage-spec : {M : Type 1} → statement M
 o2-stage-spec =
@@ -57,11 +53,10 @@ o2-stage-spec =
     (tie.spec
     pd4-requires
     pdm3-requires
-    element-copy-out-exp-globe7
-    slice-aggregate-exp-globe7
-    exp-globe7-requires
-    element-copy-out-o2
+    array-read-exp
+    exp-requires
     array-read-o2
     array-read-o2-2
+    array-read-o2-3
     o2-requires
     returns)

@@ -16,17 +16,11 @@ pd1-requires c κs = search needs
 pdm1-requires : tie.Need-pdm1-requires
 pdm1-requires c κs = search needs
 
-element-copy-out-exp-globe7 : tie.Need-element-copy-out-exp-globe7
-element-copy-out-exp-globe7 c = search needs
+array-read-exp : tie.Need-array-read-exp
+array-read-exp c = search needs
 
-slice-aggregate-exp-globe7 : tie.Need-slice-aggregate-exp-globe7
-slice-aggregate-exp-globe7 c = search needs
-
-exp-globe7-requires : tie.Need-exp-globe7-requires
-exp-globe7-requires c κs = search needs
-
-element-copy-out-oxygen : tie.Need-element-copy-out-oxygen
-element-copy-out-oxygen c = search needs
+exp-requires : tie.Need-exp-requires
+exp-requires c κs = search needs
 
 array-read-oxygen : tie.Need-array-read-oxygen
 array-read-oxygen c = search needs
@@ -34,22 +28,24 @@ array-read-oxygen c = search needs
 array-read-oxygen-2 : tie.Need-array-read-oxygen-2
 array-read-oxygen-2 c = search needs
 
+array-read-oxygen-3 : tie.Need-array-read-oxygen-3
+array-read-oxygen-3 c = search needs
+
 oxygen-requires : tie.Need-oxygen-requires
 oxygen-requires c κs = search needs
 
 returns : tie.Need-returns
 unfolding oxygenPlan
-returns c =
-    let A = c .before .before .before .before .before .before .before .before .before .args in
-    species-law (A .t1) (λ (x : Float). oxygenOf (A .h) (A .t1 .sw ‼ 15) (A .z) x (A .zhm) (A .xmm) (A .flux)) (A .t1 .sw ‼ 21) PD1 pdmT1 (A .s)
-    (c .before .oxygen .result)
-    (c .before .before .before .before .exp-globe7 .result)
-    (c .before .before .before .before .before .before .before .pdm1 .result)
-    (c .before .before .before .before .before .before .before .before .pd1 .result)
-    (c .before .oxygen .ensures)
-    (c .before .before .before .before .exp-globe7 .ensures)
-    (c .before .before .before .before .before .before .before .pdm1 .ensures)
-    (c .before .before .before .before .before .before .before .before .pd1 .ensures)
+returns c = let A = (c .before .before .before .before .before .args) in
+    species-law (A .l) (λ (x : Float). oxygenOf (A .h) (A .t1 ‼ 15) (A .z) x (A .zhm) (A .xmm) (A .flux)) (A .t1 ‼ 21) PD1 pdmT1
+    (c .oxygen .result)
+    (c .before .exp .result)
+    (c .before .before .before .pdm1 .result)
+    (c .before .before .before .before .pd1 .result)
+    (c .oxygen .ensures)
+    (c .before .exp .ensures)
+    (c .before .before .before .pdm1 .ensures)
+    (c .before .before .before .before .pd1 .ensures)
 
 pub oxygen-stage-spec : {M : Type 1} → statement M
 oxygen-stage-spec =
@@ -57,11 +53,10 @@ oxygen-stage-spec =
     (tie.spec
     pd1-requires
     pdm1-requires
-    element-copy-out-exp-globe7
-    slice-aggregate-exp-globe7
-    exp-globe7-requires
-    element-copy-out-oxygen
+    array-read-exp
+    exp-requires
     array-read-oxygen
     array-read-oxygen-2
+    array-read-oxygen-3
     oxygen-requires
     returns)

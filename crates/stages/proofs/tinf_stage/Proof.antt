@@ -1,6 +1,5 @@
 -- `tinf_stage` meets its contract.
-use Rattle.stages.proofs.Laws.{tinf-below}
-use Rattle.stages.proofs.Laws.{tinf-above}
+use Rattle.stages.proofs.Laws.{tinf-above, tinf-below}
 use borrow.Author.Needs.{needs}
 use Rattle.stages.proofs.tinf_stage.Statement.{statement}
 use Rattle.stages.proofs.tinf_stage.Tie as tie
@@ -17,45 +16,35 @@ pdl1-requires c κs = search needs
 array-read-if1 : tie.Need-array-read-if1
 array-read-if1 c = search needs
 
-element-copy-out-one-plus-globe7 : tie.Need-element-copy-out-one-plus-globe7
-element-copy-out-one-plus-globe7 c = search needs
+array-read-result : tie.Need-array-read-result
+array-read-result c = search needs
 
-slice-aggregate-one-plus-globe7 : tie.Need-slice-aggregate-one-plus-globe7
-slice-aggregate-one-plus-globe7 c = search needs
+array-read-result-2 : tie.Need-array-read-result-2
+array-read-result-2 c = search needs
 
-one-plus-globe7-requires : tie.Need-one-plus-globe7-requires
-one-plus-globe7-requires c κs = search needs
-
-array-read-t20 : tie.Need-array-read-t20
-array-read-t20 c = search needs
-
-array-read-t27 : tie.Need-array-read-t27
-array-read-t27 c = search needs
+array-read-result-3 : tie.Need-array-read-result-3
+array-read-result-3 c = search needs
 
 returns : tie.Need-returns
-returns c =
-    let A = c .before .before .before .before .before .before .before .before .before .args in
-    tinf-above (A .t1) (A .z) (A .s)
-    (c .before .before .one-plus-globe7 .result)
-    (c .before .before .before .before .before .before .pdl1 .result)
-    (c .before .before .before .before .before .before .before .ptm .result)
-    (c .before .before .before .before .before .before .before .before .pt .result)
-    (c .before .before .one-plus-globe7 .ensures)
-    (c .before .before .before .before .before .before .pdl1 .ensures)
-    (c .before .before .before .before .before .before .before .ptm .ensures)
-    (c .before .before .before .before .before .before .before .before .pt .ensures)
-    (c .before .before .before .before .before .if1 .taken)
+returns c = let A = (c .before .before .before .before .before .args) in
+    tinf-above (A .t1) (A .z) (A .l)
+    (c .before .before .pdl1 .result)
+    (c .before .before .before .ptm .result)
+    (c .before .before .before .before .pt .result)
+    (c .before .before .pdl1 .ensures)
+    (c .before .before .before .ptm .ensures)
+    (c .before .before .before .before .pt .ensures)
+    (c .before .if1 .taken)
 
-array-read-t15 : tie.Need-array-read-t15
-array-read-t15 c = search needs
+array-read-result-4 : tie.Need-array-read-result-4
+array-read-result-4 c = search needs
 
-array-read-t34 : tie.Need-array-read-t34
-array-read-t34 c = search needs
+array-read-result-5 : tie.Need-array-read-result-5
+array-read-result-5 c = search needs
 
 returns-2 : tie.Need-returns-2
-returns-2 c =
-    let A = c .before .before .before .before .args in
-    tinf-below (A .t1) (A .z) (A .s)
+returns-2 c = let A = (c .before .before .before .before .args) in
+    tinf-below (A .t1) (A .z) (A .l)
     (c .before .pdl1 .result)
     (c .before .before .ptm .result)
     (c .before .before .before .pt .result)
@@ -72,12 +61,10 @@ tinf-stage-spec =
     ptm-requires
     pdl1-requires
     array-read-if1
-    element-copy-out-one-plus-globe7
-    slice-aggregate-one-plus-globe7
-    one-plus-globe7-requires
-    array-read-t20
-    array-read-t27
+    array-read-result
+    array-read-result-2
+    array-read-result-3
     returns
-    array-read-t15
-    array-read-t34
+    array-read-result-4
+    array-read-result-5
     returns-2)

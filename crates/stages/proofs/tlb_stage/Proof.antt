@@ -10,31 +10,22 @@ pd3-requires c κs = search needs
 ptm-requires : tie.Need-ptm-requires
 ptm-requires c κs = search needs
 
-element-copy-out-one-plus-globe7 : tie.Need-element-copy-out-one-plus-globe7
-element-copy-out-one-plus-globe7 c = search needs
+array-read-result : tie.Need-array-read-result
+array-read-result c = search needs
 
-slice-aggregate-one-plus-globe7 : tie.Need-slice-aggregate-one-plus-globe7
-slice-aggregate-one-plus-globe7 c = search needs
+array-read-result-2 : tie.Need-array-read-result-2
+array-read-result-2 c = search needs
 
-one-plus-globe7-requires : tie.Need-one-plus-globe7-requires
-one-plus-globe7-requires c κs = search needs
-
-array-read-t13 : tie.Need-array-read-t13
-array-read-t13 c = search needs
-
-array-read-t21 : tie.Need-array-read-t21
-array-read-t21 c = search needs
+array-read-result-3 : tie.Need-array-read-result-3
+array-read-result-3 c = search needs
 
 returns : tie.Need-returns
-returns c =
-    let A = c .before .before .before .before .before .before .before .args in
-    tlb-law (A .t1) (A .s)
-    (c .before .before .one-plus-globe7 .result)
-    (c .before .before .before .before .before .ptm .result)
-    (c .before .before .before .before .before .before .pd3 .result)
-    (c .before .before .one-plus-globe7 .ensures)
-    (c .before .before .before .before .before .ptm .ensures)
-    (c .before .before .before .before .before .before .pd3 .ensures)
+returns c = let A = (c .before .before .before .args) in
+    tlb-law (A .t1) (A .l)
+    (c .before .ptm .result)
+    (c .before .before .pd3 .result)
+    (c .before .ptm .ensures)
+    (c .before .before .pd3 .ensures)
 
 pub tlb-stage-spec : {M : Type 1} → statement M
 tlb-stage-spec =
@@ -42,9 +33,7 @@ tlb-stage-spec =
     (tie.spec
     pd3-requires
     ptm-requires
-    element-copy-out-one-plus-globe7
-    slice-aggregate-one-plus-globe7
-    one-plus-globe7-requires
-    array-read-t13
-    array-read-t21
+    array-read-result
+    array-read-result-2
+    array-read-result-3
     returns)

@@ -19,28 +19,27 @@ anomalous-requires c κs = search needs
 hot-stage-requires : tie.Need-hot-stage-requires
 hot-stage-requires c κs = search needs
 
-element-copy-out-gather : tie.Need-element-copy-out-gather
-element-copy-out-gather c = search needs
+array-read-gather : tie.Need-array-read-gather
+array-read-gather c = search needs
 
 gather-requires : tie.Need-gather-requires
 gather-requires c κs = search needs
 
 returns : tie.Need-returns
-returns c =
-    let A = c .before .before .before .before .before .before .before .before .before .before .before .before .before .before .args in
-    gts7-law (A .t1) (A .x) (A .z) (A .s)
+returns c = let A = (c .before .before .before .before .before .before .args) in
+    gts7-law (A .t1) (A .x) (A .z) (A .l)
     (c .gather .result)
-    (c .before .before .before .hot-stage .result)
-    (c .before .before .before .before .anomalous .result)
-    (c .before .before .before .before .before .before .before .species-stage .result)
-    (c .before .before .before .before .before .before .before .before .before .before .n2-stage .result)
-    (c .before .before .before .before .before .before .before .before .before .before .before .before .before .shape-stage .result)
+    (c .before .hot-stage .result)
+    (c .before .before .anomalous .result)
+    (c .before .before .before .species-stage .result)
+    (c .before .before .before .before .n2-stage .result)
+    (c .before .before .before .before .before .shape-stage .result)
     (c .gather .ensures)
-    (c .before .before .before .hot-stage .ensures)
-    (c .before .before .before .before .anomalous .ensures)
-    (c .before .before .before .before .before .before .before .species-stage .ensures)
-    (c .before .before .before .before .before .before .before .before .before .before .n2-stage .ensures)
-    (c .before .before .before .before .before .before .before .before .before .before .before .before .before .shape-stage .ensures)
+    (c .before .hot-stage .ensures)
+    (c .before .before .anomalous .ensures)
+    (c .before .before .before .species-stage .ensures)
+    (c .before .before .before .before .n2-stage .ensures)
+    (c .before .before .before .before .before .shape-stage .ensures)
 
 pub gts7-spec : {M : Type 1} → statement M
 gts7-spec =
@@ -51,6 +50,6 @@ gts7-spec =
     species-stage-requires
     anomalous-requires
     hot-stage-requires
-    element-copy-out-gather
+    array-read-gather
     gather-requires
     returns)

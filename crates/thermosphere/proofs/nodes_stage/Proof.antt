@@ -1,6 +1,5 @@
 -- `nodes_stage` meets its contract.
-use Rattle.thermosphere.proofs.Laws.{nodes-above}
-use Rattle.thermosphere.proofs.Laws.{nodes-below}
+use Rattle.thermosphere.proofs.Laws.{nodes-below, nodes-above}
 use borrow.Author.Needs.{needs}
 use Rattle.thermosphere.proofs.nodes_stage.Statement.{statement}
 use Rattle.thermosphere.proofs.nodes_stage.Tie as tie
@@ -32,50 +31,26 @@ array-read-pow-2 c = search needs
 pow-requires : tie.Need-pow-requires
 pow-requires c κs = search needs
 
-element-copy-out-f : tie.Need-element-copy-out-f
-element-copy-out-f c = search needs
+array-read-a : tie.Need-array-read-a
+array-read-a c = search needs
 
-element-copy-out-f-2 : tie.Need-element-copy-out-f-2
-element-copy-out-f-2 c = search needs
+array-read-b : tie.Need-array-read-b
+array-read-b c = search needs
 
-element-copy-out-one-minus-glob7s : tie.Need-element-copy-out-one-minus-glob7s
-element-copy-out-one-minus-glob7s c = search needs
+array-read-c : tie.Need-array-read-c
+array-read-c c = search needs
 
-slice-aggregate-one-minus-glob7s : tie.Need-slice-aggregate-one-minus-glob7s
-slice-aggregate-one-minus-glob7s c = search needs
+array-read-e : tie.Need-array-read-e
+array-read-e c = search needs
 
-one-minus-glob7s-requires : tie.Need-one-minus-glob7s-requires
-one-minus-glob7s-requires c κs = search needs
+array-read-e-2 : tie.Need-array-read-e-2
+array-read-e-2 c = search needs
 
-element-copy-out-one-minus-glob7s-2 : tie.Need-element-copy-out-one-minus-glob7s-2
-element-copy-out-one-minus-glob7s-2 c = search needs
+array-read-g : tie.Need-array-read-g
+array-read-g c = search needs
 
-slice-aggregate-one-minus-glob7s-2 : tie.Need-slice-aggregate-one-minus-glob7s-2
-slice-aggregate-one-minus-glob7s-2 c = search needs
-
-one-minus-glob7s-requires-2 : tie.Need-one-minus-glob7s-requires-2
-one-minus-glob7s-requires-2 c κs = search needs
-
-element-copy-out-one-minus-glob7s-3 : tie.Need-element-copy-out-one-minus-glob7s-3
-element-copy-out-one-minus-glob7s-3 c = search needs
-
-slice-aggregate-one-minus-glob7s-3 : tie.Need-slice-aggregate-one-minus-glob7s-3
-slice-aggregate-one-minus-glob7s-3 c = search needs
-
-one-minus-glob7s-requires-3 : tie.Need-one-minus-glob7s-requires-3
-one-minus-glob7s-requires-3 c κs = search needs
-
-slice-aggregate-one-minus-glob7s-4 : tie.Need-slice-aggregate-one-minus-glob7s-4
-slice-aggregate-one-minus-glob7s-4 c = search needs
-
-one-minus-glob7s-requires-4 : tie.Need-one-minus-glob7s-requires-4
-one-minus-glob7s-requires-4 c κs = search needs
-
-slice-aggregate-one-plus-glob7s : tie.Need-slice-aggregate-one-plus-glob7s
-slice-aggregate-one-plus-glob7s c = search needs
-
-one-plus-glob7s-requires : tie.Need-one-plus-glob7s-requires
-one-plus-glob7s-requires c κs = search needs
+array-read-g-2 : tie.Need-array-read-g-2
+array-read-g-2 c = search needs
 
 array-read-varied : tie.Need-array-read-varied
 array-read-varied c = search needs
@@ -96,36 +71,25 @@ varied-requires : tie.Need-varied-requires
 varied-requires c κs = search needs
 
 returns : tie.Need-returns
-returns c =
-    let A = c .before .before .before .before .before .before .before .before .before .before .before .before .before .before .before .before .before .before .before .before .before .before .before .before .args in
-    nodes-below (A .t1) (A .z) (A .s)
+returns c = let A = (c .before .before .before .before .before .before .before .before .before .before .before .before .before .before .args) in
+    nodes-below (A .t1) (A .z) (A .l)
     (c .varied .result)
-    (c .before .one-plus-glob7s .result)
-    (c .before .before .before .one-minus-glob7s4 .result)
-    (c .before .before .before .before .before .one-minus-glob7s3 .result)
-    (c .before .before .before .before .before .before .before .before .one-minus-glob7s2 .result)
-    (c .before .before .before .before .before .before .before .before .before .before .before .one-minus-glob7s .result)
-    (c .before .before .before .before .before .before .before .before .before .before .before .before .before .before .before .before .before .pow .result)
-    (c .before .before .before .before .before .before .before .before .before .before .before .before .before .before .before .before .before .before .pma8 .result)
-    (c .before .before .before .before .before .before .before .before .before .before .before .before .before .before .before .before .before .before .before .ptl3 .result)
-    (c .before .before .before .before .before .before .before .before .before .before .before .before .before .before .before .before .before .before .before .before .ptl2 .result)
-    (c .before .before .before .before .before .before .before .before .before .before .before .before .before .before .before .before .before .before .before .before .before .ptl1 .result)
-    (c .before .before .before .before .before .before .before .before .before .before .before .before .before .before .before .before .before .before .before .before .before .before .ptl0 .result)
-    (c .before .before .before .before .before .before .before .before .before .before .before .before .before .before .before .before .before .before .before .before .before .before .before .ptm .result)
+    (c .before .before .before .before .before .before .before .pow .result)
+    (c .before .before .before .before .before .before .before .before .pma8 .result)
+    (c .before .before .before .before .before .before .before .before .before .ptl3 .result)
+    (c .before .before .before .before .before .before .before .before .before .before .ptl2 .result)
+    (c .before .before .before .before .before .before .before .before .before .before .before .ptl1 .result)
+    (c .before .before .before .before .before .before .before .before .before .before .before .before .ptl0 .result)
+    (c .before .before .before .before .before .before .before .before .before .before .before .before .before .ptm .result)
     (c .varied .ensures)
-    (c .before .one-plus-glob7s .ensures)
-    (c .before .before .before .one-minus-glob7s4 .ensures)
-    (c .before .before .before .before .before .one-minus-glob7s3 .ensures)
-    (c .before .before .before .before .before .before .before .before .one-minus-glob7s2 .ensures)
-    (c .before .before .before .before .before .before .before .before .before .before .before .one-minus-glob7s .ensures)
-    (c .before .before .before .before .before .before .before .before .before .before .before .before .before .before .before .before .before .pow .ensures)
-    (c .before .before .before .before .before .before .before .before .before .before .before .before .before .before .before .before .before .before .pma8 .ensures)
-    (c .before .before .before .before .before .before .before .before .before .before .before .before .before .before .before .before .before .before .before .ptl3 .ensures)
-    (c .before .before .before .before .before .before .before .before .before .before .before .before .before .before .before .before .before .before .before .before .ptl2 .ensures)
-    (c .before .before .before .before .before .before .before .before .before .before .before .before .before .before .before .before .before .before .before .before .before .ptl1 .ensures)
-    (c .before .before .before .before .before .before .before .before .before .before .before .before .before .before .before .before .before .before .before .before .before .before .ptl0 .ensures)
-    (c .before .before .before .before .before .before .before .before .before .before .before .before .before .before .before .before .before .before .before .before .before .before .before .ptm .ensures)
-    (c .before .before .before .before .before .before .before .before .before .before .before .before .before .before .before .before .if1 .taken)
+    (c .before .before .before .before .before .before .before .pow .ensures)
+    (c .before .before .before .before .before .before .before .before .pma8 .ensures)
+    (c .before .before .before .before .before .before .before .before .before .ptl3 .ensures)
+    (c .before .before .before .before .before .before .before .before .before .before .ptl2 .ensures)
+    (c .before .before .before .before .before .before .before .before .before .before .before .ptl1 .ensures)
+    (c .before .before .before .before .before .before .before .before .before .before .before .before .ptl0 .ensures)
+    (c .before .before .before .before .before .before .before .before .before .before .before .before .before .ptm .ensures)
+    (c .before .before .before .before .before .before .if1 .taken)
 
 array-read-mean : tie.Need-array-read-mean
 array-read-mean c = search needs
@@ -146,9 +110,8 @@ mean-requires : tie.Need-mean-requires
 mean-requires c κs = search needs
 
 returns-2 : tie.Need-returns-2
-returns-2 c =
-    let A = c .before .before .before .before .before .before .before .before .before .args in
-    nodes-above (A .t1) (A .z) (A .s)
+returns-2 c = let A = (c .before .before .before .before .before .before .before .before .before .args) in
+    nodes-above (A .t1) (A .z) (A .l)
     (c .mean .result)
     (c .before .before .pow .result)
     (c .before .before .before .pma8 .result)
@@ -180,21 +143,13 @@ nodes-stage-spec =
     array-read-pow
     array-read-pow-2
     pow-requires
-    element-copy-out-f
-    element-copy-out-f-2
-    element-copy-out-one-minus-glob7s
-    slice-aggregate-one-minus-glob7s
-    one-minus-glob7s-requires
-    element-copy-out-one-minus-glob7s-2
-    slice-aggregate-one-minus-glob7s-2
-    one-minus-glob7s-requires-2
-    element-copy-out-one-minus-glob7s-3
-    slice-aggregate-one-minus-glob7s-3
-    one-minus-glob7s-requires-3
-    slice-aggregate-one-minus-glob7s-4
-    one-minus-glob7s-requires-4
-    slice-aggregate-one-plus-glob7s
-    one-plus-glob7s-requires
+    array-read-a
+    array-read-b
+    array-read-c
+    array-read-e
+    array-read-e-2
+    array-read-g
+    array-read-g-2
     array-read-varied
     array-read-varied-2
     array-read-varied-3

@@ -20,19 +20,18 @@ shape-of-requires : tie.Need-shape-of-requires
 shape-of-requires c κs = search needs
 
 returns : tie.Need-returns
-returns c =
-    let A = c .before .before .before .before .before .before .before .before .args in
-    shape-law (A .v) (A .x) (A .z) (A .s)
+returns c = let A = (c .before .before .before .before .before .args) in
+    shape-law (A .sw) (A .x) (A .z) (A .l)
     (c .shape-of .result)
     (c .before .nodes-stage .result)
-    (c .before .before .before .tlb-stage .result)
-    (c .before .before .before .before .before .gradient-stage .result)
-    (c .before .before .before .before .before .before .before .tinf-stage .result)
+    (c .before .before .tlb-stage .result)
+    (c .before .before .before .gradient-stage .result)
+    (c .before .before .before .before .tinf-stage .result)
     (c .shape-of .ensures)
     (c .before .nodes-stage .ensures)
-    (c .before .before .before .tlb-stage .ensures)
-    (c .before .before .before .before .before .gradient-stage .ensures)
-    (c .before .before .before .before .before .before .before .tinf-stage .ensures)
+    (c .before .before .tlb-stage .ensures)
+    (c .before .before .before .gradient-stage .ensures)
+    (c .before .before .before .before .tinf-stage .ensures)
 
 pub shape-stage-spec : {M : Type 1} → statement M
 shape-stage-spec =

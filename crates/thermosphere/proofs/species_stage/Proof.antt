@@ -38,25 +38,24 @@ nitrogen-stage-requires : tie.Need-nitrogen-stage-requires
 nitrogen-stage-requires c κs = search needs
 
 returns : tie.Need-returns
-returns c =
-    let A = c .before .before .before .before .before .before .before .before .before .before .before .before .before .before .before .before .before .before .before .before .args in
-    species-law (A .v) (A .h) (A .z) (A .b28) (A .flux) (A .s)
-    (c .before .before .before .before .before .before .before .nitrogen-stage .result)
-    (c .before .before .before .before .before .before .before .before .before .hydrogen-stage .result)
-    (c .before .before .before .before .before .before .before .before .before .before .before .argon-stage .result)
-    (c .before .before .before .before .before .before .before .before .before .before .before .before .before .o2-stage .result)
-    (c .before .before .before .before .before .before .before .before .before .before .before .before .before .before .before .oxygen-stage .result)
-    (c .before .before .before .before .before .before .before .before .before .before .before .before .before .before .before .before .before .helium-stage .result)
-    (c .before .before .before .before .before .before .before .before .before .before .before .before .before .before .before .before .before .before .pdl1 .result)
-    (c .before .before .before .before .before .before .before .before .before .before .before .before .before .before .before .before .before .before .before .pdm2 .result)
-    (c .before .before .before .before .before .before .before .nitrogen-stage .ensures)
-    (c .before .before .before .before .before .before .before .before .before .hydrogen-stage .ensures)
-    (c .before .before .before .before .before .before .before .before .before .before .before .argon-stage .ensures)
-    (c .before .before .before .before .before .before .before .before .before .before .before .before .before .o2-stage .ensures)
-    (c .before .before .before .before .before .before .before .before .before .before .before .before .before .before .before .oxygen-stage .ensures)
-    (c .before .before .before .before .before .before .before .before .before .before .before .before .before .before .before .before .before .helium-stage .ensures)
-    (c .before .before .before .before .before .before .before .before .before .before .before .before .before .before .before .before .before .before .pdl1 .ensures)
-    (c .before .before .before .before .before .before .before .before .before .before .before .before .before .before .before .before .before .before .before .pdm2 .ensures)
+returns c = let A = (c .before .before .before .before .before .before .before .before .args) in
+    species-law (A .sw) (A .h) (A .z) (A .b28) (A .flux) (A .l)
+    (c .nitrogen-stage .result)
+    (c .before .hydrogen-stage .result)
+    (c .before .before .argon-stage .result)
+    (c .before .before .before .o2-stage .result)
+    (c .before .before .before .before .oxygen-stage .result)
+    (c .before .before .before .before .before .helium-stage .result)
+    (c .before .before .before .before .before .before .pdl1 .result)
+    (c .before .before .before .before .before .before .before .pdm2 .result)
+    (c .nitrogen-stage .ensures)
+    (c .before .hydrogen-stage .ensures)
+    (c .before .before .argon-stage .ensures)
+    (c .before .before .before .o2-stage .ensures)
+    (c .before .before .before .before .oxygen-stage .ensures)
+    (c .before .before .before .before .before .helium-stage .ensures)
+    (c .before .before .before .before .before .before .pdl1 .ensures)
+    (c .before .before .before .before .before .before .before .pdm2 .ensures)
 
 pub species-stage-spec : {M : Type 1} → statement M
 species-stage-spec =

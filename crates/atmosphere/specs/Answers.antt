@@ -1,0 +1,302 @@
+-- gtd7 needs no State: run from a fresh one it gives what it makes of the Levels, and leaves the State that PD[7] and PD[8] leave.
+use mathlib.Core.Path.{_≡_, refl, sym, ap, _∙_}
+use mathlib.Core.Bool.{Bool, true, false, cond, not, false≢true}
+use mathlib.Core.List.{List}
+use Prim.Native.Nat.{ℕ}
+use borrow.Author.Tests.{not-false}
+use lib.ListN.{replicate}
+use lib.Ieee.{Float, eq, ne, lt, le, ofBits}
+use Rattle.numbers.specs.Arithmetic.{_⊕_, _⊖_, _⊗_, _‼_}
+use Rattle.numbers.specs.Literals.{0·0, 1·0, 32·5, 72·5, 300·0}
+use Rattle.elementary.specs.Exp.{expOf}
+use Rattle.setting.specs.declared.State.{State}
+use Rattle.setting.specs.declared.View.{View}
+use Rattle.setting.specs.declared.Valued.{Valued}
+use Rattle.setting.specs.State.{freshOf}
+use Rattle.expansion.specs.Expansion.{afterOf, level7Of, globe7Of, glob7sFrom, glob7sOf}
+use Rattle.tables.specs.Names.{Wide, Narrow, wide, narrow, PT, PS, PD0, PD1, PD2, PD3, PD4, PD5, PD6, PD7, PD8, PTL0, PTL1, PTL2, PTL3, PMA0, PMA1, PMA2, PMA3, PMA4, PMA5, PMA6, PMA7, PMA8, PMA9}
+use Rattle.tables.specs.Tables.{ptT, psT, pdT0, pdT1, pdT2, pdT3, pdT4, pdT5, pdT6, pdT7, pdT8, pdmT2, pdlT1, pmaT0, pmaT1, pmaT2, pmaT3, pmaT4, pmaT5, pmaT6, pmaT7, pmaT8, pmaT9, ptlT0, ptlT1, ptlT2, ptlT3}
+use Rattle.plan.specs.Plan.{Plan, done, ask, either, _>>=_, Ask, one-plus-globe7, exp-globe7, one-plus-glob7s, one-minus-glob7s, onePlusGlobe7Of, expGlobe7Of, onePlusGlob7sOf, oneMinusGlob7sOf, answer, run, told, given, wideIn, narrowIn}
+use Rattle.levels.specs.declared.Need.{Need}
+use Rattle.levels.specs.Levels.{legendreIn, quietOf, activeOf, wideOf, warmOf, lightOf, heavyOf, nodesIn, nodesOf, mesoIn, mesoOf, tropoIn, tropoOf, needAt, levelsOf}
+use Rattle.levels.specs.Settled.{Settled, fresh-settled, after-settled, globe7-first, globe7-second, glob7s-first, glob7s-second, Kept, kept-done, kept-ask, kept-then, kept-either}
+use Rattle.profile.specs.declared.unchecked.Shape.{Shape}
+use Rattle.upper.specs.declared.Site.{Site}
+use Rattle.upper.specs.declared.Upper.{Upper}
+use Rattle.stages.specs.Stages.{tinfPlan, gradientPlan, tlbPlan, nodesPlan, shapePlan, n2Plan, heliumPlan, oxygenPlan, o2Plan, argonPlan, hydrogenPlan, nitrogenPlan, hotPlan, speciesPlan, gts7Plan}
+use Rattle.lower.specs.declared.Meso.{Meso}
+use Rattle.lower.specs.Lower.{mesoPlan, lowerPlan}
+use Rattle.atmosphere.specs.Atmosphere.{gtd7Plan}
+
+-- the sets that are worked out hold those that an altitude needs
+pub record Covers (n a : Need) : Type 0 where
+  pub pt : a .pt ≡ true → n .pt ≡ true
+  pub ps : a .ps ≡ true → n .ps ≡ true
+  pub nodes : a .nodes ≡ true → n .nodes ≡ true
+  pub meso : a .meso ≡ true → n .meso ≡ true
+  pub tropo : a .tropo ≡ true → n .tropo ≡ true
+
+pub itself : (a : Need) → Covers a a
+itself a = record { pt = λ e. e; ps = λ e. e; nodes = λ e. e; meso = λ e. e; tropo = λ e. e }
+
+not-of-false : {b : Bool} → b ≡ false → not b ≡ true
+not-of-false e = ap not e
+
+-- every set of globe7 but PD[8] has p[51]
+abbrev anew : Wide → Bool
+anew PT = true
+anew PS = true
+anew PD0 = true
+anew PD1 = true
+anew PD2 = true
+anew PD3 = true
+anew PD4 = true
+anew PD5 = true
+anew PD6 = true
+anew PD7 = true
+anew PD8 = false
+
+takes-history : (p : Wide) → ne (wide p ‼ 51) 0·0 ≡ anew p
+unfolding ne ofBits ptT psT pdT0 pdT1 pdT2 pdT3 pdT4 pdT5 pdT6 pdT7 pdT8
+takes-history PT = refl
+takes-history PS = refl
+takes-history PD0 = refl
+takes-history PD1 = refl
+takes-history PD2 = refl
+takes-history PD3 = refl
+takes-history PD4 = refl
+takes-history PD5 = refl
+takes-history PD6 = refl
+takes-history PD7 = refl
+takes-history PD8 = refl
+
+-- an entry of a list that is there where a set is needed
+needed : (b : Bool) (xs ys : List Float) (i : ℕ) → b ≡ true → ys ‼ i ≡ cond (not b) xs ys ‼ i
+needed true xs ys i e = refl
+needed false xs ys i e = absurd (false≢true e)
+
+value : (b : Bool) (x : Float) → b ≡ true → x ≡ cond b x 0·0
+value true x e = refl
+value false x e = absurd (false≢true e)
+
+same-globe7 : (v : View) (p : List Float) (s : State) → afterOf v p s ≡ afterOf v p freshOf → globe7Of v p s ≡ globe7Of v p freshOf
+unfolding globe7Of
+same-globe7 v p s e = cc e
+
+module _ (v : View) (n : Need) where
+  -- a question of globe7 over a set that takes its history anew
+  plus : {A : Type 0} (Q : State → Type 0) (f : Float) (p : Wide) (k : Float → Plan A) (s : State)
+      → Settled v s
+      → anew p ≡ true
+      → wideOf v (legendreIn v) (quietOf v) (wide p) ≡ wideIn (levelsOf v n) p
+      → Kept v (given (levelsOf v n)) Q (k (given (levelsOf v n) (one-plus-globe7 f p))) (afterOf v (wide p) freshOf)
+      → Kept v (given (levelsOf v n)) Q (ask (one-plus-globe7 f p) k) s
+  unfolding answer onePlusGlobe7Of globe7Of
+  plus Q f p k s h e x next =
+      let t = h (wide p) (takes-history p ∙ e) in
+      kept-ask v (given (levelsOf v n)) Q (one-plus-globe7 f p) k s (afterOf v (wide p) freshOf)
+      (ap (λ (r : Valued). 1·0 ⊕ f ⊗ r .value) (same-globe7 v (wide p) s t) ∙ ap (λ (y : Float). 1·0 ⊕ f ⊗ y) (globe7-first v (wide p) ∙ x))
+      t next
+
+  expo : {A : Type 0} (Q : State → Type 0) (f : Float) (p : Wide) (k : Float → Plan A) (s : State)
+      → Settled v s
+      → anew p ≡ true
+      → wideOf v (legendreIn v) (quietOf v) (wide p) ≡ wideIn (levelsOf v n) p
+      → Kept v (given (levelsOf v n)) Q (k (given (levelsOf v n) (exp-globe7 f p))) (afterOf v (wide p) freshOf)
+      → Kept v (given (levelsOf v n)) Q (ask (exp-globe7 f p) k) s
+  unfolding answer expGlobe7Of globe7Of
+  expo Q f p k s h e x next =
+      let t = h (wide p) (takes-history p ∙ e) in
+      kept-ask v (given (levelsOf v n)) Q (exp-globe7 f p) k s (afterOf v (wide p) freshOf)
+      (ap (λ (r : Valued). expOf (f ⊗ r .value)) (same-globe7 v (wide p) s t) ∙ ap (λ (y : Float). expOf (f ⊗ y)) (globe7-first v (wide p) ∙ x))
+      t next
+
+  -- a question of glob7s, which leaves the State as it is
+  minus-s : {A : Type 0} (Q : State → Type 0) (f : Float) (p : Narrow) (k : Float → Plan A) (s : State)
+      → glob7sOf v (narrow p) s ≡ narrowIn (levelsOf v n) p
+      → Kept v (given (levelsOf v n)) Q (k (given (levelsOf v n) (one-minus-glob7s f p))) s
+      → Kept v (given (levelsOf v n)) Q (ask (one-minus-glob7s f p) k) s
+  unfolding answer oneMinusGlob7sOf
+  minus-s Q f p k s e next = kept-ask v (given (levelsOf v n)) Q (one-minus-glob7s f p) k s s (ap (λ (y : Float). 1·0 ⊖ f ⊗ y) e) refl next
+
+  plus-s : {A : Type 0} (Q : State → Type 0) (f : Float) (p : Narrow) (k : Float → Plan A) (s : State)
+      → glob7sOf v (narrow p) s ≡ narrowIn (levelsOf v n) p
+      → Kept v (given (levelsOf v n)) Q (k (given (levelsOf v n) (one-plus-glob7s f p))) s
+      → Kept v (given (levelsOf v n)) Q (ask (one-plus-glob7s f p) k) s
+  unfolding answer onePlusGlob7sOf
+  plus-s Q f p k s e next = kept-ask v (given (levelsOf v n)) Q (one-plus-glob7s f p) k s s (ap (λ (y : Float). 1·0 ⊕ f ⊗ y) e) refl next
+
+  -- ---- gts7's stages
+
+  module _ (z : Float) where
+    tinf-kept : (lt (pdlT1 ‼ 15) z ≡ true → n .pt ≡ true) → (s : State) → Settled v s → Kept v (given (levelsOf v n)) (Settled v) (tinfPlan (v .sw) z) s
+    unfolding tinfPlan _>>=_ levelsOf warmOf
+    tinf-kept c s h =
+        kept-either v (given (levelsOf v n)) (Settled v) (lt (pdlT1 ‼ 15) z) _ _ s
+        (λ e. plus (Settled v) (v .sw ‼ 16) PT _ s h refl (value (n .pt) _ (c e)) (kept-done v (given (levelsOf v n)) (Settled v) _ _ (after-settled v ptT _ refl)))
+        (λ e. kept-done v (given (levelsOf v n)) (Settled v) _ s h)
+
+    gradient-kept : (lt 72·5 z ≡ true → n .ps ≡ true) → (s : State) → Settled v s → Kept v (given (levelsOf v n)) (Settled v) (gradientPlan (v .sw) z) s
+    unfolding gradientPlan _>>=_ levelsOf warmOf
+    gradient-kept c s h =
+        kept-either v (given (levelsOf v n)) (Settled v) (lt 72·5 z) _ _ s
+        (λ e. plus (Settled v) (v .sw ‼ 19) PS _ s h refl (value (n .ps) _ (c e)) (kept-done v (given (levelsOf v n)) (Settled v) _ _ (after-settled v psT _ refl)))
+        (λ e. kept-done v (given (levelsOf v n)) (Settled v) _ s h)
+
+  -- the State after PD[3]
+  abbrev After3 : State → Type 0
+  After3 t = t ≡ afterOf v pdT3 freshOf
+
+  tlb-kept : (s : State) → Settled v s → Kept v (given (levelsOf v n)) After3 (tlbPlan (v .sw)) s
+  unfolding tlbPlan _>>=_ levelsOf warmOf wideOf
+  tlb-kept s h = plus After3 (v .sw ‼ 17) PD3 _ s h refl refl (kept-done v (given (levelsOf v n)) After3 _ _ refl)
+
+  -- PTL and PMA[8] from the State after PD[3]
+  in-nodes : (s : State) → After3 s → (q : List Float) (i : ℕ)
+      → glob7sFrom v q (legendreIn v) (activeOf v pdT3 (quietOf v)) ≡ nodesOf v (legendreIn v) (activeOf v pdT3 (quietOf v)) (n .nodes) ‼ i
+      → glob7sOf v q s ≡ nodesOf v (legendreIn v) (activeOf v pdT3 (quietOf v)) (n .nodes) ‼ i
+  in-nodes s h q i x = ap (glob7sOf v q) h ∙ glob7s-first v pdT3 q ∙ x
+
+  nodes-kept : (z : Float) → (lt z 300·0 ≡ true → n .nodes ≡ true) → (s : State) → After3 s → Kept v (given (levelsOf v n)) After3 (nodesPlan (v .sw) z) s
+  unfolding nodesPlan _>>=_ levelsOf nodesOf
+  nodes-kept z c s h =
+      kept-either v (given (levelsOf v n)) After3 (lt z 300·0) _ _ s
+      (λ e.
+      minus-s After3 (v .sw ‼ 18) PTL0 _ s (in-nodes s h ptlT0 0 (needed (n .nodes) (replicate 5 0·0) (nodesIn v (legendreIn v) (activeOf v pdT3 (quietOf v))) 0 (c e)))
+      (minus-s After3 (v .sw ‼ 18) PTL1 _ s (in-nodes s h ptlT1 1 (needed (n .nodes) (replicate 5 0·0) (nodesIn v (legendreIn v) (activeOf v pdT3 (quietOf v))) 1 (c e)))
+      (minus-s After3 (v .sw ‼ 18) PTL2 _ s (in-nodes s h ptlT2 2 (needed (n .nodes) (replicate 5 0·0) (nodesIn v (legendreIn v) (activeOf v pdT3 (quietOf v))) 2 (c e)))
+      (minus-s After3 (v .sw ‼ 18 ⊗ v .sw ‼ 20) PTL3 _ s (in-nodes s h ptlT3 3 (needed (n .nodes) (replicate 5 0·0) (nodesIn v (legendreIn v) (activeOf v pdT3 (quietOf v))) 3 (c e)))
+      (plus-s After3 (v .sw ‼ 18 ⊗ v .sw ‼ 20) PMA8 _ s (in-nodes s h pmaT8 4 (needed (n .nodes) (replicate 5 0·0) (nodesIn v (legendreIn v) (activeOf v pdT3 (quietOf v))) 4 (c e)))
+      (kept-done v (given (levelsOf v n)) After3 _ s h))))))
+      (λ e. kept-done v (given (levelsOf v n)) After3 _ s h)
+
+  shape-kept : (x : Site) (z : Float) → (lt (pdlT1 ‼ 15) z ≡ true → n .pt ≡ true) → (lt 72·5 z ≡ true → n .ps ≡ true) → (lt z 300·0 ≡ true → n .nodes ≡ true)
+      → (s : State) → Settled v s → Kept v (given (levelsOf v n)) After3 (shapePlan (v .sw) x z) s
+  unfolding shapePlan
+  shape-kept x z c d e s h =
+      kept-then v (given (levelsOf v n)) (Settled v) After3 (tinfPlan (v .sw) z) _ s (tinf-kept z c s h)
+      (λ s1 h1. kept-then v (given (levelsOf v n)) (Settled v) After3 (gradientPlan (v .sw) z) _ s1 (gradient-kept z d s1 h1)
+      (λ s2 h2. kept-then v (given (levelsOf v n)) After3 After3 (tlbPlan (v .sw)) _ s2 (tlb-kept s2 h2)
+      (λ s3 h3. kept-then v (given (levelsOf v n)) After3 After3 (nodesPlan (v .sw) z) _ s3 (nodes-kept z e s3 h3)
+      (λ s4 h4. kept-done v (given (levelsOf v n)) After3 _ s4 h4))))
+
+  n2-kept : (h : Shape) (z zhf : Float) (s : State) → Settled v s → Kept v (given (levelsOf v n)) (Settled v) (n2Plan (v .sw) h z zhf) s
+  unfolding n2Plan _>>=_ levelsOf lightOf
+  n2-kept h z zhf s e = expo (Settled v) (v .sw ‼ 21) PD2 _ s e refl refl (kept-done v (given (levelsOf v n)) (Settled v) _ _ (after-settled v pdT2 _ refl))
+
+  -- the State after PD[7]
+  abbrev After7 : State → Type 0
+  After7 t = t ≡ afterOf v pdT7 freshOf
+
+  module _ (h : Shape) (z b28 flux zhm xmm : Float) where
+    helium-kept : (s : State) → Settled v s → Kept v (given (levelsOf v n)) (Settled v) (heliumPlan (v .sw) h z b28 zhm xmm) s
+    unfolding heliumPlan _>>=_ levelsOf lightOf
+    helium-kept s e = expo (Settled v) (v .sw ‼ 21) PD0 _ s e refl refl (kept-done v (given (levelsOf v n)) (Settled v) _ _ (after-settled v pdT0 _ refl))
+
+    oxygen-kept : (s : State) → Settled v s → Kept v (given (levelsOf v n)) (Settled v) (oxygenPlan (v .sw) h z zhm xmm flux) s
+    unfolding oxygenPlan _>>=_ levelsOf lightOf
+    oxygen-kept s e = expo (Settled v) (v .sw ‼ 21) PD1 _ s e refl refl (kept-done v (given (levelsOf v n)) (Settled v) _ _ (after-settled v pdT1 _ refl))
+
+    o2-kept : (s : State) → Settled v s → Kept v (given (levelsOf v n)) (Settled v) (o2Plan (v .sw) h z b28 zhm xmm flux) s
+    unfolding o2Plan _>>=_ levelsOf heavyOf
+    o2-kept s e = expo (Settled v) (v .sw ‼ 21) PD4 _ s e refl refl (kept-done v (given (levelsOf v n)) (Settled v) _ _ (after-settled v pdT4 _ refl))
+
+    argon-kept : (s : State) → Settled v s → Kept v (given (levelsOf v n)) (Settled v) (argonPlan (v .sw) h z b28 zhm xmm) s
+    unfolding argonPlan _>>=_ levelsOf heavyOf
+    argon-kept s e = expo (Settled v) (v .sw ‼ 21) PD5 _ s e refl refl (kept-done v (given (levelsOf v n)) (Settled v) _ _ (after-settled v pdT5 _ refl))
+
+    hydrogen-kept : (s : State) → Settled v s → Kept v (given (levelsOf v n)) (Settled v) (hydrogenPlan (v .sw) h z b28 zhm xmm) s
+    unfolding hydrogenPlan _>>=_ levelsOf heavyOf
+    hydrogen-kept s e = expo (Settled v) (v .sw ‼ 21) PD6 _ s e refl refl (kept-done v (given (levelsOf v n)) (Settled v) _ _ (after-settled v pdT6 _ refl))
+
+    nitrogen-kept : (s : State) → Settled v s → Kept v (given (levelsOf v n)) After7 (nitrogenPlan (v .sw) h z b28 zhm xmm) s
+    unfolding nitrogenPlan _>>=_ levelsOf wideOf
+    nitrogen-kept s e = expo After7 (v .sw ‼ 21) PD7 _ s e refl refl (kept-done v (given (levelsOf v n)) After7 _ _ refl)
+
+  species-kept : (h : Shape) (z b28 flux : Float) (s : State) → Settled v s → Kept v (given (levelsOf v n)) After7 (speciesPlan (v .sw) h z b28 flux) s
+  unfolding speciesPlan
+  species-kept h z b28 flux s e =
+      let zhm = pdmT2 ‼ 3 ⊗ pdlT1 ‼ 5 in
+      let xmm = pdmT2 ‼ 4 in
+      kept-then v (given (levelsOf v n)) (Settled v) After7 (heliumPlan (v .sw) h z b28 zhm xmm) _ s (helium-kept h z b28 flux zhm xmm s e)
+      (λ s1 e1. kept-then v (given (levelsOf v n)) (Settled v) After7 (oxygenPlan (v .sw) h z zhm xmm flux) _ s1 (oxygen-kept h z b28 flux zhm xmm s1 e1)
+      (λ s2 e2. kept-then v (given (levelsOf v n)) (Settled v) After7 (o2Plan (v .sw) h z b28 zhm xmm flux) _ s2 (o2-kept h z b28 flux zhm xmm s2 e2)
+      (λ s3 e3. kept-then v (given (levelsOf v n)) (Settled v) After7 (argonPlan (v .sw) h z b28 zhm xmm) _ s3 (argon-kept h z b28 flux zhm xmm s3 e3)
+      (λ s4 e4. kept-then v (given (levelsOf v n)) (Settled v) After7 (hydrogenPlan (v .sw) h z b28 zhm xmm) _ s4 (hydrogen-kept h z b28 flux zhm xmm s4 e4)
+      (λ s5 e5. kept-then v (given (levelsOf v n)) After7 After7 (nitrogenPlan (v .sw) h z b28 zhm xmm) _ s5 (nitrogen-kept h z b28 flux zhm xmm s5 e5)
+      (λ s6 e6. kept-done v (given (levelsOf v n)) After7 _ s6 e6))))))
+
+  -- the State that gtd7 leaves: after PD[7] and PD[8]
+  abbrev After8 : State → Type 0
+  After8 t = t ≡ afterOf v pdT8 (afterOf v pdT7 freshOf)
+
+  hot-kept : (h : Shape) (z : Float) (s : State) → After7 s → Kept v (given (levelsOf v n)) After8 (hotPlan (v .sw) h z) s
+  unfolding hotPlan _>>=_ answer expGlobe7Of globe7Of levelsOf
+  hot-kept h z s e =
+      kept-ask v (given (levelsOf v n)) After8 (exp-globe7 (v .sw ‼ 21) PD8) _ s (afterOf v pdT8 (afterOf v pdT7 freshOf))
+      (ap (λ (t : State). expOf (v .sw ‼ 21 ⊗ (globe7Of v pdT8 t) .value)) e ∙ ap (λ (y : Float). expOf (v .sw ‼ 21 ⊗ y)) (globe7-second v pdT7 pdT8))
+      (ap (afterOf v pdT8) e)
+      (kept-done v (given (levelsOf v n)) After8 _ _ refl)
+
+  gts7-kept : (x : Site) (z : Float) → (lt (pdlT1 ‼ 15) z ≡ true → n .pt ≡ true) → (lt 72·5 z ≡ true → n .ps ≡ true) → (lt z 300·0 ≡ true → n .nodes ≡ true)
+      → Kept v (given (levelsOf v n)) After8 (gts7Plan (v .sw) x z) freshOf
+  unfolding gts7Plan
+  gts7-kept x z c d e =
+      kept-then v (given (levelsOf v n)) After3 After8 (shapePlan (v .sw) x z) _ freshOf (shape-kept x z c d e freshOf (fresh-settled v))
+      (λ s1 e1. kept-then v (given (levelsOf v n)) (Settled v) After8 (n2Plan (v .sw) _ z (x .zhf)) _ s1 (n2-kept _ z (x .zhf) s1 (after-settled v pdT3 s1 e1))
+      (λ s2 e2. kept-then v (given (levelsOf v n)) After7 After8 (speciesPlan (v .sw) _ z _ (x .flux)) _ s2 (species-kept _ z _ (x .flux) s2 e2)
+      (λ s3 e3. kept-then v (given (levelsOf v n)) After8 After8 (hotPlan (v .sw) _ z) _ s3 (hot-kept _ z s3 e3)
+      (λ s4 e4. kept-done v (given (levelsOf v n)) After8 _ s4 e4))))
+
+  -- ---- the lower nodes, from the State that gts7 leaves
+
+  in-meso : (s : State) → After8 s → (q : List Float) → glob7sOf v q s ≡ glob7sFrom v q (legendreIn v) (activeOf v pdT8 (activeOf v pdT7 (quietOf v)))
+  in-meso s h q = ap (glob7sOf v q) h ∙ glob7s-second v pdT7 pdT8 q
+
+  meso-kept : n .meso ≡ true → (u : Upper) (s : State) → After8 s → Kept v (given (levelsOf v n)) After8 (mesoPlan (v .sw) u) s
+  unfolding mesoPlan _>>=_ levelsOf mesoOf
+  meso-kept c u s h =
+      let there : (i : ℕ) → mesoIn v (legendreIn v) (activeOf v pdT8 (activeOf v pdT7 (quietOf v))) ‼ i ≡ cond (not (n .meso)) (replicate 4 0·0) (mesoIn v (legendreIn v) (activeOf v pdT8 (activeOf v pdT7 (quietOf v)))) ‼ i = λ i. needed (n .meso) (replicate 4 0·0) _ i c in
+      minus-s After8 (v .sw ‼ 20) PMA0 _ s (in-meso s h pmaT0 ∙ there 0)
+      (minus-s After8 (v .sw ‼ 20) PMA1 _ s (in-meso s h pmaT1 ∙ there 1)
+      (minus-s After8 (v .sw ‼ 20 ⊗ v .sw ‼ 22) PMA2 _ s (in-meso s h pmaT2 ∙ there 2)
+      (plus-s After8 (v .sw ‼ 20 ⊗ v .sw ‼ 22) PMA9 _ s (in-meso s h pmaT9 ∙ there 3)
+      (kept-done v (given (levelsOf v n)) After8 _ s h))))
+
+  lower-kept : (alt : Float) → (lt alt 32·5 ≡ true → n .tropo ≡ true) → (m : Meso) (s : State) → After8 s → Kept v (given (levelsOf v n)) After8 (lowerPlan (v .sw) alt m) s
+  unfolding lowerPlan _>>=_ levelsOf tropoOf
+  lower-kept alt c m s h =
+      kept-either v (given (levelsOf v n)) After8 (not (lt alt 32·5)) _ _ s
+      (λ e. kept-done v (given (levelsOf v n)) After8 _ s h)
+      (λ e.
+      let there : (i : ℕ) → tropoIn v (legendreIn v) (activeOf v pdT8 (activeOf v pdT7 (quietOf v))) ‼ i ≡ cond (not (n .tropo)) (replicate 5 0·0) (tropoIn v (legendreIn v) (activeOf v pdT8 (activeOf v pdT7 (quietOf v)))) ‼ i = λ i. needed (n .tropo) (replicate 5 0·0) _ i (c (not-false _ e)) in
+      minus-s After8 (v .sw ‼ 22) PMA3 _ s (in-meso s h pmaT3 ∙ there 0)
+      (minus-s After8 (v .sw ‼ 22) PMA4 _ s (in-meso s h pmaT4 ∙ there 1)
+      (minus-s After8 (v .sw ‼ 22) PMA5 _ s (in-meso s h pmaT5 ∙ there 2)
+      (minus-s After8 (v .sw ‼ 22) PMA6 _ s (in-meso s h pmaT6 ∙ there 3)
+      (plus-s After8 (v .sw ‼ 22) PMA7 _ s (in-meso s h pmaT7 ∙ there 4)
+      (kept-done v (given (levelsOf v n)) After8 _ s h))))))
+
+  gtd7-kept : (x : Site) (alt : Float) → Covers n (needAt alt) → Kept v (given (levelsOf v n)) After8 (gtd7Plan (v .sw) x alt) freshOf
+  unfolding gtd7Plan needAt
+  gtd7-kept x alt c =
+      kept-then v (given (levelsOf v n)) After8 After8 (gts7Plan (v .sw) x (cond (lt 72·5 alt) alt 72·5)) _ freshOf
+      (gts7-kept x (cond (lt 72·5 alt) alt 72·5) (c .pt) (c .ps) (c .nodes))
+      (λ s1 e1. kept-either v (given (levelsOf v n)) After8 (le 72·5 alt) _ _ s1
+      (λ t. kept-done v (given (levelsOf v n)) After8 _ s1 e1)
+      (λ t. kept-then v (given (levelsOf v n)) After8 After8 (mesoPlan (v .sw) _) _ s1 (meso-kept (c .meso (not-of-false t)) _ s1 e1)
+      (λ s2 e2. kept-then v (given (levelsOf v n)) After8 After8 (lowerPlan (v .sw) alt _) _ s2 (lower-kept alt (c .tropo) _ s2 e2)
+      (λ s3 e3. kept-done v (given (levelsOf v n)) After8 _ s3 e3))))
+
+-- The Levels that hold what an altitude needs give gtd7's answer from a fresh State
+pub gtd7-covered : (v : View) (n : Need) (x : Site) (alt : Float) → Covers n (needAt alt)
+    → (run v (gtd7Plan (v .sw) x alt) freshOf) .result ≡ told (given (levelsOf v n)) (gtd7Plan (v .sw) x alt)
+gtd7-covered v n x alt c = (gtd7-kept v n x alt c) .same
+
+pub gtd7-told : (v : View) (x : Site) (alt : Float)
+    → (run v (gtd7Plan (v .sw) x alt) freshOf) .result ≡ told (given (levelsOf v (needAt alt))) (gtd7Plan (v .sw) x alt)
+gtd7-told v x alt = gtd7-covered v (needAt alt) x alt (itself (needAt alt))
+
+-- The State that gtd7's expansions leave
+pub gtd7-left : (v : View) (x : Site) (alt : Float) → (run v (gtd7Plan (v .sw) x alt) freshOf) .left ≡ afterOf v pdT8 (afterOf v pdT7 freshOf)
+gtd7-left v x alt = (gtd7-kept v (needAt alt) x alt (itself (needAt alt))) .left

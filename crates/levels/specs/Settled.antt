@@ -1,0 +1,156 @@
+-- From a fresh State the answers to gtd7's questions do not depend on the questions before them: each is one of the Levels.
+use mathlib.Core.Path.{_≡_, refl, sym, ap, ap₂, _∙_, subst}
+use mathlib.Core.Bool.{Bool, true, false, cond, not, _&&_, false≢true}
+use mathlib.Core.List.{List}
+use lib.Dec.{T}
+use lib.ListN.{set, replicate}
+use lib.Ieee.{Float, eq, ne, neg, lt}
+use Rattle.numbers.specs.Arithmetic.{_‼_}
+use Rattle.numbers.specs.Literals.{0·0, 1·0, 1·0E-4}
+use Rattle.setting.specs.declared.State.{State}
+use Rattle.setting.specs.declared.View.{View}
+use Rattle.setting.specs.declared.Valued.{Valued}
+use Rattle.setting.specs.State.{freshOf}
+use Rattle.legendre.specs.Legendre.{legendreOf, legendre0Of, legendre1Of, legendre2Of, legendre3Of, flatOf, rowsOf, row0Of, row1Of, row2Of, row3Of}
+use Rattle.activity.specs.Activity.{apdfNextOf, aptNextOf, apdfFromOf, sg0Of, exp1Of}
+use Rattle.expansion.specs.declared.Carried.{Carried}
+use Rattle.expansion.specs.Expansion.{carriedOf, turnsAfterOf, afterOf, level7Of, globe7Of, glob7sFrom, glob7sOf}
+use Rattle.plan.specs.Plan.{Plan, done, ask, either, _>>=_, Ask, answer, run, Ran, told, run->>=, told->>=}
+use Rattle.levels.specs.Levels.{legendreIn, quietOf, activeOf, wideOf}
+
+-- ---- the State after one globe7, and after two
+
+twice : (b : Bool) (x y : Float) → cond b x (cond b x y) ≡ cond b x y
+twice true x y = refl
+twice false x y = refl
+
+-- the Legendre values are the same after a second globe7
+rows-flat : (v : View) → rowsOf (flatOf (legendreIn v)) ≡ legendreIn v
+unfolding rowsOf row0Of row1Of row2Of row3Of flatOf legendreIn legendreOf legendre0Of legendre1Of legendre2Of legendre3Of
+rows-flat v = refl
+
+again : (v : View) → legendreOf (v .slat) (v .clat) (flatOf (legendreOf (v .slat) (v .clat) (replicate 36 0·0))) ≡ legendreOf (v .slat) (v .clat) (replicate 36 0·0)
+unfolding flatOf legendreIn legendreOf legendre0Of legendre1Of legendre2Of legendre3Of
+again v = refl
+
+-- what aptNextOf takes where the history is asked for
+abbrev historyOf : View → List Float → Float
+historyOf v p = sg0Of (exp1Of (p ‼ 51) (p ‼ 138) (v .«g_lat»)) (cond (lt (p ‼ 24) 1·0E-4) 1·0E-4 (p ‼ 24)) (p ‼ 25) (v .«ap_array»)
+
+kept-apdf : (b : Bool) (x y z : Float) → cond b (cond b x y) z ≡ cond b x z
+kept-apdf true x y z = refl
+kept-apdf false x y z = refl
+
+kept-apt : (b c d : Bool) (x y z : Float) → c ≡ true → cond (not (b && c)) (cond (not (b && d)) x y) z ≡ cond (not (b && c)) x z
+kept-apt true true d x y z e = refl
+kept-apt true false d x y z e = absurd (false≢true e)
+kept-apt false c d x y z e = refl
+
+-- a set with p[51] takes its history anew, so nothing of an earlier set is left
+pub after-after : (v : View) (p q : List Float) → ne (q ‼ 51) 0·0 ≡ true → afterOf v q (afterOf v p freshOf) ≡ afterOf v q freshOf
+unfolding afterOf turnsAfterOf freshOf apdfNextOf aptNextOf
+after-after v p q e =
+    let b = not (eq (v .sw ‼ 7) 0·0 && eq (v .sw ‼ 8) 0·0 && eq (v .sw ‼ 14) 0·0) in
+    let a = eq (v .sw ‼ 9) (neg 1·0) in
+    cc (
+      ap flatOf (again v),
+      twice b (v .ct) 0·0,
+      twice b (v .st) 0·0,
+      twice b (v .c2t) 0·0,
+      twice b (v .s2t) 0·0,
+      twice b (v .c3t) 0·0,
+      twice b (v .s3t) 0·0,
+      kept-apdf a 0·0 (apdfFromOf (p ‼ 43) (p ‼ 44) (v .ap)) (apdfFromOf (q ‼ 43) (q ‼ 44) (v .ap)),
+      kept-apt a (ne (q ‼ 51) 0·0) (ne (p ‼ 51) 0·0) 0·0 (historyOf v p) (historyOf v q) e,
+    )
+
+-- a State from which every such set leaves what it leaves from a fresh one
+abbrev pub Settled : View → State → Type 0
+Settled v s = (q : List Float) → ne (q ‼ 51) 0·0 ≡ true → afterOf v q s ≡ afterOf v q freshOf
+
+pub fresh-settled : (v : View) → Settled v freshOf
+fresh-settled v q e = refl
+
+pub after-settled : (v : View) (p : List Float) (t : State) → t ≡ afterOf v p freshOf → Settled v t
+after-settled v p t e q f = ap (afterOf v q) e ∙ after-after v p q f
+
+-- ---- the Levels are the expansions' values from the States that gtd7 reaches
+
+carried-first : (v : View) (p : List Float) → carriedOf (afterOf v p freshOf) ≡ activeOf v p (quietOf v)
+unfolding carriedOf afterOf freshOf quietOf activeOf
+carried-first v p = refl
+
+rows-first : (v : View) (p : List Float) → rowsOf ((afterOf v p freshOf) .plg) ≡ legendreIn v
+unfolding afterOf freshOf legendreIn
+rows-first v p = rows-flat v
+
+carried-second : (v : View) (p q : List Float) → carriedOf (afterOf v q (afterOf v p freshOf)) ≡ activeOf v q (activeOf v p (quietOf v))
+unfolding carriedOf afterOf turnsAfterOf freshOf quietOf activeOf
+carried-second v p q =
+    let b = not (eq (v .sw ‼ 7) 0·0 && eq (v .sw ‼ 8) 0·0 && eq (v .sw ‼ 14) 0·0) in
+    cc (twice b (v .ct) 0·0, twice b (v .st) 0·0, twice b (v .c2t) 0·0, twice b (v .s2t) 0·0, twice b (v .c3t) 0·0, twice b (v .s3t) 0·0)
+
+rows-second : (v : View) (p q : List Float) → rowsOf ((afterOf v q (afterOf v p freshOf)) .plg) ≡ legendreIn v
+unfolding afterOf freshOf legendreIn
+rows-second v p q = ap (λ (g : List (List Float)). rowsOf (flatOf g)) (again v) ∙ rows-flat v
+
+pub globe7-first : (v : View) (p : List Float) → (globe7Of v p freshOf) .value ≡ wideOf v (legendreIn v) (quietOf v) p
+unfolding globe7Of wideOf
+globe7-first v p = ap₂ (level7Of v p) (rows-first v p) (carried-first v p)
+
+pub globe7-second : (v : View) (p q : List Float) → (globe7Of v q (afterOf v p freshOf)) .value ≡ level7Of v q (legendreIn v) (activeOf v q (activeOf v p (quietOf v)))
+unfolding globe7Of
+globe7-second v p q = ap₂ (level7Of v q) (rows-second v p q) (carried-second v p q)
+
+pub glob7s-first : (v : View) (p q : List Float) → glob7sOf v q (afterOf v p freshOf) ≡ glob7sFrom v q (legendreIn v) (activeOf v p (quietOf v))
+unfolding glob7sOf
+glob7s-first v p q = ap₂ (glob7sFrom v q) (rows-first v p) (carried-first v p)
+
+pub glob7s-second : (v : View) (p r q : List Float)
+    → glob7sOf v q (afterOf v r (afterOf v p freshOf)) ≡ glob7sFrom v q (legendreIn v) (activeOf v r (activeOf v p (quietOf v)))
+unfolding glob7sOf
+glob7s-second v p r q = ap₂ (glob7sFrom v q) (rows-second v p r) (carried-second v p r)
+
+-- ---- a plan run from a State, and told the same answers
+
+-- the result is the same, and the State that is left has the property Q
+pub record Kept {A : Type 0} (v : View) (g : Ask → Float) (Q : State → Type 0) (m : Plan A) (s : State) : Type 0 where
+  pub same : (run v m s) .result ≡ told g m
+  pub left : Q ((run v m s) .left)
+
+module _ (v : View) (g : Ask → Float) where
+  pub kept-done : {A : Type 0} (Q : State → Type 0) (a : A) (s : State) → Q s → Kept v g Q (done a) s
+  unfolding run told
+  kept-done Q a s h = record { same = refl; left = h }
+
+  pub kept-ask : {A : Type 0} (Q : State → Type 0) (q : Ask) (k : Float → Plan A) (s t : State)
+      → (answer v q s) .value ≡ g q
+      → (answer v q s) .state ≡ t
+      → Kept v g Q (k (g q)) t
+      → Kept v g Q (ask q k) s
+  unfolding run told
+  kept-ask Q q k s t e f h =
+      let same-run : run v (k ((answer v q s) .value)) ((answer v q s) .state) ≡ run v (k (g q)) t = ap₂ (λ (x : Float) (u : State). run v (k x) u) e f in
+      record {
+        same = ap (λ (r : Ran _). r .result) same-run ∙ h .same;
+        left = subst (λ (r : Ran _). Q (r .left)) (sym same-run) (h .left);
+      }
+
+  pub kept-then : {A B : Type 0} (Q R : State → Type 0) (m : Plan A) (k : A → Plan B) (s : State)
+      → Kept v g Q m s
+      → ((t : State) → Q t → Kept v g R (k (told g m)) t)
+      → Kept v g R (m >>= k) s
+  kept-then Q R m k s h next =
+      let n = next ((run v m s) .left) (h .left) in
+      let same-run : run v (m >>= k) s ≡ run v (k (told g m)) ((run v m s) .left) = run->>= v m k s ∙ ap (λ (a : _). run v (k a) ((run v m s) .left)) (h .same) in
+      record {
+        same = ap (λ (r : Ran _). r .result) same-run ∙ n .same ∙ sym (told->>= g m k);
+        left = subst (λ (r : Ran _). R (r .left)) (sym same-run) (n .left);
+      }
+
+  pub kept-either : {A : Type 0} (Q : State → Type 0) (b : Bool) (m n : Plan A) (s : State)
+      → (b ≡ true → Kept v g Q m s)
+      → (b ≡ false → Kept v g Q n s)
+      → Kept v g Q (either b m n) s
+  kept-either Q true m n s h k = h refl
+  kept-either Q false m n s h k = k refl
