@@ -118,7 +118,7 @@ pub fn unset(tz: f64) -> Curve
 }
 
 // splini over arrays by value.
-fn integral(xs: [f64; 10], ys: [f64; 10], y2: [f64; 10], n: usize, x: f64) -> f64
+pub fn integral(xs: [f64; 10], ys: [f64; 10], y2: [f64; 10], n: usize, x: f64) -> f64
     requires { ⌜ (2 ≤ n) × (n ≤ 10) ⌝ }
     ensures { λ r. ⌜ r ≡ spliniOf xs ys y2 n x ⌝ }
 {

@@ -47,7 +47,7 @@ pub fn gradient(re: f64, tinf: f64, ta: f64, zlb: f64, s2: f64, za: f64) -> f64
 }
 
 // The density under the Bates temperature tt.
-fn densa(
+pub fn densa(
     gsurf: f64,
     re: f64,
     dlb: f64,

@@ -1,4 +1,5 @@
 -- Each species of gts7 with the answer of its expansion given, as the Rust writes it.
+use mathlib.Core.Path.{_≡_}
 use mathlib.Core.Bool.{cond, not, _&&_}
 use mathlib.Core.List.{List, [], _∷_}
 use lib.Ieee.{Float, neg, lt, le, ne}
@@ -10,6 +11,8 @@ use Rattle.elementary.specs.Root.{sqrtOf}
 use Rattle.mixing.specs.Mixing.{ccorOf, ccor2Of, dnetOf}
 use Rattle.profile.specs.Gravity.{scalhOf}
 use Rattle.profile.specs.Profile.{densu5Of, densityIn, temperatureIn}
+use Rattle.profile.specs.Point.{pointOf}
+use Rattle.profile.specs.declared.point.Point.{Point}
 use Rattle.profile.specs.declared.unchecked.Shape.{Shape}
 use Rattle.tables.specs.Tables.{ptmT, pdlT0, pdlT1, pdmT0, pdmT1, pdmT2, pdmT3, pdmT4, pdmT5, pdmT6}
 use Rattle.species.specs.declared.Blend.{Blend}
@@ -18,6 +21,14 @@ use Rattle.species.specs.declared.Mixture.{Mixture}
 -- zn1 of gts7
 abbrev pub nodes : List Float
 nodes = (pdlT1 ‼ 15) ∷ 110·0 ∷ 100·0 ∷ 90·0 ∷ 72·5 ∷ []
+
+-- what an altitude gives for every species
+abbrev pub pointAt : Shape → Float → Point
+pointAt h z = pointOf h z (ptmT ‼ 5) nodes
+
+-- p is what its altitude gives
+abbrev pub Placed : Shape → Point → Type 0
+Placed h p = p ≡ pointAt h (p .z)
 
 -- densu over gts7's nodes: what it returns for a density dlb at the lower boundary
 unfoldable pub densityOf : Shape → Float → Float → Float → Float → Float

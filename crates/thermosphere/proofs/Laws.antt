@@ -1,5 +1,5 @@
 -- Plans of several stages, told their answers: from what each stage gives.
-use mathlib.Core.Path.{_≡_, sym, _∙_}
+use mathlib.Core.Path.{_≡_, sym, ap, _∙_}
 use mathlib.Core.Bool.{true, false}
 use mathlib.Core.List.{List}
 use lib.Ieee.{Float, lt}
@@ -7,6 +7,9 @@ use Rattle.numbers.specs.Arithmetic.{_⊕_, _⊖_, _⊗_, _‼_}
 use Rattle.numbers.specs.Literals.{1·0, 2·0, 300·0}
 use Rattle.elementary.specs.Pow.{powOf}
 use Rattle.profile.specs.declared.unchecked.Shape.{Shape}
+use Rattle.profile.specs.declared.point.Point.{Point}
+use Rattle.profile.specs.Point.{point-z}
+use Rattle.species.specs.Species.{nodes, pointAt, Placed}
 use Rattle.species.specs.declared.Blend.{Blend}
 use Rattle.species.specs.declared.Mixture.{Mixture}
 use Rattle.plan.specs.declared.Levels.{Levels}
@@ -86,20 +89,29 @@ species-law sw h z b28 flux l n hy ar o2 o he d m e1 e2 e3 e4 e5 e6 e7 e8 =
     ∙ then (given l) (nitrogenPlan sw h z b28 (pdmT2 ‼ 3 ⊗ pdlT1 ‼ 5) (pdmT2 ‼ 4)) _ n (rw (e8, e7) at e1)
     ∙ last (given l) _)
 
-pub gts7-law : (sw : List Float) (x : Site) (z : Float) (l : Levels) (u : Upper) (o : Float) (k : Shape) (y : Six) (b : Blend) (h : Shape)
+at-z : (h : Shape) (z : Float) (p : Point) → p ≡ pointAt h z → p .z ≡ z
+at-z h z p e = ap (λ (q : Point). q .z) e ∙ point-z h z (ptmT ‼ 5) nodes
+
+-- a point that was worked out for its altitude
+pub placed : (h : Shape) (z : Float) (p : Point) → p ≡ pointAt h z → Placed h p
+placed h z p e = e ∙ ap (pointAt h) (sym (at-z h z p e))
+
+pub gts7-law : (sw : List Float) (x : Site) (z : Float) (l : Levels) (u : Upper) (o : Float) (k : Shape) (y : Six) (b : Blend) (p : Point) (h : Shape)
     → u ≡ gatherOf (sw ‼ 0) h z b y o
     → o ≡ told (given l) (hotPlan sw k z)
     → k ≡ anomalousOf h
-    → y ≡ told (given l) (speciesPlan sw h z (b .b) (x .flux))
-    → b ≡ told (given l) (n2Plan sw h z (x .zhf))
+    → y ≡ told (given l) (speciesPlan sw h (p .z) (b .b) (x .flux))
+    → b ≡ told (given l) (n2Plan sw h (p .z) (x .zhf))
+    → p ≡ pointAt h z
     → h ≡ told (given l) (shapePlan sw x z)
     → u ≡ told (given l) (gts7Plan sw x z)
 unfolding gts7Plan
-gts7-law sw x z l u o k y b h e0 e1 e2 e3 e4 e5 =
+gts7-law sw x z l u o k y b p h e0 e1 e2 e3 e4 e5 e6 =
+    let e : p .z ≡ z = at-z h z p e5 in
     e0
     ∙ sym
-    (then (given l) (shapePlan sw x z) _ h e5
-    ∙ then (given l) (n2Plan sw h z (x .zhf)) _ b e4
-    ∙ then (given l) (speciesPlan sw h z (b .b) (x .flux)) _ y e3
+    (then (given l) (shapePlan sw x z) _ h e6
+    ∙ then (given l) (n2Plan sw h z (x .zhf)) _ b (rw e at e4)
+    ∙ then (given l) (speciesPlan sw h z (b .b) (x .flux)) _ y (rw e at e3)
     ∙ then (given l) (hotPlan sw (anomalousOf h) z) _ o (rw e2 at e1)
     ∙ last (given l) _)

@@ -1,10 +1,13 @@
 // gts7: its stages in order, proved against its plan.
 ghost use mathlib.Core.Path.{_≡_};
 ghost use Rattle.plan.specs.Plan.{told, given};
+ghost use Rattle.species.specs.Species.{Placed};
 ghost use Rattle.stages.specs.Stages.{nodesPlan, shapePlan, speciesPlan, gts7Plan};
 use elementary::power::pow;
 use plan::Levels;
+use profile::point::Point;
 use profile::unchecked::Shape;
+use species::point_at;
 use stages::argon_stage;
 use stages::gradient_stage;
 use stages::helium_stage;
@@ -68,19 +71,20 @@ pub fn shape_stage(sw: [f64; 24], x: Site, z: f64, l: Levels) -> Shape
 }
 
 // The six species that blend with N2.
-pub fn species_stage(sw: [f64; 24], h: Shape, z: f64, b28: f64, flux: f64, l: Levels) -> Six
-    ensures { λ r. ⌜ r ≡ told (given l) (speciesPlan sw h z b28 flux) ⌝ }
+pub fn species_stage(sw: [f64; 24], h: Shape, p: Point, b28: f64, flux: f64, l: Levels) -> Six
+    requires { ⌜ Placed h p ⌝ }
+    ensures { λ r. ⌜ r ≡ told (given l) (speciesPlan sw h (p .z) b28 flux) ⌝ }
 {
     let m = pdm2();
     let d = pdl1();
     let zhm = m[3] * d[5];
     let xmm = m[4];
-    let he = helium_stage(sw, h, z, b28, zhm, xmm, l);
-    let o = oxygen_stage(sw, h, z, zhm, xmm, flux, l);
-    let o2 = o2_stage(sw, h, z, b28, zhm, xmm, flux, l);
-    let ar = argon_stage(sw, h, z, b28, zhm, xmm, l);
-    let hy = hydrogen_stage(sw, h, z, b28, zhm, xmm, l);
-    let n = nitrogen_stage(sw, h, z, b28, zhm, xmm, l);
+    let he = helium_stage(sw, h, p, b28, zhm, xmm, l);
+    let o = oxygen_stage(sw, h, p, zhm, xmm, flux, l);
+    let o2 = o2_stage(sw, h, p, b28, zhm, xmm, flux, l);
+    let ar = argon_stage(sw, h, p, b28, zhm, xmm, l);
+    let hy = hydrogen_stage(sw, h, p, b28, zhm, xmm, l);
+    let n = nitrogen_stage(sw, h, p, b28, zhm, xmm, l);
     Six {
         he: he,
         o: o,
@@ -95,8 +99,9 @@ pub fn gts7(sw: [f64; 24], x: Site, z: f64, l: Levels) -> Upper
     ensures { λ r. ⌜ r ≡ told (given l) (gts7Plan sw x z) ⌝ }
 {
     let h = shape_stage(sw, x, z, l);
-    let b = n2_stage(sw, h, z, x.zhf, l);
-    let y = species_stage(sw, h, z, b.b, x.flux, l);
+    let p = point_at(h, z);
+    let b = n2_stage(sw, h, p, x.zhf, l);
+    let y = species_stage(sw, h, p, b.b, x.flux, l);
     let k = anomalous(h);
     let o = hot_stage(sw, k, z, l);
     gather(sw[0], h, z, b, y, o)

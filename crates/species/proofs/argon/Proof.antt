@@ -9,7 +9,7 @@ density-requires c κs = search needs
 
 returns : tie.Need-returns
 unfolding argonOf
-returns c = simp (← c .density .ensures) (simp (c .before .if1 .taken))
+returns c = simp (← (c .density .ensures)) (simp ((c .before .if1 .taken)))
 
 pdm4-requires : tie.Need-pdm4-requires
 pdm4-requires c κs = search needs
@@ -46,7 +46,7 @@ ccor-requires c κs = search needs
 
 returns-2 : tie.Need-returns-2
 unfolding argonOf
-returns-2 c = simp (← c .before .ccor .ensures, ← c .before .before .log .ensures, ← c .before .before .before .before .mixed .ensures, ← c .before .before .before .before .before .pdl1 .ensures, ← c .before .before .before .before .before .before .pdm4 .ensures) (simp (c .before .before .before .before .before .before .before .if1 .left))
+returns-2 c = simp (← (c .before .ccor .ensures), ← (c .before .before .log .ensures), ← (c .before .before .before .before .mixed .ensures), ← (c .before .before .before .before .before .pdl1 .ensures), ← (c .before .before .before .before .before .before .pdm4 .ensures)) (simp ((c .before .before .before .before .before .before .before .if1 .left)))
 
 pub argon-spec : {M : Type 1} → statement M
 argon-spec =

@@ -1,5 +1,5 @@
 -- `density` meets its contract.
-use Rattle.species.specs.Species.{densityOf}
+use Rattle.species.proofs.Laws.{density-law}
 use borrow.Author.Needs.{needs}
 use Rattle.species.proofs.density.Statement.{statement}
 use Rattle.species.proofs.density.Tie as tie
@@ -7,33 +7,32 @@ use Rattle.species.proofs.density.Tie as tie
 ptm-requires : tie.Need-ptm-requires
 ptm-requires c κs = search needs
 
-pdl1-requires : tie.Need-pdl1-requires
-pdl1-requires c κs = search needs
+array-read-densu-at : tie.Need-array-read-densu-at
+array-read-densu-at c = search needs
 
-array-read-densu5 : tie.Need-array-read-densu5
-array-read-densu5 c = search needs
-
-array-read-t16 : tie.Need-array-read-t16
-array-read-t16 c = search needs
-
-densu5-requires : tie.Need-densu5-requires
-densu5-requires c κs = search needs
+densu-at-requires : tie.Need-densu-at-requires
+densu-at-requires c κs = search needs
 
 density-in-requires : tie.Need-density-in-requires
 density-in-requires c κs = search needs
 
 returns : tie.Need-returns
-unfolding densityOf
-returns c = simp (← c .density-in .ensures, ← c .before .densu5 .ensures, ← c .before .before .pdl1 .ensures, ← c .before .before .before .ptm .ensures)
+returns c = let A = (c .before .before .before .args) in
+    density-law (A .h) (A .p) (A .dlb) (A .xm) (A .alpha)
+    (c .density-in .result)
+    (c .before .densu-at .result)
+    (c .before .before .ptm .result)
+    (c .density-in .ensures)
+    (c .before .densu-at .ensures)
+    (c .before .before .ptm .ensures)
+    (c .before .before .before .pre)
 
 pub density-spec : {M : Type 1} → statement M
 density-spec =
     tie.close
     (tie.spec
     ptm-requires
-    pdl1-requires
-    array-read-densu5
-    array-read-t16
-    densu5-requires
+    array-read-densu-at
+    densu-at-requires
     density-in-requires
     returns)

@@ -9,7 +9,7 @@ density-requires c κs = search needs
 
 returns : tie.Need-returns
 unfolding heliumOf
-returns c = simp (← c .density .ensures) (simp (c .before .if1 .taken))
+returns c = simp (← (c .density .ensures)) (simp ((c .before .if1 .taken)))
 
 pdm0-requires : tie.Need-pdm0-requires
 pdm0-requires c κs = search needs
@@ -46,7 +46,7 @@ ccor-requires c κs = search needs
 
 returns-2 : tie.Need-returns-2
 unfolding heliumOf
-returns-2 c = simp (← c .before .ccor .ensures, ← c .before .before .log .ensures, ← c .before .before .before .before .mixed .ensures, ← c .before .before .before .before .before .pdl1 .ensures, ← c .before .before .before .before .before .before .pdm0 .ensures) (simp (c .before .before .before .before .before .before .before .if1 .left))
+returns-2 c = simp (← (c .before .ccor .ensures), ← (c .before .before .log .ensures), ← (c .before .before .before .before .mixed .ensures), ← (c .before .before .before .before .before .pdl1 .ensures), ← (c .before .before .before .before .before .before .pdm0 .ensures)) (simp ((c .before .before .before .before .before .before .before .if1 .left)))
 
 pub helium-spec : {M : Type 1} → statement M
 helium-spec =

@@ -9,7 +9,7 @@ density-requires c κs = search needs
 
 returns : tie.Need-returns
 unfolding hydrogenOf
-returns c = simp (← c .density .ensures) (simp (c .before .if1 .taken))
+returns c = simp (← (c .density .ensures)) (simp ((c .before .if1 .taken)))
 
 pdm5-requires : tie.Need-pdm5-requires
 pdm5-requires c κs = search needs
@@ -76,7 +76,7 @@ ccor-requires-2 c κs = search needs
 
 returns-2 : tie.Need-returns-2
 unfolding hydrogenOf
-returns-2 c = simp (← c .before .ccor2 .ensures, ← c .before .before .ccor .ensures, ← c .before .before .before .log .ensures, ← c .before .before .before .before .before .sqrt .ensures, ← c .before .before .before .before .before .before .mixed .ensures, ← c .before .before .before .before .before .before .before .pdl1 .ensures, ← c .before .before .before .before .before .before .before .before .pdm5 .ensures) (simp (c .before .before .before .before .before .before .before .before .before .if1 .left))
+returns-2 c = simp (← (c .before .ccor2 .ensures), ← (c .before .before .ccor .ensures), ← (c .before .before .before .log .ensures), ← (c .before .before .before .before .before .sqrt .ensures), ← (c .before .before .before .before .before .before .mixed .ensures), ← (c .before .before .before .before .before .before .before .pdl1 .ensures), ← (c .before .before .before .before .before .before .before .before .pdm5 .ensures)) (simp ((c .before .before .before .before .before .before .before .before .before .if1 .left)))
 
 pub hydrogen-spec : {M : Type 1} → statement M
 hydrogen-spec =

@@ -9,7 +9,7 @@ density-requires c κs = search needs
 
 returns : tie.Need-returns
 unfolding o2MixedOf
-returns c = simp (← c .density .ensures) (simp (c .before .if1 .taken))
+returns c = simp (← (c .density .ensures)) (simp ((c .before .if1 .taken)))
 
 pdm3-requires : tie.Need-pdm3-requires
 pdm3-requires c κs = search needs
@@ -46,7 +46,7 @@ ccor-requires c κs = search needs
 
 returns-2 : tie.Need-returns-2
 unfolding o2MixedOf
-returns-2 c = simp (← c .before .ccor .ensures, ← c .before .before .log .ensures, ← c .before .before .before .before .mixed .ensures, ← c .before .before .before .before .before .pdl1 .ensures, ← c .before .before .before .before .before .before .pdm3 .ensures) (simp (c .before .before .before .before .before .before .before .if1 .left))
+returns-2 c = simp (← (c .before .ccor .ensures), ← (c .before .before .log .ensures), ← (c .before .before .before .before .mixed .ensures), ← (c .before .before .before .before .before .pdl1 .ensures), ← (c .before .before .before .before .before .before .pdm3 .ensures)) (simp ((c .before .before .before .before .before .before .before .if1 .left)))
 
 pub o2-mixed-spec : {M : Type 1} → statement M
 o2-mixed-spec =

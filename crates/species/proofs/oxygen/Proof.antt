@@ -9,7 +9,7 @@ density-requires c κs = search needs
 
 returns : tie.Need-returns
 unfolding oxygenOf
-returns c = simp (← c .density .ensures) (simp (c .before .if1 .taken))
+returns c = simp (← (c .density .ensures)) (simp ((c .before .if1 .taken)))
 
 pdm1-requires : tie.Need-pdm1-requires
 pdm1-requires c κs = search needs
@@ -73,7 +73,7 @@ ccor-requires c κs = search needs
 
 returns-2 : tie.Need-returns-2
 unfolding oxygenOf
-returns-2 c = simp (← c .before .ccor .ensures, ← c .before .before .ccor2 .ensures, ← c .before .before .before .mixed .ensures, ← c .before .before .before .before .pdl1 .ensures, ← c .before .before .before .before .before .pdm1 .ensures) (simp (c .before .before .before .before .before .before .if1 .left))
+returns-2 c = simp (← (c .before .ccor .ensures), ← (c .before .before .ccor2 .ensures), ← (c .before .before .before .mixed .ensures), ← (c .before .before .before .before .pdl1 .ensures), ← (c .before .before .before .before .before .pdm1 .ensures)) (simp ((c .before .before .before .before .before .before .if1 .left)))
 
 pub oxygen-spec : {M : Type 1} → statement M
 oxygen-spec =

@@ -24,7 +24,7 @@ temperature-in-requires c κs = search needs
 
 returns : tie.Need-returns
 unfolding temperatureOf
-returns c = simp (← c .temperature-in .ensures, ← c .before .densu5 .ensures, ← c .before .before .pdl1 .ensures, ← c .before .before .before .ptm .ensures)
+returns c = simp (← (c .temperature-in .ensures), ← (c .before .densu5 .ensures), ← (c .before .before .pdl1 .ensures), ← (c .before .before .before .ptm .ensures))
 
 pub temperature-spec : {M : Type 1} → statement M
 temperature-spec =

@@ -37,7 +37,7 @@ argon-requires c κs = search needs
 returns : tie.Need-returns
 unfolding argonPlan
 returns c = let A = (c .before .before .before .before .before .args) in
-    species-law (A .l) (λ (x : Float). argonOf (A .h) (A .t1 ‼ 15) (A .z) (A .b28) x (A .zhm) (A .xmm)) (A .t1 ‼ 21) PD5 pdmT4
+    species-law (A .l) (λ (x : Float). argonOf (A .h) (A .t1 ‼ 15) (A .p .z) (A .b28) x (A .zhm) (A .xmm)) (A .t1 ‼ 21) PD5 pdmT4
     (c .argon .result)
     (c .before .exp .result)
     (c .before .before .before .pdm4 .result)

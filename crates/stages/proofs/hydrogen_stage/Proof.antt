@@ -37,7 +37,7 @@ hydrogen-requires c κs = search needs
 returns : tie.Need-returns
 unfolding hydrogenPlan
 returns c = let A = (c .before .before .before .before .before .args) in
-    species-law (A .l) (λ (x : Float). hydrogenOf (A .h) (A .t1 ‼ 15) (A .z) (A .b28) x (A .zhm) (A .xmm)) (A .t1 ‼ 21) PD6 pdmT5
+    species-law (A .l) (λ (x : Float). hydrogenOf (A .h) (A .t1 ‼ 15) (A .p .z) (A .b28) x (A .zhm) (A .xmm)) (A .t1 ‼ 21) PD6 pdmT5
     (c .hydrogen .result)
     (c .before .exp .result)
     (c .before .before .before .pdm5 .result)

@@ -37,7 +37,7 @@ n2-requires c κs = search needs
 returns : tie.Need-returns
 unfolding n2Plan
 returns c = let A = (c .before .before .before .before .before .args) in
-    species-law (A .l) (λ (x : Float). n2Of (A .h) (A .t1 ‼ 15) (A .z) x (A .zhf)) (A .t1 ‼ 21) PD2 pdmT2
+    species-law (A .l) (λ (x : Float). n2Of (A .h) (A .t1 ‼ 15) (A .p .z) x (A .zhf)) (A .t1 ‼ 21) PD2 pdmT2
     (c .n2 .result)
     (c .before .exp .result)
     (c .before .before .before .pdm2 .result)

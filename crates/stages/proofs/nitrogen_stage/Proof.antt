@@ -37,7 +37,7 @@ nitrogen-requires c κs = search needs
 returns : tie.Need-returns
 unfolding nitrogenPlan
 returns c = let A = (c .before .before .before .before .before .args) in
-    species-law (A .l) (λ (x : Float). nitrogenOf (A .h) (A .t1 ‼ 15) (A .z) (A .b28) x (A .zhm) (A .xmm)) (A .t1 ‼ 21) PD7 pdmT6
+    species-law (A .l) (λ (x : Float). nitrogenOf (A .h) (A .t1 ‼ 15) (A .p .z) (A .b28) x (A .zhm) (A .xmm)) (A .t1 ‼ 21) PD7 pdmT6
     (c .nitrogen .result)
     (c .before .exp .result)
     (c .before .before .before .pdm6 .result)

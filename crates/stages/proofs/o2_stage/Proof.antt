@@ -37,7 +37,7 @@ o2-requires c κs = search needs
 returns : tie.Need-returns
 unfolding o2Plan
 returns c = let A = (c .before .before .before .before .before .args) in
-    species-law (A .l) (λ (x : Float). o2Of (A .h) (A .t1 ‼ 15) (A .z) (A .b28) x (A .zhm) (A .xmm) (A .flux)) (A .t1 ‼ 21) PD4 pdmT3
+    species-law (A .l) (λ (x : Float). o2Of (A .h) (A .t1 ‼ 15) (A .p .z) (A .b28) x (A .zhm) (A .xmm) (A .flux)) (A .t1 ‼ 21) PD4 pdmT3
     (c .o2 .result)
     (c .before .exp .result)
     (c .before .before .before .pdm3 .result)

@@ -37,7 +37,7 @@ oxygen-requires c κs = search needs
 returns : tie.Need-returns
 unfolding oxygenPlan
 returns c = let A = (c .before .before .before .before .before .args) in
-    species-law (A .l) (λ (x : Float). oxygenOf (A .h) (A .t1 ‼ 15) (A .z) x (A .zhm) (A .xmm) (A .flux)) (A .t1 ‼ 21) PD1 pdmT1
+    species-law (A .l) (λ (x : Float). oxygenOf (A .h) (A .t1 ‼ 15) (A .p .z) x (A .zhm) (A .xmm) (A .flux)) (A .t1 ‼ 21) PD1 pdmT1
     (c .oxygen .result)
     (c .before .exp .result)
     (c .before .before .before .pdm1 .result)

@@ -39,7 +39,7 @@ nitrogen-stage-requires c κs = search needs
 
 returns : tie.Need-returns
 returns c = let A = (c .before .before .before .before .before .before .before .before .args) in
-    species-law (A .sw) (A .h) (A .z) (A .b28) (A .flux) (A .l)
+    species-law (A .sw) (A .h) (A .p .z) (A .b28) (A .flux) (A .l)
     (c .nitrogen-stage .result)
     (c .before .hydrogen-stage .result)
     (c .before .before .argon-stage .result)
