@@ -1,8 +1,5 @@
 // log on f64, by whole numbers alone. The digits are multiplied by a short reciprocal, which leaves a number little below
 // 1, and a short series gives its logarithm.
-use fixed_point::apart;
-use fixed_point::below;
-use std::num::nearest_u64_to_f64;
 ghost use mathlib.Core.Path.{_≡_};
 ghost use mathlib.Core.Bool.{not};
 ghost use Prim.Native.Nat.{ℕ, _+_, _*_, _/_, _^_, _<_, _≤_};
@@ -180,14 +177,14 @@ pub fn log1m(z: u64) -> u64
     z + q * tail(s) / 1048576
 }
 
-// (p - n) / 2^53 as a float. The remainder changes nothing: it tells the compiler that the number has no sign bit.
-pub fn difference(p: u64, n: u64) -> f64
-    requires { ⌜ (p < n + 2 ^ 63) × (n < 2 ^ 63) ⌝ }
-    ensures { λ r. ⌜ r ≡ differenceOf p n ⌝ }
+// (u - 2^63) / 2^53, rounded once. The upper digits make a float from 2^31 on and the lower ones one from 1/2 on, by their
+// bits; what both have too much is taken off exactly. A cast of |u - 2^63| and a sign would take twice as many steps.
+pub fn difference(u: u64) -> f64
+    ensures { λ r. ⌜ r ≡ differenceOf u (2 ^ 63) ⌝ }
 {
-    let d = apart(p, n) % 9223372036854775808;
-    let s = below(p, n);
-    nearest_u64_to_f64(d) * f64::from_bits(4368491638549381120 + s * 9223372036854775808)
+    let upper = f64::from_bits(4746794007248502784 + u / 4294967296);
+    let lower = f64::from_bits(4602678819172646912 + u % 4294967296);
+    upper - 2147484672.5 + lower
 }
 
 // The logarithm of (1 + t / 2^52) * 2^(e - 1023).
@@ -198,7 +195,7 @@ pub fn digits(e: u64, t: u64) -> f64
     let i = t / 35184372088832;
     let z = (4611686018427387904 - (t + 4503599627370496) * reciprocal_at(i)) / 16;
     let w = (logarithm_at(i) + 288230376151711744 - log1m(z)) / 32;
-    difference(e * 6243314768165359 + w, 6395918207087903249)
+    difference(e * 6243314768165359 + w + 2827453829766872559)
 }
 
 pub fn log(x: f64) -> f64
