@@ -1,5 +1,6 @@
 // Our one-altitude call against the Rust: the eleven numbers to the bit, the refusals, pairs under the shut-off list, the 1E-6 rule,
 // the published samples, calls of each elementary function, and time per call.
+mod expansions;
 use std::time::Instant;
 
 type Input = untouched::astro::atmosphere::NrlmsiseInput;
@@ -689,6 +690,7 @@ fn main() {
         Some("differential") => differential(&mut g, count),
         Some("pairs") => pairs(&mut g, count),
         Some("states") => states(&mut g, count),
+        Some("expansions") => expansions::expansions(&mut g, count),
         Some("columns") => columns(&mut g, count),
         Some("near") => near(&mut g, count),
         Some("samples") => samples(&args[2]),
@@ -706,7 +708,7 @@ fn main() {
             0
         }
         _ => {
-            eprintln!("model differential|pairs|states|columns|near [SEED] [COUNT], forms SEED COUNT INPUT OUTPUT, samples FILE, counts, time");
+            eprintln!("model differential|pairs|states|expansions|columns|near [SEED] [COUNT], forms SEED COUNT INPUT OUTPUT, samples FILE, counts, time");
             std::process::exit(2);
         }
     };
