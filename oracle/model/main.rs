@@ -1,5 +1,7 @@
 // Our one-altitude call against the Rust: the eleven numbers to the bit, the refusals, pairs under the shut-off list, the 1E-6 rule,
 // the published samples, calls of each elementary function, and time per call.
+mod expansions;
+mod lines;
 use std::time::Instant;
 
 type Input = untouched::astro::atmosphere::NrlmsiseInput;
@@ -619,67 +621,6 @@ fn time_column() {
     println!("a column of 512 from 0 to 1000 km, ns per altitude: {best:.0}, the untouched Rust {best_rust:.0}, ratio {:.2}{}", best / best_rust, if sum == 1.5 { "!" } else { "" });
 }
 
-// Forms of the line program in thousandths, and beside them the answers that document 01 and the routed Rust give.
-fn forms(g: &mut Random, count: u64, input: &str, output: &str) {
-    let thousandths = |g: &mut Random, lo: i64, hi: i64| match g.below(8) {
-        0 => lo,
-        1 => hi,
-        2 => hi + 500 * g.below(2) as i64,
-        _ => lo + g.below((hi - lo + 1) as u64) as i64,
-    };
-    let (mut forms, mut answers) = (String::new(), String::new());
-    for _ in 0..count {
-        let mut w = row_of(g);
-        w.iter_mut().for_each(|x| *x %= 1_000_000_000);
-        let edge = (EDGES[g.below(20) as usize] * 1000.0) as i64 + g.below(3) as i64 - 1;
-        let alt = if g.below(2) == 0 { edge.max(0) } else { thousandths(g, 0, 2_500_000) };
-        let n = [
-            thousandths(g, 0, 86_400_000),
-            alt,
-            thousandths(g, -90_000, 90_000),
-            thousandths(g, -1_000_000, 1_000_000),
-            thousandths(g, -24_000, 48_000),
-            60_000 + g.below(200_000) as i64,
-            60_000 + g.below(200_000) as i64,
-            thousandths(g, 0, 400_000),
-        ];
-        let history: [i64; 7] = std::array::from_fn(|_| g.below(400_001) as i64);
-        let there = g.below(2) == 0;
-        let year = g.below(4000) as i32 - 1000;
-        let doy = 1 + g.below(367) as i32;
-        let x = |k: i64| k as f64 / 1000.0;
-        let r = Input {
-            year,
-            doy,
-            sec: x(n[0]),
-            alt: x(n[1]),
-            g_lat: x(n[2]),
-            g_long: x(n[3]),
-            lst: x(n[4]),
-            f107a: x(n[5]),
-            f107: x(n[6]),
-            ap: x(n[7]),
-            ap_array: there.then(|| history.map(x)),
-        };
-        let join = |xs: Vec<String>| xs.join(" ");
-        let names = ["sec", "alt", "g_lat", "g_long", "lst", "f107a", "f107", "ap"];
-        let fields = join(names.iter().zip(n).map(|(name, v)| format!("({name} {v})")).collect());
-        let array = if there { format!(" (ap_array {})", join(history.iter().map(|v| v.to_string()).collect())) } else { String::new() };
-        let switches = join(w.iter().map(|v| v.to_string()).collect());
-        forms += &format!("(run (year {year}) (doy {doy}) {fields}{array} (switches {switches}))\n");
-        let want = judged(&r, &w);
-        if want == (0, 0) {
-            let (row, _) = routed::astro::atmosphere::shim::gtd7(&to_routed(&r), w);
-            let bits = |v: &f64| if v.is_nan() { "7ff8000000000000".to_string() } else { format!("{:016x}", v.to_bits()) };
-            answers += &format!("(row {})\n", join(row.iter().map(bits).collect()));
-        } else {
-            answers += &format!("(refused {} {})\n", want.0, want.1);
-        }
-    }
-    std::fs::write(input, forms).expect("the file of forms");
-    std::fs::write(output, answers).expect("the file of answers");
-}
-
 fn main() {
     let args: Vec<String> = std::env::args().collect();
     let number = |i: usize, default: u64| args.get(i).and_then(|x| x.parse().ok()).unwrap_or(default);
@@ -689,7 +630,10 @@ fn main() {
         Some("differential") => differential(&mut g, count),
         Some("pairs") => pairs(&mut g, count),
         Some("states") => states(&mut g, count),
+        Some("expansions") => expansions::expansions(&mut g, count),
         Some("columns") => columns(&mut g, count),
+        Some("lines") => lines::good(&args[4], &mut g, count),
+        Some("hostile") => lines::hostile(&args[4], &mut g, count),
         Some("near") => near(&mut g, count),
         Some("samples") => samples(&args[2]),
         Some("counts") => {
@@ -702,11 +646,11 @@ fn main() {
             0
         }
         Some("forms") => {
-            forms(&mut g, count, &args[4], &args[5]);
+            lines::forms(&mut g, count, &args[4], &args[5]);
             0
         }
         _ => {
-            eprintln!("model differential|pairs|states|columns|near [SEED] [COUNT], forms SEED COUNT INPUT OUTPUT, samples FILE, counts, time");
+            eprintln!("model differential|pairs|states|expansions|columns|near [SEED] [COUNT], lines|hostile SEED COUNT PROGRAM, forms SEED COUNT INPUT OUTPUT, samples FILE, counts, time");
             std::process::exit(2);
         }
     };

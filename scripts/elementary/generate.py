@@ -80,7 +80,7 @@ ARMS = [
     ("natural_exponential/src/lib.rt", "fine_at", FINE),
     ("circular_tables/src/lib.rt", "sine_at", SINES),
     ("circular_tables/src/lib.rt", "cosine_at", COSINES),
-    ("natural_logarithm/src/lib.rt", "logarithm_at", LOGARITHMS),
+    ("natural_logarithm/src/lib.rt", "piece_at", [f"Piece({r}, {v})" for r, v in zip(RECIPROCALS, LOGARITHMS)]),
 ]
 SERIES = "elementary_bounds/specs/Series.antt"
 LISTS = [
@@ -110,10 +110,15 @@ if sys.argv[1:] and not check:
 failed = 0
 
 
+def numbers(block):
+    """The numbers of a block, without the indices of its arms."""
+    return [int(v) for v in re.findall(r"\d+", re.sub(r"\d+ =>", "", block))]
+
+
 def settle(path, name, text, start, end, values, block):
     """Replace text[start:end] by block, unless its numbers are the values already."""
     global failed
-    if [int(v) for v in re.findall(r"\d+", re.sub(r"\d+ =>", "", text[start:end]))] == values:
+    if numbers(text[start:end]) == values:
         return
     if check:
         print(f"{path}: {name} differs from what generate.py makes")
@@ -126,8 +131,9 @@ def settle(path, name, text, start, end, values, block):
 for path, name, values in ARMS:
     text = (ROOT / path).read_text()
     start = text.index("    match i {\n", text.index(f"pub fn {name}(")) + len("    match i {\n")
-    end = text.index("        _ => 0,", start)
-    settle(path, name, text, start, end, values, "".join(f"        {i} => {v},\n" for i, v in enumerate(values)))
+    end = text.index("        _ => ", start)
+    block = "".join(f"        {i} => {v},\n" for i, v in enumerate(values))
+    settle(path, name, text, start, end, numbers(block), block)
 
 for path, name, values, row in LISTS:
     text = (ROOT / path).read_text()

@@ -105,7 +105,7 @@ def log(x):
     g = z + q * h // 2**20
     w = (LOGARITHM[i] + 2**58 - g) // 32
     p, n = e * L + w, 1023 * L + 2**53
-    size = nearest(abs(p - n), 1) * 2.0**-53
+    size = nearest(abs(p - n), 2**53)
     return -size if p < n else size
 
 

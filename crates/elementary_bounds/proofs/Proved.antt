@@ -56,23 +56,23 @@ CosNear-is (fin s m e) h = cos-near s m e h
 
 -- ---- log
 
-plus-value : (y : Float) (p n d : ℕ) → HasValue y false (d * 1) (1 * 2 ^ 53) → p ≡ n + d → HasDifference y p n (2 ^ 53)
+plus-value : (y : Float) (p n d : ℕ) → HasValue y false d (2 ^ 53) → p ≡ n + d → HasDifference y p n (2 ^ 53)
 plus-value nan p n d v e = absurd v
 plus-value (inf s) p n d v e = absurd v
 plus-value (fin true m i) p n d v e = clash (v .0)
 plus-value (fin false m i) p n d v e = total (m * up i) (down i) (2 ^ 53) p n d (v .1) e
   where
-    total : (a D C p n d : ℕ) → a * (1 * C) ≡ d * 1 * D → p ≡ n + d → a * C + n * D ≡ p * D
+    total : (a D C p n d : ℕ) → a * C ≡ d * D → p ≡ n + d → a * C + n * D ≡ p * D
     total a D C p n d e f = omega (arith, ap (λ (z : ℕ). z * D) f)
 
-minus-value : (y : Float) (p n d : ℕ) → HasValue y false (d * 1) (1 * 2 ^ 53) → n ≡ p + d → HasDifference (neg y) p n (2 ^ 53)
+minus-value : (y : Float) (p n d : ℕ) → HasValue y false d (2 ^ 53) → n ≡ p + d → HasDifference (neg y) p n (2 ^ 53)
 unfolding neg
 minus-value nan p n d v e = absurd v
 minus-value (inf s) p n d v e = absurd v
 minus-value (fin true m i) p n d v e = clash (v .0)
 minus-value (fin false m i) p n d v e = total (m * up i) (down i) (2 ^ 53) p n d (v .1) e
   where
-    total : (a D C p n d : ℕ) → a * (1 * C) ≡ d * 1 * D → n ≡ p + d → a * C + p * D ≡ n * D
+    total : (a D C p n d : ℕ) → a * C ≡ d * D → n ≡ p + d → a * C + p * D ≡ n * D
     total a D C p n d e f = omega (arith, ap (λ (z : ℕ). z * D) f)
 
 difference-value : (p n : ℕ) → p < n + 2 ^ 53 → n < p + 2 ^ 53 → HasDifference (differenceOf p n) p n (2 ^ 53)

@@ -1,12 +1,12 @@
 -- Bounds of the tables of log, and of the numbers that it goes through. Assumes nothing.
-use mathlib.Core.Path.{_≡_, sym, ap, subst, _∙_}
-use mathlib.Core.Bool.{Bool, true, false, _&&_}
+use mathlib.Core.Path.{sym, subst, _∙_}
+use mathlib.Core.Bool.{Bool, true, _&&_}
 use mathlib.Core.List.{List, [], _∷_}
 use Prim.Native.Nat.{ℕ, zero, suc, _+_, _-_, _*_, _/_, _%_, _^_, _≤_, _<_}
 use native.Mathlib.Omega.{arith}
 use native.Mathlib.Nat.{le-trans, mul-le-mul-right, not-suc-le-zero, le-of-suc-le-suc, suc-add, add-suc, add-zero, zero-add}
 use lib.ListN.{length, getD}
-use lib.Dec.{T, eqb, eqb→eq, leb, leb→le}
+use lib.Dec.{T, leb, leb→le}
 use lib.Ieee.Fits.{and-l, and-r}
 use Rattle.fixed_point.proofs.Product.{below-mul}
 use Rattle.fixed_point.proofs.Table.{at-most}
@@ -67,10 +67,6 @@ module _ (z : ℕ) (h : z ≤ 2470000000000000) where
 
 -- ---- the tables
 
-pub reciprocals-le : (i : ℕ) → getD reciprocals i 0 ≤ 1023
-unfolding reciprocals
-reciprocals-le i = at-most 1023 reciprocals i tt
-
 pub logarithms-le : (i : ℕ) → getD logarithms i 0 ≤ 2 ^ 58
 unfolding logarithms
 logarithms-le i = at-most (2 ^ 58) logarithms i tt
@@ -79,20 +75,6 @@ logarithms-le i = at-most (2 ^ 58) logarithms i tt
 pub logarithms-less : (i : ℕ) → getD logarithms i 0 ≤ 200000000000000000
 unfolding logarithms
 logarithms-less i = at-most 200000000000000000 logarithms i tt
-
--- the reciprocals by division
-abbrev divided : ℕ → List ℕ → Bool
-divided i [] = true
-divided i (r ∷ rs) = eqb (131072 / (129 + i)) r && divided (suc i) rs
-
-quotients : (i : ℕ) (rs : List ℕ) → T (divided i rs) → (n : ℕ) → n < length rs → 131072 / (129 + (i + n)) ≡ getD rs n 0
-quotients i [] t n h = absurd (not-suc-le-zero h)
-quotients i (r ∷ rs) t zero h = ap (λ (j : ℕ). 131072 / (129 + j)) (add-zero i) ∙ eqb→eq (131072 / (129 + i)) r (and-l (eqb (131072 / (129 + i)) r) (divided (suc i) rs) t)
-quotients i (r ∷ rs) t (suc n) h = ap (λ (j : ℕ). 131072 / (129 + j)) (add-suc i n ∙ sym (suc-add i n)) ∙ quotients (suc i) rs (and-r (eqb (131072 / (129 + i)) r) (divided (suc i) rs) t) n (le-of-suc-le-suc h)
-
-pub reciprocal-is : (i : ℕ) → i < 128 → 131072 / (129 + i) ≡ getD reciprocals i 0
-unfolding reciprocals
-reciprocal-is i h = ap (λ (j : ℕ). 131072 / (129 + j)) (sym (zero-add i)) ∙ quotients 0 reciprocals tt i h
 
 -- each reciprocal is none too large at its piece's upper end, and little too small at its lower end
 abbrev inside : ℕ → ℕ → Bool

@@ -1,16 +1,13 @@
 -- The cases of log's definition, and its last step. Assumes nothing.
 use mathlib.Core.Path.{_≡_, refl, sym, ap, _∙_}
-use mathlib.Core.Bool.{Bool, true, false, not, cond}
+use mathlib.Core.Bool.{Bool, true, false, cond}
 use Prim.Native.Nat.{ℕ, _+_, _-_, _*_, _/_, _%_, _^_, _≤_, _<_}
 use native.Mathlib.Omega.{arith}
 use native.Mathlib.Nat.{add-comm}
 use borrow.Author.Tests.{lt-ltb, le-ltb, ltb-true, ltb-false}
-use lib.Dec.{T, ltb}
-use lib.IntN.{pos, negsuc}
-use lib.Ieee.{Float, nan, inf, fin, binary64, ofInt, ofBits, nanBits, toBits, mul, neg, lt, eq, isNan}
-use Rattle.fixed_point.specs.Fixed.{apartOf}
-use Rattle.fixed_point.specs.Float.{one, nought, tiny, digit}
-use Rattle.fixed_point.proofs.Negative.{mul-minus}
+use lib.Dec.{ltb}
+use lib.Ieee.{Float, nan, inf, binary64, toBits, neg, lt, eq, isNan}
+use Rattle.fixed_point.specs.Float.{one, nought, tiny}
 use Rattle.natural_logarithm.specs.Log.{fractionOf, differenceOf, withinOf, digitsOf, logOf}
 
 pub difference-plus : (p n : ℕ) → n ≤ p → differenceOf p n ≡ fractionOf (p - n)
@@ -19,32 +16,8 @@ difference-plus p n h = ap (λ (b : Bool). cond b (neg (fractionOf (n - p))) (fr
 pub difference-minus : (p n : ℕ) → p < n → differenceOf p n ≡ neg (fractionOf (n - p))
 difference-minus p n h = ap (λ (b : Bool). cond b (neg (fractionOf (n - p))) (fractionOf (p - n))) (lt-ltb p n h)
 
--- 2 ^ -53 with a sign bit
-abbrev pub factor : ℕ → ℕ
-factor s = 4368491638549381120 + s * 9223372036854775808
-
-pub factor-no-nan : (b : Bool) → T (not (nanBits binary64 (factor (digit b))))
-unfolding nanBits
-factor-no-nan true = tt
-factor-no-nan false = tt
-
--- by the size and the sign
-pub difference-is : (p n : ℕ) → p < n + 2 ^ 63 → n < 2 ^ 63 → mul binary64 (ofInt binary64 (pos (apartOf p n % 2 ^ 63))) (ofBits binary64 (factor (digit (ltb p n)))) ≡ differenceOf p n
-unfolding ofBits
-difference-is p n h k = go (ltb p n) refl
-  where
-    up : (p n : ℕ) → p < n + 2 ^ 63 → n ≤ p → (p - n) % 2 ^ 63 ≡ p - n
-    up p n h l = omega arith
-
-    down : (p n : ℕ) → n < 2 ^ 63 → p < n → (n - p) % 2 ^ 63 ≡ n - p
-    down p n k l = omega arith
-
-    go : (b : Bool) → ltb p n ≡ b → mul binary64 (ofInt binary64 (pos (cond b (n - p) (p - n) % 2 ^ 63))) (ofBits binary64 (factor (digit b))) ≡ cond b (neg (fractionOf (n - p))) (fractionOf (p - n))
-    go true e = ap (λ (d : ℕ). mul binary64 (ofInt binary64 (pos d)) (fin true 1 (negsuc 52))) (down p n k (ltb-true p n e)) ∙ mul-minus (ofInt binary64 (pos (n - p))) (negsuc 52)
-    go false e = ap (λ (d : ℕ). mul binary64 (ofInt binary64 (pos d)) (fin false 1 (negsuc 52))) (up p n h (ltb-false p n e))
-
 -- the same number on both sides changes nothing
-difference-shift : (p n k : ℕ) → differenceOf (p + k) (n + k) ≡ differenceOf p n
+pub difference-shift : (p n k : ℕ) → differenceOf (p + k) (n + k) ≡ differenceOf p n
 difference-shift p n k = go (ltb p n) refl
   where
     same : (p n k : ℕ) → p + k - (n + k) ≡ p - n

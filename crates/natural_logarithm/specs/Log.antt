@@ -1,11 +1,10 @@
 -- log as arithmetic on whole numbers.
-use Prim.Native.Nat.{ℕ, zero, suc, _+_, _-_, _*_, _/_, _%_, _^_}
-use mathlib.Core.Bool.{Bool, true, false, cond}
+use Prim.Native.Nat.{ℕ, _+_, _-_, _*_, _/_, _%_, _^_}
+use mathlib.Core.Bool.{true, false, cond}
 use mathlib.Core.List.{List, [], _∷_}
 use lib.ListN.{getD}
 use lib.Dec.{ltb}
-use lib.IntN.{pos, negsuc}
-use lib.Ieee.{Float, nan, inf, fin, binary64, ofInt, toBits, mul, neg, lt, eq, isNan}
+use lib.Ieee.{Float, nan, inf, binary64, round, toBits, neg, lt, eq, isNan}
 use Rattle.fixed_point.specs.Fixed.{termOf}
 use Rattle.fixed_point.specs.Float.{one, nought}
 use Rattle.fixed_point.specs.Float.{tiny}
@@ -64,9 +63,9 @@ squareOf s l = (s * s + s * l / 2 ^ 19) / 2 ^ 31
 abbrev pub log1mOf : ℕ → ℕ
 log1mOf z = z + squareOf (z / 2 ^ 20) (z % 2 ^ 20) * tailOf (z / 2 ^ 20) / 2 ^ 20
 
--- d / 2 ^ 53, and (p - n) / 2 ^ 53
+-- the nearest to d / 2 ^ 53, and to (p - n) / 2 ^ 53
 abbrev pub fractionOf : ℕ → Float
-fractionOf d = mul binary64 (ofInt binary64 (pos d)) (fin false 1 (negsuc 52))
+fractionOf d = round binary64 false d (2 ^ 53)
 
 abbrev pub differenceOf : ℕ → ℕ → Float
 differenceOf p n = cond (ltb p n) (neg (fractionOf (n - p))) (fractionOf (p - n))

@@ -55,21 +55,17 @@ pub fn nearest(a: u64, guess: u64) -> u64
     lowered(a, guess)
 }
 
-// A number near the root of z in units of 2^-52, by Newton's steps on floats. Nothing is promised of it but its size:
-// `nearest` corrects it. The polynomial is split so that its terms do not wait for each other; g has 26 digits, so that its
-// square and what z is more are exact.
+// A number near the root of z in units of 2^-52: a cubic, Heron's step, and two terms of what is left. Nothing is promised
+// of it but its size: `nearest` corrects it. The cubic is split so that its terms do not wait for each other; g has 26
+// digits, so that its square and what z is more are exact.
 pub fn guess(z: f64) -> u64
     ensures { λ r. ⌜ (2 ^ 52 ≤ r) × (r < 2 ^ 53) ⌝ }
 {
-    let w = z * z;
-    let h = z * 0.5;
-    let y0 = (1.731236 - 1.088586 * z) + w * ((0.435038 - 0.087187 * z) + 0.00681 * w);
-    let y1 = y0 * (1.5 - h * y0 * y0);
-    let y2 = y1 * (1.5 - h * y1 * y1);
-    let g = (z * y2 + 201326592.0) - 201326592.0;
-    let k = y2 * 0.5;
+    let y = (0.450156 + 0.637129 * z) + z * z * (0.007556 * z - 0.092585);
+    let g = (0.5 * (y + z / y) + 201326592.0) - 201326592.0;
+    let k = 0.5 / g;
     let d = k * (z - g * g);
-    let r = g + (d + d * d * k);
+    let r = g + (d - d * d * k);
     if r < 1.0 {
         return 4503599627370496;
     }

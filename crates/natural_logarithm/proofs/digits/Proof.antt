@@ -1,59 +1,68 @@
 -- `natural_logarithm::digits` meets its contract. Assumes nothing.
-use mathlib.Core.Path.{_≡_, sym, ap, subst}
-use Prim.Native.Nat.{ℕ, _+_, _-_, _*_, _/_, _^_, _≤_, _<_}
+use mathlib.Core.Path.{_≡_, sym, ap, _∙_, subst}
+use Prim.Native.Nat.{ℕ, _+_, _-_, _*_, _/_, _^_, _≤_}
 use native.Mathlib.Omega.{arith}
 use borrow.Author.Needs.{needs}
 use lib.ListN.{getD}
-use Rattle.natural_logarithm.specs.Log.{reciprocals, shortOf}
-use Rattle.fixed_point.proofs.Product.{below-mul}
-use Rattle.natural_logarithm.proofs.LogBound.{reciprocals-le, logarithms-le, short-some, short-le}
+use Rattle.natural_logarithm.specs.Log.{logarithms, log1mOf, shortOf, withinOf, differenceOf}
+use Rattle.natural_logarithm.proofs.LogBound.{logarithms-le, short-some, short-le}
+use Rattle.natural_logarithm.proofs.LogCases.{difference-shift}
 use Rattle.natural_logarithm.proofs.digits.Statement.{statement}
 use Rattle.natural_logarithm.proofs.digits.Tie as tie
+
+piece-at-requires : tie.Need-piece-at-requires
+piece-at-requires c κs = search needs
 
 add-z : tie.Need-add-z
 add-z c = search needs
 
-reciprocal-at-requires : tie.Need-reciprocal-at-requires
-reciprocal-at-requires c κs = search needs
-
 -- the table's reciprocal leaves something, and little
-module _ (c : tie.After-reciprocal-at) where
+module _ (c : tie.After-piece-at) where
   abbrev t : ℕ
   t = c .before .args .t
 
-  product-le : (t + 2 ^ 52) * c .reciprocal-at .result ≤ 2 ^ 62
-  product-le = subst (λ (r : ℕ). (t + 2 ^ 52) * r ≤ 2 ^ 62) (sym (c .reciprocal-at .ensures)) (short-some t (c .before .pre .1))
+  product-le : (t + 2 ^ 52) * c .piece-at .result .0 ≤ 2 ^ 62
+  product-le = subst (λ (r : ℕ). (t + 2 ^ 52) * r ≤ 2 ^ 62) (sym (c .piece-at .ensures .0)) (short-some t (c .before .pre .1))
 
-  left-le : shortOf t (c .reciprocal-at .result) ≤ 2470000000000000
-  left-le = subst (λ (r : ℕ). shortOf t r ≤ 2470000000000000) (sym (c .reciprocal-at .ensures)) (short-le t (c .before .pre .1))
+  left-le : shortOf t (c .piece-at .result .0) ≤ 2470000000000000
+  left-le = subst (λ (r : ℕ). shortOf t r ≤ 2470000000000000) (sym (c .piece-at .ensures .0)) (short-le t (c .before .pre .1))
+
+  entry-le : c .piece-at .result .1 ≤ 2 ^ 58
+  entry-le = subst (λ (n : ℕ). n ≤ 2 ^ 58) (sym (c .piece-at .ensures .1)) (logarithms-le (t / 2 ^ 45))
 
 mul-z : tie.Need-mul-z
-mul-z c = omega (arith, product-le c)
+mul-z c = omega (arith, product-le (c .before))
 
 sub-z : tie.Need-sub-z
-sub-z c = product-le c
-
-logarithm-at-requires : tie.Need-logarithm-at-requires
-logarithm-at-requires c κs = search needs
-
-entry-le : (c : tie.After-logarithm-at) → c .logarithm-at .result ≤ 2 ^ 58
-entry-le c = subst (λ (n : ℕ). n ≤ 2 ^ 58) (sym (c .logarithm-at .ensures)) (logarithms-le (c .before .before .args .t / 2 ^ 45))
+sub-z c = product-le (c .before)
 
 add-w : tie.Need-add-w
-add-w c = omega (arith, entry-le c)
+add-w c = omega (arith, entry-le (c .before .before))
 
 log1m-requires : tie.Need-log1m-requires
-log1m-requires c κs = left-le (c .before)
+log1m-requires c κs = left-le (c .before .before)
 
 sub-w : tie.Need-sub-w
 sub-w c = omega (arith, c .log1m .ensures .1)
 
--- less than 1 and log 2, and 1 more
-w-lt : (c : tie.After-log1m) → (c .before .logarithm-at .result + 2 ^ 58 - c .log1m .result) / 32 ≤ 2 ^ 54
-w-lt c = cut (c .before .logarithm-at .result) (c .log1m .result) (entry-le (c .before))
-  where
-    cut : (a s : ℕ) → a ≤ 2 ^ 58 → (a + 2 ^ 58 - s) / 32 ≤ 2 ^ 54
-    cut a s h = omega arith
+module _ (c : tie.After-log1m) where
+  abbrev piece : tie.After-piece-at
+  piece = c .before .before .before
+
+  abbrev w : ℕ
+  w = (piece .piece-at .result .1 + 2 ^ 58 - c .log1m .result) / 32
+
+  -- less than 1 and log 2, and 1 more
+  w-lt : w ≤ 2 ^ 54
+  w-lt = cut (piece .piece-at .result .1) (c .log1m .result) (entry-le piece)
+    where
+      cut : (a s : ℕ) → a ≤ 2 ^ 58 → (a + 2 ^ 58 - s) / 32 ≤ 2 ^ 54
+      cut a s h = omega arith
+
+  within-is : w ≡ withinOf (t piece)
+  within-is =
+      ap (λ (a : ℕ). (a + 2 ^ 58 - c .log1m .result) / 32) (piece .piece-at .ensures .1)
+      ∙ ap (λ (s : ℕ). (getD logarithms (t piece / 2 ^ 45) 0 + 2 ^ 58 - s) / 32) (c .log1m .ensures .0 ∙ ap (λ (r : ℕ). log1mOf (shortOf (t piece) r)) (piece .piece-at .ensures .0))
 
 mul-difference : tie.Need-mul-difference
 mul-difference c = search needs
@@ -61,11 +70,19 @@ mul-difference c = search needs
 add-difference : tie.Need-add-difference
 add-difference c = omega (arith, w-lt c)
 
+add-difference-2 : tie.Need-add-difference-2
+add-difference-2 c = omega (arith, w-lt c, piece c .before .pre .0)
+
 difference-requires : tie.Need-difference-requires
-difference-requires c κs = (omega (arith, w-lt c, c .before .before .before .pre .0), omega arith)
+difference-requires c κs = search needs
 
 returns : tie.Need-returns
-returns c = cc
+returns c =
+    let s = piece (c .before) .before in
+    let p = s .args .e * 6243314768165359 in
+    c .difference .ensures
+    ∙ ap (λ (w : ℕ). differenceOf (p + w + 2827453829766872559) (2 ^ 63)) (within-is (c .before))
+    ∙ difference-shift (p + withinOf (s .args .t)) (1023 * 6243314768165359 + 2 ^ 53) 2827453829766872559
 
 pub digits-spec : {M : Type 1} → statement M
-digits-spec = tie.close (tie.spec add-z reciprocal-at-requires mul-z sub-z logarithm-at-requires add-w log1m-requires sub-w mul-difference add-difference difference-requires returns)
+digits-spec = tie.close (tie.spec piece-at-requires add-z mul-z sub-z add-w log1m-requires sub-w mul-difference add-difference add-difference-2 difference-requires returns)

@@ -1,11 +1,11 @@
 -- `natural_logarithm::log` meets its contract. Assumes nothing.
-use mathlib.Core.Path.{_≡_, sym, ap, _∙_, subst}
-use mathlib.Core.Bool.{Bool, true, false, not}
+use mathlib.Core.Path.{_≡_, sym, _∙_, subst}
+use mathlib.Core.Bool.{Bool, false, not}
 use borrow.Author.Needs.{needs}
 use lib.Dec.{T}
-use lib.Ieee.{Float, binary64, inf, ofBits, nanBits, div, neg, lt, eq, isNan}
+use lib.Ieee.{inf, ofBits, nanBits, div, neg, lt, eq, isNan}
 use lib.Ieee.Compare.{differs-from-itself}
-use Rattle.fixed_point.specs.Float.{one, nought}
+use Rattle.fixed_point.specs.Float.{nought}
 use Rattle.fixed_point.specs.Float.{tiny}
 use Rattle.fixed_point.proofs.Range.{is-nan}
 use Rattle.natural_logarithm.proofs.LogCases.{log-nan, log-negative, log-tiny, log-infinite, log-one, log-digits}

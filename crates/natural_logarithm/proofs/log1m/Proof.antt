@@ -1,9 +1,9 @@
 -- `natural_logarithm::log1m` meets its contract. Assumes nothing.
-use mathlib.Core.Path.{_≡_, refl, sym, ap, subst}
+use mathlib.Core.Path.{_≡_, sym, ap, subst}
 use Prim.Native.Nat.{ℕ, _+_, _*_, _/_, _%_, _^_, _≤_}
 use native.Mathlib.Omega.{arith}
 use borrow.Author.Needs.{needs}
-use Rattle.natural_logarithm.specs.Log.{squareOf, tailOf, log1mOf}
+use Rattle.natural_logarithm.specs.Log.{squareOf, log1mOf}
 use Rattle.natural_logarithm.proofs.LogBound.{square-product, cross-product, log1m-product, log1m-le}
 use Rattle.natural_logarithm.proofs.log1m.Statement.{statement}
 use Rattle.natural_logarithm.proofs.log1m.Tie as tie

@@ -1,19 +1,18 @@
--- `natural_logarithm::logarithm_at` meets its contract. Assumes nothing.
-use mathlib.Core.Path.{_≡_}
+-- `natural_logarithm::piece_at` meets its contract. Assumes nothing.
 use native.Mathlib.Omega.{arith}
 use borrow.Author.Needs.{needs}
-use Rattle.natural_logarithm.specs.Log.{logarithms}
+use Rattle.natural_logarithm.specs.Log.{reciprocals, logarithms}
 use Rattle.fixed_point.proofs.Rest.{rest-above}
-use Rattle.natural_logarithm.proofs.logarithm_at.Statement.{statement}
-use Rattle.natural_logarithm.proofs.logarithm_at.Tie as tie
+use Rattle.natural_logarithm.proofs.piece_at.Statement.{statement}
+use Rattle.natural_logarithm.proofs.piece_at.Tie as tie
 
 -- past the last key: no index is left
 beyond : tie.Need-returns-129
 beyond c = omega (arith, rest-above 128 (c .before .args .i) (c .match .rest))
 
-pub logarithm-at-spec : {M : Type 1} → statement M
-unfolding logarithms
-logarithm-at-spec =
+pub piece-at-spec : {M : Type 1} → statement M
+unfolding reciprocals logarithms
+piece-at-spec =
     tie.close
     (tie.spec
     (λ c. search needs) (λ c. search needs) (λ c. search needs) (λ c. search needs) (λ c. search needs)

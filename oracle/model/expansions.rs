@@ -1,0 +1,262 @@
+// The public globe7 and glob7s against the routed Rust: the refusal, the value and all 78 numbers of State to the bit, from any State, row,
+// record and coefficients.
+use super::{record, row_of, same, spoiled, to_routed, Input, Random};
+use routed::astro::atmosphere::shim;
+
+type Code = unsafe extern "C" fn(
+    i32,
+    i32,
+    *const f64,
+    usize,
+    *const f64,
+    usize,
+    *const i32,
+    usize,
+    *const f64,
+    usize,
+    *const f64,
+    usize,
+) -> u64;
+type Number = unsafe extern "C" fn(
+    i32,
+    i32,
+    *const f64,
+    usize,
+    *const f64,
+    usize,
+    *const i32,
+    usize,
+    *const f64,
+    usize,
+    *const f64,
+    usize,
+    usize,
+) -> f64;
+
+extern "C" {
+    fn globe7_code(
+        year: i32,
+        doy: i32,
+        fields: *const f64,
+        n_fields: usize,
+        ap_array: *const f64,
+        n_ap: usize,
+        switches: *const i32,
+        n_switches: usize,
+        p: *const f64,
+        n_p: usize,
+        state: *const f64,
+        n_state: usize,
+    ) -> u64;
+    fn globe7_number(
+        year: i32,
+        doy: i32,
+        fields: *const f64,
+        n_fields: usize,
+        ap_array: *const f64,
+        n_ap: usize,
+        switches: *const i32,
+        n_switches: usize,
+        p: *const f64,
+        n_p: usize,
+        state: *const f64,
+        n_state: usize,
+        k: usize,
+    ) -> f64;
+    fn glob7s_code(
+        year: i32,
+        doy: i32,
+        fields: *const f64,
+        n_fields: usize,
+        ap_array: *const f64,
+        n_ap: usize,
+        switches: *const i32,
+        n_switches: usize,
+        p: *const f64,
+        n_p: usize,
+        state: *const f64,
+        n_state: usize,
+    ) -> u64;
+    fn glob7s_number(
+        year: i32,
+        doy: i32,
+        fields: *const f64,
+        n_fields: usize,
+        ap_array: *const f64,
+        n_ap: usize,
+        switches: *const i32,
+        n_switches: usize,
+        p: *const f64,
+        n_p: usize,
+        state: *const f64,
+        n_state: usize,
+        k: usize,
+    ) -> f64;
+}
+
+type State = [f64; shim::STATE];
+
+// What a call gives: the refusal with its place, the value, the State.
+struct Given {
+    answer: (u64, u64),
+    numbers: [f64; 1 + shim::STATE],
+}
+
+fn ours(code: Code, number: Number, r: &Input, w: &[i32; 24], p: &[f64], s: &State) -> Given {
+    let f = [r.sec, r.alt, r.g_lat, r.g_long, r.lst, r.f107a, r.f107, r.ap];
+    let ap = r.ap_array.unwrap_or([0.0; 7]);
+    let n_ap = if r.ap_array.is_some() { 7 } else { 0 };
+    let c = unsafe { code(r.year, r.doy, f.as_ptr(), 8, ap.as_ptr(), n_ap, w.as_ptr(), 24, p.as_ptr(), p.len(), s.as_ptr(), s.len()) };
+    let at = |k| unsafe {
+        number(r.year, r.doy, f.as_ptr(), 8, ap.as_ptr(), n_ap, w.as_ptr(), 24, p.as_ptr(), p.len(), s.as_ptr(), s.len(), k)
+    };
+    Given { answer: (c >> 32, c & 0xffff_ffff), numbers: std::array::from_fn(at) }
+}
+
+fn given(answer: (u64, u64), value: f64, s: &State) -> Given {
+    let mut numbers = [value; 1 + shim::STATE];
+    numbers[1..].copy_from_slice(s);
+    Given { answer, numbers }
+}
+
+fn want_globe7(r: &Input, w: &[i32; 24], p: &[f64], s: &State) -> Given {
+    if p.len() != 150 {
+        given((6, 150), 0.0, s)
+    } else if w[9] == -1 && r.ap_array.is_none() {
+        given((1, 10), 0.0, s)
+    } else {
+        let (value, after) = shim::globe7(s, p, &to_routed(r), *w);
+        given((0, 0), value, &after)
+    }
+}
+
+fn want_glob7s(r: &Input, w: &[i32; 24], p: &[f64], s: &State) -> Given {
+    if p.len() < 100 || 150 < p.len() {
+        given((6, 100), 0.0, s)
+    } else {
+        given((0, 0), shim::glob7s(s, p, &to_routed(r), *w), s)
+    }
+}
+
+// A number of any size, an integer, or any bit pattern.
+fn number(g: &mut Random) -> f64 {
+    match g.below(12) {
+        0 => f64::from_bits(g.next()),
+        1 => [0.0, -0.0, 1.0, -1.0, 2.0, f64::NAN, f64::INFINITY, f64::NEG_INFINITY, f64::MIN_POSITIVE, f64::MAX][g.below(10) as usize],
+        2 => g.below(2000) as f64 - 1000.0,
+        3 => g.between(-1.0, 1.0) * 10f64.powi(g.below(600) as i32 - 300),
+        4 => g.between(-1e5, 1e5),
+        _ => g.between(-2.0, 2.0),
+    }
+}
+
+// All zero, wild, or mild with one or no wild number.
+fn state(g: &mut Random) -> State {
+    match g.below(4) {
+        0 => [0.0; shim::STATE],
+        1 => std::array::from_fn(|_| number(g)),
+        2 => {
+            let mut s = std::array::from_fn(|_| g.between(-2.0, 2.0));
+            s[g.below(shim::STATE as u64) as usize] = number(g);
+            s
+        }
+        _ => std::array::from_fn(|_| g.between(-2.0, 2.0)),
+    }
+}
+
+// A shipped set with zeros behind it up to the length, such a set with some numbers changed, or numbers of any kind; then sometimes another
+// length.
+fn coefficients(g: &mut Random, sets: &[Vec<f64>], length: u64) -> Vec<f64> {
+    let mut p = sets[g.below(sets.len() as u64) as usize].clone();
+    p.resize(p.len().max(length as usize), 0.0);
+    match g.below(6) {
+        0 | 1 => {}
+        2 => {
+            for _ in 0..1 + g.below(5) {
+                let k = g.below(p.len() as u64) as usize;
+                p[k] = number(g);
+            }
+        }
+        3 => p = (0..length).map(|_| g.between(-2.0, 2.0)).collect(),
+        4 => p = (0..length).map(|_| if g.below(3) == 0 { 0.0 } else { g.between(-1e-2, 1e-2) }).collect(),
+        _ => p = (0..length).map(|_| number(g)).collect(),
+    }
+    if g.below(12) == 0 {
+        let n = [0, 1, 51, 98, 99, 100, 101, 149, 150, 151, 152, 300][g.below(12) as usize];
+        p.resize(n, 0.5);
+    }
+    // what glob7s asks of p[99], and where globe7 keeps apt
+    if p.len() > 99 && g.below(4) > 0 {
+        p[99] = [0.0, 2.0, -0.0][g.below(3) as usize];
+    }
+    if p.len() > 51 && g.below(8) == 0 {
+        p[51] = [0.0, -0.0][g.below(2) as usize];
+    }
+    p
+}
+
+// Fields beyond every range, with angles that the sine refuses.
+fn far(g: &mut Random, mut r: Input) -> Input {
+    for _ in 0..1 + g.below(4) {
+        let x = number(g) * [1.0, 1e3, 1e6][g.below(3) as usize];
+        match g.below(9) {
+            0 => r.sec = x,
+            1 => r.alt = x,
+            2 => r.g_lat = x,
+            3 => r.g_long = x,
+            4 => r.lst = x,
+            5 => r.f107a = x,
+            6 => r.f107 = x,
+            7 => r.ap = x,
+            _ => r.doy = g.next() as i32,
+        }
+    }
+    r
+}
+
+fn compare(
+    name: &str,
+    g: &mut Random,
+    count: u64,
+    length: u64,
+    calls: (Code, Number),
+    want: fn(&Input, &[i32; 24], &[f64], &State) -> Given,
+) -> u64 {
+    let sets = shim::sets();
+    let (mut accepted, mut nan, mut six, mut one, mut bad) = (0u64, 0u64, 0u64, 0u64, 0u64);
+    let mut last = [0.0; shim::STATE];
+    for i in 0..count {
+        let w = row_of(g);
+        let mut r = record(g);
+        match i % 8 {
+            0 => r = spoiled(g, r),
+            1 => r = far(g, r),
+            _ => {}
+        }
+        let p = coefficients(g, &sets, length);
+        // a State of any kind, or the one that the call before left
+        let s = if g.below(3) == 0 { last } else { state(g) };
+        let have = ours(calls.0, calls.1, &r, &w, &p, &s);
+        let want = want(&r, &w, &p, &s);
+        match want.answer.0 {
+            0 => accepted += 1,
+            1 => one += 1,
+            _ => six += 1,
+        }
+        nan += want.numbers[0].is_nan() as u64;
+        last.copy_from_slice(&want.numbers[1..]);
+        if have.answer != want.answer || !have.numbers.iter().zip(&want.numbers).all(|(a, b)| same(*a, *b)) {
+            bad += 1;
+            if bad <= 3 {
+                println!("{name} differs: answer {:?}, wanted {:?}\n  {r:?}\n  switches {w:?}\n  coefficients {p:?}\n  State {s:?}", have.answer, want.answer);
+                println!("  {:?}\n  {:?}", have.numbers, want.numbers);
+            }
+        }
+    }
+    println!("{name}: {count} calls, {accepted} accepted ({nan} values NaN), refused with 6: {six}, with 1: {one}, {bad} differences");
+    bad
+}
+
+pub fn expansions(g: &mut Random, count: u64) -> u64 {
+    compare("globe7", g, count, 150, (globe7_code, globe7_number), want_globe7) + compare("glob7s", g, count, 100, (glob7s_code, glob7s_number), want_glob7s)
+}
