@@ -2,6 +2,7 @@
 ghost use mathlib.Core.Path.{_≡_};
 ghost use Prim.Native.Nat.{_≤_};
 ghost use lib.ListN.{length};
+ghost use Rattle.setting.specs.Shared.{Shared};
 ghost use Rattle.expansion.specs.Expansion.{early7Of, carriedOf, level7Of, turnsAfterOf, afterOf, globe7Of, level7sOf, glob7sFrom, glob7sOf};
 use activity::apdf_next;
 use activity::apt_next;
@@ -102,10 +103,10 @@ pub fn early7(v: View, p: &[f64], g: [[f64; 9]; 4], d: Seasons) -> Early
 
 // The value of globe7, from what the State after it carries.
 pub fn level7(v: View, p: &[f64], g: [[f64; 9]; 4], s: Carried) -> f64
-    requires { ⌜ length (now p) ≡ 150 ⌝ }
+    requires { ⌜ (length (now p) ≡ 150) × Shared v ⌝ }
     ensures { λ r. ⌜ r ≡ level7Of v (now (p .entry)) g s ⌝ }
 {
-    let d = day_cosines(v.doy, p);
+    let d = day_cosines(v, p);
     let y = early7(v, p, g, d);
     let fb = f2(p, v.df, v.dfa, v.swc[1]);
     let x6 = t6(p, g, v.sw[7], fb, d.cd14, v.swc[5], s.ctloc, s.stloc);
@@ -184,7 +185,7 @@ pub fn after(v: View, p: &[f64], s: State) -> State
 
 // globe7 from a View.
 pub fn globe7(v: View, p: &[f64], s: State) -> Valued
-    requires { ⌜ length (now p) ≡ 150 ⌝ }
+    requires { ⌜ (length (now p) ≡ 150) × Shared v ⌝ }
     ensures { λ r. ⌜ r ≡ globe7Of v (now (p .entry)) s ⌝ }
 {
     let a = after(v, p, s);
@@ -197,10 +198,10 @@ pub fn globe7(v: View, p: &[f64], s: State) -> Valued
 
 // The value of glob7s.
 pub fn level7s(v: View, p: &[f64], g: [[f64; 9]; 4], s: Carried) -> f64
-    requires { ⌜ 100 ≤ length (now p) ⌝ }
+    requires { ⌜ (100 ≤ length (now p)) × Shared v ⌝ }
     ensures { λ r. ⌜ r ≡ level7sOf v (now (p .entry)) g s ⌝ }
 {
-    let d = day_cosines(v.doy, p);
+    let d = day_cosines(v, p);
     let x0 = p[21] * s.dfa;
     let x1 = t1s(p, g);
     let x2 = t2s(p, g, d.cd32);
@@ -219,7 +220,7 @@ pub fn level7s(v: View, p: &[f64], g: [[f64; 9]; 4], s: Carried) -> f64
 
 // glob7s from what State carries.
 pub fn glob7s_from(v: View, p: &[f64], g: [[f64; 9]; 4], s: Carried) -> f64
-    requires { ⌜ 100 ≤ length (now p) ⌝ }
+    requires { ⌜ (100 ≤ length (now p)) × Shared v ⌝ }
     ensures { λ r. ⌜ r ≡ glob7sFrom v (now (p .entry)) g s ⌝ }
 {
     let p99 = pick(p[99] == 0.0, 2.0, p[99]);
@@ -231,7 +232,7 @@ pub fn glob7s_from(v: View, p: &[f64], g: [[f64; 9]; 4], s: Carried) -> f64
 
 // glob7s from a View.
 pub fn glob7s(v: View, p: &[f64], s: State) -> f64
-    requires { ⌜ 100 ≤ length (now p) ⌝ }
+    requires { ⌜ (100 ≤ length (now p)) × Shared v ⌝ }
     ensures { λ r. ⌜ r ≡ glob7sOf v (now (p .entry)) s ⌝ }
 {
     let q = s.plg;

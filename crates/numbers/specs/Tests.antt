@@ -1,6 +1,8 @@
--- Absolute value, and the test for finite numbers.
-use mathlib.Core.Bool.{Bool, cond}
-use lib.Ieee.{Float, neg, lt, eq}
+-- Absolute value, the test for finite numbers, and what the test for NaN tells.
+use mathlib.Core.Path.{_≡_}
+use mathlib.Core.Bool.{Bool, false, cond, not, true≢false}
+use lib.Dec.{T}
+use lib.Ieee.{Float, nan, inf, fin, neg, lt, eq, isNan}
 use lib.Ieee.Scale as scale
 use Rattle.numbers.specs.Literals.{0·0}
 
@@ -11,3 +13,10 @@ absOf x = cond (lt x 0·0) (neg x) (cond (eq x 0·0) 0·0 x)
 -- neither NaN nor an infinity
 unfoldable pub finiteOf : Float → Bool
 finiteOf x = scale.finite x
+
+-- a number that equals itself is no NaN
+pub ordered : (x : Float) → not (eq x x) ≡ false → T (not (isNan x))
+unfolding eq isNan
+ordered nan h = absurd (true≢false h)
+ordered (inf s) h = tt
+ordered (fin s m e) h = tt

@@ -1,6 +1,7 @@
 // Operations on numbers that every part of the model uses, and the constants of atmosphere.rs.
 ghost use mathlib.Core.Path.{_≡_};
-ghost use mathlib.Core.Bool.{cond};
+ghost use mathlib.Core.Bool.{true, cond};
+ghost use Rattle.numbers.specs.Literals.{0·0};
 ghost use Rattle.numbers.specs.Tests.{absOf, finiteOf};
 
 // Radians in a degree.
@@ -40,4 +41,14 @@ pub fn finite(x: f64) -> bool
 {
     let infinity = f64::from_bits(9218868437227405312);
     (x < infinity) & (-infinity < x)
+}
+
+// True for +0 alone.
+pub fn plus_zero(x: f64) -> bool
+    ensures { λ r. ⌜ (r ≡ true → x ≡ 0·0) ⌝ }
+{
+    if !(x == x) {
+        return false;
+    }
+    f64::to_bits(x) == 0
 }

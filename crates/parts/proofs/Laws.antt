@@ -7,7 +7,8 @@ use Rattle.numbers.specs.Arithmetic.{_⊕_, _⊗_, _‼_}
 use Rattle.numbers.specs.Literals.{0·0, 1000·0}
 use Rattle.setting.specs.declared.View.{View}
 use Rattle.terms.specs.Terms.{seasonSOf, longCosSOf, longSinSOf}
-use Rattle.parts.specs.Parts.{annualCosOf, semiannualCosOf, t10sOf}
+use Rattle.setting.specs.Phases.{annualCosOf, semiannualCosOf}
+use Rattle.parts.specs.Parts.{t10sOf}
 
 pub t10s-law : (v : View) (p : List Float) (g : List (List Float))
     (d : Float) (b : Float) (a : Float) (y88 : Float) (y84 : Float) (y86 : Float) (y81 : Float)

@@ -2,14 +2,18 @@
 ghost use mathlib.Core.Path.{_≡_};
 ghost use Prim.Native.Nat.{_≤_};
 ghost use lib.ListN.{length};
-ghost use Rattle.parts.specs.Parts.{annualCosOf, semiannualCosOf, localCosOf, utCosOf, utLongCosOf, longPhaseCosOf, dayCosinesOf, t6Of, t7Of, t13Of, history8Of, daily8Of, t8Of, t10Of, t11Of, history12Of, daily12Of, t12Of, weightedOf, t8sOf, t10sOf, t6sOf, t7sOf, t13sOf};
-use elementary::trigonometry::cos;
-use numbers::DGTR;
-use numbers::DR;
-use numbers::HR;
-use numbers::SR;
+ghost use Rattle.setting.specs.Phases.{annualCosOf, semiannualCosOf, localCosOf, utCosOf, utLongCosOf, longPhaseCosOf};
+ghost use Rattle.setting.specs.Shared.{Shared};
+ghost use Rattle.parts.specs.Parts.{dayCosinesOf, t6Of, t7Of, t13Of, history8Of, daily8Of, t8Of, t10Of, t11Of, history12Of, daily12Of, t12Of, weightedOf, t8sOf, t10sOf, t6sOf, t7sOf, t13sOf};
 use numbers::abs;
+use numbers::plus_zero;
 use setting::View;
+use setting::phases::annual_cos;
+use setting::phases::local_cos;
+use setting::phases::long_phase_cos;
+use setting::phases::semiannual_cos;
+use setting::phases::ut_cos;
+use setting::phases::ut_long_cos;
 use terms::activity_annual;
 use terms::activity_long;
 use terms::activity_term;
@@ -40,57 +44,81 @@ pub struct Seasons {
     pub cd39: f64,
 }
 
-// cd32 and cd14: the cosine over the year with phase x.
-pub fn annual_cos(doy: f64, x: f64) -> f64
-    ensures { λ r. ⌜ r ≡ annualCosOf doy x ⌝ }
+// The cosine over the year with phase x.
+pub fn annual(v: View, x: f64) -> f64
+    requires { ⌜ Shared v ⌝ }
+    ensures { λ r. ⌜ r ≡ annualCosOf (v .doy) x ⌝ }
 {
-    cos(DR * (doy - x))
+    if plus_zero(x) {
+        return v.cos_year;
+    }
+    annual_cos(v.doy, x)
 }
 
-// cd18 and cd39: the cosine over half the year with phase x.
-pub fn semiannual_cos(doy: f64, x: f64) -> f64
-    ensures { λ r. ⌜ r ≡ semiannualCosOf doy x ⌝ }
+// The cosine over half the year with phase x.
+pub fn semiannual(v: View, x: f64) -> f64
+    requires { ⌜ Shared v ⌝ }
+    ensures { λ r. ⌜ r ≡ semiannualCosOf (v .doy) x ⌝ }
 {
-    cos(2.0 * DR * (doy - x))
+    if plus_zero(x) {
+        return v.cos_half_year;
+    }
+    semiannual_cos(v.doy, x)
 }
 
 // The cosine of local time with phase x.
-pub fn local_cos(lst: f64, x: f64) -> f64
-    ensures { λ r. ⌜ r ≡ localCosOf lst x ⌝ }
+pub fn local(v: View, x: f64) -> f64
+    requires { ⌜ Shared v ⌝ }
+    ensures { λ r. ⌜ r ≡ localCosOf (v .lst) x ⌝ }
 {
-    cos(HR * (lst - x))
+    if plus_zero(x) {
+        return v.cos_local;
+    }
+    local_cos(v.lst, x)
 }
 
 // The cosine of UT with phase x.
-pub fn ut_cos(sec: f64, x: f64) -> f64
-    ensures { λ r. ⌜ r ≡ utCosOf sec x ⌝ }
+pub fn ut(v: View, x: f64) -> f64
+    requires { ⌜ Shared v ⌝ }
+    ensures { λ r. ⌜ r ≡ utCosOf (v .sec) x ⌝ }
 {
-    cos(SR * (sec - x))
+    if plus_zero(x) {
+        return v.cos_ut;
+    }
+    ut_cos(v.sec, x)
 }
 
 // The cosine of UT with phase x and twice the longitude.
-pub fn ut_long_cos(sec: f64, x: f64, glong: f64) -> f64
-    ensures { λ r. ⌜ r ≡ utLongCosOf sec x glong ⌝ }
+pub fn ut_with_long(v: View, x: f64) -> f64
+    requires { ⌜ Shared v ⌝ }
+    ensures { λ r. ⌜ r ≡ utLongCosOf (v .sec) x (v .«g_long») ⌝ }
 {
-    cos(SR * (sec - x) + 2.0 * DGTR * glong)
+    if plus_zero(x) {
+        return v.cos_ut_long;
+    }
+    ut_long_cos(v.sec, x, v.g_long)
 }
 
 // The cosine of longitude with phase x.
-pub fn long_phase_cos(glong: f64, x: f64) -> f64
-    ensures { λ r. ⌜ r ≡ longPhaseCosOf glong x ⌝ }
+pub fn long_phase(v: View, x: f64) -> f64
+    requires { ⌜ Shared v ⌝ }
+    ensures { λ r. ⌜ r ≡ longPhaseCosOf (v .«g_long») x ⌝ }
 {
-    cos(DGTR * (glong - x))
+    if plus_zero(x) {
+        return v.cos_long;
+    }
+    long_phase_cos(v.g_long, x)
 }
 
 // The four cosines of the day.
-pub fn day_cosines(doy: f64, p: &[f64]) -> Seasons
-    requires { ⌜ 100 ≤ length (now p) ⌝ }
-    ensures { λ r. ⌜ r ≡ dayCosinesOf doy (now (p .entry)) ⌝ }
+pub fn day_cosines(v: View, p: &[f64]) -> Seasons
+    requires { ⌜ (100 ≤ length (now p)) × Shared v ⌝ }
+    ensures { λ r. ⌜ r ≡ dayCosinesOf (v .doy) (now (p .entry)) ⌝ }
 {
-    let a = annual_cos(doy, p[31]);
-    let b = semiannual_cos(doy, p[17]);
-    let c = annual_cos(doy, p[13]);
-    let d = semiannual_cos(doy, p[38]);
+    let a = annual(v, p[31]);
+    let b = semiannual(v, p[17]);
+    let c = annual(v, p[13]);
+    let d = semiannual(v, p[38]);
     Seasons {
         cd32: a,
         cd18: b,
@@ -161,7 +189,7 @@ pub fn t13(
 
 // t[8] in history mode.
 pub fn history8(v: View, p: &[f64], g: [[f64; 9]; 4], cd14: f64, apt: f64) -> f64
-    requires { ⌜ length (now p) ≡ 150 ⌝ }
+    requires { ⌜ (length (now p) ≡ 150) × Shared v ⌝ }
     ensures { λ r. ⌜ r ≡ history8Of v (now (p .entry)) g cd14 apt ⌝ }
 {
     if !(p[51] != 0.0) {
@@ -170,7 +198,7 @@ pub fn history8(v: View, p: &[f64], g: [[f64; 9]; 4], cd14: f64, apt: f64) -> f6
     if !(v.sw[9] != 0.0) {
         return 0.0;
     }
-    let y = local_cos(v.lst, p[131]);
+    let y = local(v, p[131]);
     let z = local_time_part(g, p[128], p[129], p[130], v.swc[7], y);
     activity_term(
         g,
@@ -189,13 +217,13 @@ pub fn history8(v: View, p: &[f64], g: [[f64; 9]; 4], cd14: f64, apt: f64) -> f6
 
 // t[8] with the daily activity.
 pub fn daily8(v: View, p: &[f64], g: [[f64; 9]; 4], cd14: f64, apdf: f64) -> f64
-    requires { ⌜ length (now p) ≡ 150 ⌝ }
+    requires { ⌜ (length (now p) ≡ 150) × Shared v ⌝ }
     ensures { λ r. ⌜ r ≡ daily8Of v (now (p .entry)) g cd14 apdf ⌝ }
 {
     if !(v.sw[9] != 0.0) {
         return 0.0;
     }
-    let y = local_cos(v.lst, p[124]);
+    let y = local(v, p[124]);
     let z = local_time_part(g, p[121], p[122], p[123], v.swc[7], y);
     activity_term(
         g,
@@ -214,7 +242,7 @@ pub fn daily8(v: View, p: &[f64], g: [[f64; 9]; 4], cd14: f64, apdf: f64) -> f64
 
 // t[8]: magnetic activity.
 pub fn t8(v: View, p: &[f64], g: [[f64; 9]; 4], cd14: f64, apdf: f64, apt: f64) -> f64
-    requires { ⌜ length (now p) ≡ 150 ⌝ }
+    requires { ⌜ (length (now p) ≡ 150) × Shared v ⌝ }
     ensures { λ r. ⌜ r ≡ t8Of v (now (p .entry)) g cd14 apdf apt ⌝ }
 {
     if v.sw[9] == -1.0 {
@@ -242,7 +270,7 @@ pub fn t10(v: View, p: &[f64], g: [[f64; 9]; 4], cd14: f64) -> f64
 
 // t[11]: UT and mixed UT and longitude.
 pub fn t11(v: View, p: &[f64], g: [[f64; 9]; 4], cd14: f64) -> f64
-    requires { ⌜ length (now p) ≡ 150 ⌝ }
+    requires { ⌜ (length (now p) ≡ 150) × Shared v ⌝ }
     ensures { λ r. ⌜ r ≡ t11Of v (now (p .entry)) g cd14 ⌝ }
 {
     if !((v.sw[10] != 0.0) & (v.g_long > -1000.0)) {
@@ -253,8 +281,8 @@ pub fn t11(v: View, p: &[f64], g: [[f64; 9]; 4], cd14: f64) -> f64
     }
     let b81 = flux_factor(p[81], v.dfa, v.swc[1]);
     let b137 = flux_factor(p[137], v.dfa, v.swc[1]);
-    let y = ut_cos(v.sec, p[71]);
-    let z = ut_long_cos(v.sec, p[79], v.g_long);
+    let y = ut(v, p[71]);
+    let z = ut_with_long(v, p[79]);
     let a = ut_mean(p, g, b81, v.swc[5], cd14, y);
     let b = ut_long(p, g, v.swc[11], z, b137);
     a + b
@@ -262,15 +290,15 @@ pub fn t11(v: View, p: &[f64], g: [[f64; 9]; 4], cd14: f64) -> f64
 
 // t[12] in history mode.
 pub fn history12(v: View, p: &[f64], g: [[f64; 9]; 4], cd14: f64, apt: f64) -> f64
-    requires { ⌜ length (now p) ≡ 150 ⌝ }
+    requires { ⌜ (length (now p) ≡ 150) × Shared v ⌝ }
     ensures { λ r. ⌜ r ≡ history12Of v (now (p .entry)) g cd14 apt ⌝ }
 {
     if !(p[51] != 0.0) {
         return 0.0;
     }
-    let y0 = long_phase_cos(v.g_long, p[97]);
-    let y1 = long_phase_cos(v.g_long, p[136]);
-    let y2 = ut_cos(v.sec, p[58]);
+    let y0 = long_phase(v, p[97]);
+    let y1 = long_phase(v, p[136]);
+    let y2 = ut(v, p[58]);
     let a = activity_long(g, apt, v.swc[11], p[132], p[52], p[98], p[67], y0);
     let b = activity_annual(
         g,
@@ -289,12 +317,12 @@ pub fn history12(v: View, p: &[f64], g: [[f64; 9]; 4], cd14: f64, apt: f64) -> f
 
 // t[12] with the daily activity.
 pub fn daily12(v: View, p: &[f64], g: [[f64; 9]; 4], cd14: f64, apdf: f64) -> f64
-    requires { ⌜ length (now p) ≡ 150 ⌝ }
+    requires { ⌜ (length (now p) ≡ 150) × Shared v ⌝ }
     ensures { λ r. ⌜ r ≡ daily12Of v (now (p .entry)) g cd14 apdf ⌝ }
 {
-    let y0 = long_phase_cos(v.g_long, p[63]);
-    let y1 = long_phase_cos(v.g_long, p[118]);
-    let y2 = ut_cos(v.sec, p[75]);
+    let y0 = long_phase(v, p[63]);
+    let y1 = long_phase(v, p[118]);
+    let y2 = ut(v, p[75]);
     let a = activity_long(g, apdf, v.swc[11], p[120], p[60], p[61], p[62], y0);
     let b = activity_annual(
         g,
@@ -313,7 +341,7 @@ pub fn daily12(v: View, p: &[f64], g: [[f64; 9]; 4], cd14: f64, apdf: f64) -> f6
 
 // t[12]: UT, longitude and magnetic activity.
 pub fn t12(v: View, p: &[f64], g: [[f64; 9]; 4], cd14: f64, apdf: f64, apt: f64) -> f64
-    requires { ⌜ length (now p) ≡ 150 ⌝ }
+    requires { ⌜ (length (now p) ≡ 150) × Shared v ⌝ }
     ensures { λ r. ⌜ r ≡ t12Of v (now (p .entry)) g cd14 apdf apt ⌝ }
 {
     if !((v.sw[10] != 0.0) & (v.g_long > -1000.0)) {
@@ -360,16 +388,16 @@ pub fn t8s(v: View, p: &[f64], g: [[f64; 9]; 4], apdf: f64, apt: f64) -> f64
 
 // t[10] of glob7s: longitudinal.
 pub fn t10s(v: View, p: &[f64], g: [[f64; 9]; 4]) -> f64
-    requires { ⌜ 100 ≤ length (now p) ⌝ }
+    requires { ⌜ (100 ≤ length (now p)) × Shared v ⌝ }
     ensures { λ r. ⌜ r ≡ t10sOf v (now (p .entry)) g ⌝ }
 {
     if (v.sw[10] == 0.0) | (v.sw[11] == 0.0) | (v.g_long <= -1000.0) {
         return 0.0;
     }
-    let y81 = annual_cos(v.doy, p[81]);
-    let y86 = semiannual_cos(v.doy, p[86]);
-    let y84 = annual_cos(v.doy, p[84]);
-    let y88 = semiannual_cos(v.doy, p[88]);
+    let y81 = annual(v, p[81]);
+    let y86 = semiannual(v, p[86]);
+    let y84 = annual(v, p[84]);
+    let y88 = semiannual(v, p[88]);
     let a = season_s(
         p,
         g,

@@ -3,6 +3,7 @@ ghost use mathlib.Core.Path.{_≡_};
 ghost use Rattle.setting.specs.State.{freshOf};
 
 pub mod ap_history;
+pub mod phases;
 pub mod switches;
 pub mod views;
 
@@ -70,7 +71,8 @@ pub struct Input {
     pub ap_array: [f64; 7],
 }
 
-// What the expansions read of row and record, with the sines and cosines that do not depend on the coefficients.
+// What the expansions read of row and record, with the sines and cosines that do not depend on the coefficients; the last six are those
+// of the phase 0, which many coefficient sets have.
 pub struct View {
     pub sw: [f64; 24],
     pub swc: [f64; 24],
@@ -94,6 +96,12 @@ pub struct View {
     pub c2t: f64,
     pub s3t: f64,
     pub c3t: f64,
+    pub cos_year: f64,
+    pub cos_half_year: f64,
+    pub cos_local: f64,
+    pub cos_ut: f64,
+    pub cos_ut_long: f64,
+    pub cos_long: f64,
 }
 
 // State::new.

@@ -1,9 +1,15 @@
 // The View of a row and a record.
 ghost use mathlib.Core.Path.{_≡_};
 ghost use lib.Ieee.{binary64, ofInt};
-ghost use Rattle.setting.specs.View.{turnedOf, viewOf};
+ghost use Rattle.setting.specs.View.{turnedOf, plainOf, viewOf};
 use super::Input;
 use super::View;
+use super::phases::annual_cos;
+use super::phases::local_cos;
+use super::phases::long_phase_cos;
+use super::phases::semiannual_cos;
+use super::phases::ut_cos;
+use super::phases::ut_long_cos;
 use super::switches::tselec;
 use elementary::power::pow;
 use elementary::trigonometry::cos;
@@ -40,6 +46,35 @@ pub fn turned(lst: f64) -> Turns
     }
 }
 
+// The cosines of the phase 0.
+pub struct Plain {
+    pub year: f64,
+    pub half_year: f64,
+    pub local: f64,
+    pub ut: f64,
+    pub ut_long: f64,
+    pub long: f64,
+}
+
+pub fn phase_zero(doy: f64, sec: f64, g_long: f64, lst: f64) -> Plain
+    ensures { λ r. ⌜ r ≡ plainOf doy sec «g_long» lst ⌝ }
+{
+    let year = annual_cos(doy, 0.0);
+    let half_year = semiannual_cos(doy, 0.0);
+    let local = local_cos(lst, 0.0);
+    let ut = ut_cos(sec, 0.0);
+    let ut_long = ut_long_cos(sec, 0.0, g_long);
+    let long = long_phase_cos(g_long, 0.0);
+    Plain {
+        year: year,
+        half_year: half_year,
+        local: local,
+        ut: ut,
+        ut_long: ut_long,
+        long: long,
+    }
+}
+
 pub fn day(n: Input) -> f64
     ensures { λ r. ⌜ r ≡ ofInt binary64 (n .doy) ⌝ }
 {
@@ -58,6 +93,7 @@ pub fn view_of(w: [i32; 24], n: Input) -> View
     let slong = sin(DGTR * n.g_long);
     let clong = cos(DGTR * n.g_long);
     let t = turned(n.lst);
+    let z = phase_zero(doy, n.sec, n.g_long, n.lst);
     let sw = f.sw;
     let swc = f.swc;
     let ap_array = n.ap_array;
@@ -84,5 +120,11 @@ pub fn view_of(w: [i32; 24], n: Input) -> View
         c2t: t.c2t,
         s3t: t.s3t,
         c3t: t.c3t,
+        cos_year: z.year,
+        cos_half_year: z.half_year,
+        cos_local: z.local,
+        cos_ut: z.ut,
+        cos_ut_long: z.ut_long,
+        cos_long: z.long,
     }
 }

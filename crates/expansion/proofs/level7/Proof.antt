@@ -54,10 +54,10 @@ element-copy-out-t13-2 : tie.Need-element-copy-out-t13-2
 element-copy-out-t13-2 c = search needs
 
 t13-requires : tie.Need-t13-requires
-t13-requires c κs = (c .before .before .before .before .before .before .before .before .before .before .before .before .before .before .before .before .before .pre)
+t13-requires c κs = (c .before .before .before .before .before .before .before .before .before .before .before .before .before .before .before .before .before .pre .0)
 
 shared-slice-read-weighted : tie.Need-shared-slice-read-weighted
-shared-slice-read-weighted c = omega (arith, (c .before .before .before .before .before .before .before .before .before .before .before .before .before .before .before .before .before .before .before .before .pre))
+shared-slice-read-weighted c = omega (arith, (c .before .before .before .before .before .before .before .before .before .before .before .before .before .before .before .before .before .before .before .before .pre .0))
 
 weighted-requires : tie.Need-weighted-requires
 weighted-requires c κs = search needs

@@ -53,7 +53,7 @@ element-copy-out-t13s : tie.Need-element-copy-out-t13s
 element-copy-out-t13s c = search needs
 
 t13s-requires : tie.Need-t13s-requires
-t13s-requires c κs = (c .before .before .before .before .before .before .before .before .before .before .before .before .before .before .before .before .before .before .pre)
+t13s-requires c κs = (c .before .before .before .before .before .before .before .before .before .before .before .before .before .before .before .before .before .before .pre .0)
 
 weighted-requires : tie.Need-weighted-requires
 weighted-requires c κs = search needs

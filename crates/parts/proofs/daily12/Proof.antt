@@ -4,23 +4,23 @@ use borrow.Author.Needs.{needs}
 use Rattle.parts.proofs.daily12.Statement.{statement}
 use Rattle.parts.proofs.daily12.Tie as tie
 
-shared-slice-read-long-phase-cos : tie.Need-shared-slice-read-long-phase-cos
-shared-slice-read-long-phase-cos c = search needs
+shared-slice-read-long-phase : tie.Need-shared-slice-read-long-phase
+shared-slice-read-long-phase c = search needs
 
-long-phase-cos-requires : tie.Need-long-phase-cos-requires
-long-phase-cos-requires c κs = search needs
+long-phase-requires : tie.Need-long-phase-requires
+long-phase-requires c κs = search needs
 
-shared-slice-read-long-phase-cos-2 : tie.Need-shared-slice-read-long-phase-cos-2
-shared-slice-read-long-phase-cos-2 c = search needs
+shared-slice-read-long-phase-2 : tie.Need-shared-slice-read-long-phase-2
+shared-slice-read-long-phase-2 c = search needs
 
-long-phase-cos-requires-2 : tie.Need-long-phase-cos-requires-2
-long-phase-cos-requires-2 c κs = search needs
+long-phase-requires-2 : tie.Need-long-phase-requires-2
+long-phase-requires-2 c κs = search needs
 
-shared-slice-read-ut-cos : tie.Need-shared-slice-read-ut-cos
-shared-slice-read-ut-cos c = search needs
+shared-slice-read-ut : tie.Need-shared-slice-read-ut
+shared-slice-read-ut c = search needs
 
-ut-cos-requires : tie.Need-ut-cos-requires
-ut-cos-requires c κs = search needs
+ut-requires : tie.Need-ut-requires
+ut-requires c κs = search needs
 
 element-copy-out-activity-long : tie.Need-element-copy-out-activity-long
 element-copy-out-activity-long c = search needs
@@ -75,18 +75,18 @@ activity-ut-requires c κs = search needs
 
 returns : tie.Need-returns
 unfolding daily12Of
-returns c = simp (← c .activity-ut .ensures, ← c .before .before .before .before .before .activity-annual .ensures, ← c .before .before .before .before .before .before .before .before .before .before .before .activity-long .ensures, ← c .before .before .before .before .before .before .before .before .before .before .before .before .before .before .before .before .before .ut-cos .ensures, ← c .before .before .before .before .before .before .before .before .before .before .before .before .before .before .before .before .before .before .before .long-phase-cos2 .ensures, ← c .before .before .before .before .before .before .before .before .before .before .before .before .before .before .before .before .before .before .before .before .before .long-phase-cos .ensures)
+returns c = simp (← (c .activity-ut .ensures), ← (c .before .before .before .before .before .activity-annual .ensures), ← (c .before .before .before .before .before .before .before .before .before .before .before .activity-long .ensures), ← (c .before .before .before .before .before .before .before .before .before .before .before .before .before .before .before .before .before .ut .ensures), ← (c .before .before .before .before .before .before .before .before .before .before .before .before .before .before .before .before .before .before .before .long-phase2 .ensures), ← (c .before .before .before .before .before .before .before .before .before .before .before .before .before .before .before .before .before .before .before .before .before .long-phase .ensures))
 
 pub daily12-spec : {M : Type 1} → statement M
 daily12-spec =
     tie.close
     (tie.spec
-    shared-slice-read-long-phase-cos
-    long-phase-cos-requires
-    shared-slice-read-long-phase-cos-2
-    long-phase-cos-requires-2
-    shared-slice-read-ut-cos
-    ut-cos-requires
+    shared-slice-read-long-phase
+    long-phase-requires
+    shared-slice-read-long-phase-2
+    long-phase-requires-2
+    shared-slice-read-ut
+    ut-requires
     element-copy-out-activity-long
     shared-slice-read-activity-long
     shared-slice-read-activity-long-2

@@ -9,13 +9,13 @@ element-copy-out-if1 c = search needs
 
 returns : tie.Need-returns
 unfolding daily8Of
-returns c = simp (c .if1 .taken)
+returns c = simp ((c .if1 .taken))
 
-shared-slice-read-local-cos : tie.Need-shared-slice-read-local-cos
-shared-slice-read-local-cos c = search needs
+shared-slice-read-local : tie.Need-shared-slice-read-local
+shared-slice-read-local c = search needs
 
-local-cos-requires : tie.Need-local-cos-requires
-local-cos-requires c κs = search needs
+local-requires : tie.Need-local-requires
+local-requires c κs = search needs
 
 shared-slice-read-local-time-part : tie.Need-shared-slice-read-local-time-part
 shared-slice-read-local-time-part c = search needs
@@ -58,7 +58,7 @@ activity-term-requires c κs = search needs
 
 returns-2 : tie.Need-returns-2
 unfolding daily8Of
-returns-2 c = simp (← c .activity-term .ensures, ← c .before .before .before .before .before .before .before .before .local-time-part .ensures, ← c .before .before .before .before .before .before .before .before .before .before .before .before .before .local-cos .ensures) (simp (c .before .before .before .before .before .before .before .before .before .before .before .before .before .before .before .if1 .left))
+returns-2 c = simp (← (c .activity-term .ensures), ← (c .before .before .before .before .before .before .before .before .local-time-part .ensures), ← (c .before .before .before .before .before .before .before .before .before .before .before .before .before .local .ensures)) (simp ((c .before .before .before .before .before .before .before .before .before .before .before .before .before .before .before .if1 .left)))
 
 pub daily8-spec : {M : Type 1} → statement M
 daily8-spec =
@@ -66,8 +66,8 @@ daily8-spec =
     (tie.spec
     element-copy-out-if1
     returns
-    shared-slice-read-local-cos
-    local-cos-requires
+    shared-slice-read-local
+    local-requires
     shared-slice-read-local-time-part
     shared-slice-read-local-time-part-2
     shared-slice-read-local-time-part-3

@@ -9,20 +9,20 @@ shared-slice-read-if1 c = search needs
 
 returns : tie.Need-returns
 unfolding history8Of
-returns c = simp (c .if1 .taken)
+returns c = simp ((c .if1 .taken))
 
 element-copy-out-if2 : tie.Need-element-copy-out-if2
 element-copy-out-if2 c = search needs
 
 returns-2 : tie.Need-returns-2
 unfolding history8Of
-returns-2 c = simp (c .if2 .taken, c .before .before .if1 .left)
+returns-2 c = simp ((c .if2 .taken), (c .before .before .if1 .left))
 
-shared-slice-read-local-cos : tie.Need-shared-slice-read-local-cos
-shared-slice-read-local-cos c = search needs
+shared-slice-read-local : tie.Need-shared-slice-read-local
+shared-slice-read-local c = search needs
 
-local-cos-requires : tie.Need-local-cos-requires
-local-cos-requires c κs = search needs
+local-requires : tie.Need-local-requires
+local-requires c κs = search needs
 
 shared-slice-read-local-time-part : tie.Need-shared-slice-read-local-time-part
 shared-slice-read-local-time-part c = search needs
@@ -65,7 +65,7 @@ activity-term-requires c κs = search needs
 
 returns-3 : tie.Need-returns-3
 unfolding history8Of
-returns-3 c = simp (← c .activity-term .ensures, ← c .before .before .before .before .before .before .before .before .local-time-part .ensures, ← c .before .before .before .before .before .before .before .before .before .before .before .before .before .local-cos .ensures) (simp (c .before .before .before .before .before .before .before .before .before .before .before .before .before .before .before .if2 .left, c .before .before .before .before .before .before .before .before .before .before .before .before .before .before .before .before .before .if1 .left))
+returns-3 c = simp (← (c .activity-term .ensures), ← (c .before .before .before .before .before .before .before .before .local-time-part .ensures), ← (c .before .before .before .before .before .before .before .before .before .before .before .before .before .local .ensures)) (simp ((c .before .before .before .before .before .before .before .before .before .before .before .before .before .before .before .if2 .left), (c .before .before .before .before .before .before .before .before .before .before .before .before .before .before .before .before .before .if1 .left)))
 
 pub history8-spec : {M : Type 1} → statement M
 history8-spec =
@@ -75,8 +75,8 @@ history8-spec =
     returns
     element-copy-out-if2
     returns-2
-    shared-slice-read-local-cos
-    local-cos-requires
+    shared-slice-read-local
+    local-requires
     shared-slice-read-local-time-part
     shared-slice-read-local-time-part-2
     shared-slice-read-local-time-part-3

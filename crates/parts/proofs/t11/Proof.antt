@@ -9,14 +9,14 @@ element-copy-out-if1 c = search needs
 
 returns : tie.Need-returns
 unfolding t11Of
-returns c = simp (c .if1 .taken)
+returns c = simp ((c .if1 .taken))
 
 element-copy-out-if2 : tie.Need-element-copy-out-if2
 element-copy-out-if2 c = search needs
 
 returns-2 : tie.Need-returns-2
 unfolding t11Of
-returns-2 c = simp (c .if2 .taken, c .before .before .if1 .left)
+returns-2 c = simp ((c .if2 .taken), (c .before .before .if1 .left))
 
 shared-slice-read-flux-factor : tie.Need-shared-slice-read-flux-factor
 shared-slice-read-flux-factor c = search needs
@@ -36,17 +36,17 @@ element-copy-out-flux-factor-2 c = search needs
 flux-factor-requires-2 : tie.Need-flux-factor-requires-2
 flux-factor-requires-2 c κs = search needs
 
-shared-slice-read-ut-cos : tie.Need-shared-slice-read-ut-cos
-shared-slice-read-ut-cos c = search needs
+shared-slice-read-ut : tie.Need-shared-slice-read-ut
+shared-slice-read-ut c = search needs
 
-ut-cos-requires : tie.Need-ut-cos-requires
-ut-cos-requires c κs = search needs
+ut-requires : tie.Need-ut-requires
+ut-requires c κs = search needs
 
-shared-slice-read-ut-long-cos : tie.Need-shared-slice-read-ut-long-cos
-shared-slice-read-ut-long-cos c = search needs
+shared-slice-read-ut-with-long : tie.Need-shared-slice-read-ut-with-long
+shared-slice-read-ut-with-long c = search needs
 
-ut-long-cos-requires : tie.Need-ut-long-cos-requires
-ut-long-cos-requires c κs = search needs
+ut-with-long-requires : tie.Need-ut-with-long-requires
+ut-with-long-requires c κs = search needs
 
 element-copy-out-ut-mean : tie.Need-element-copy-out-ut-mean
 element-copy-out-ut-mean c = search needs
@@ -62,7 +62,7 @@ ut-long-requires c κs = search needs
 
 returns-3 : tie.Need-returns-3
 unfolding t11Of
-returns-3 c = simp (← c .ut-long .ensures, ← c .before .before .ut-mean .ensures, ← c .before .before .before .before .ut-long-cos .ensures, ← c .before .before .before .before .before .before .ut-cos .ensures, ← c .before .before .before .before .before .before .before .before .flux-factor2 .ensures, ← c .before .before .before .before .before .before .before .before .before .before .before .flux-factor .ensures) (simp (c .before .before .before .before .before .before .before .before .before .before .before .before .before .before .if2 .left, c .before .before .before .before .before .before .before .before .before .before .before .before .before .before .before .before .if1 .left))
+returns-3 c = simp (← (c .ut-long .ensures), ← (c .before .before .ut-mean .ensures), ← (c .before .before .before .before .ut-with-long .ensures), ← (c .before .before .before .before .before .before .ut .ensures), ← (c .before .before .before .before .before .before .before .before .flux-factor2 .ensures), ← (c .before .before .before .before .before .before .before .before .before .before .before .flux-factor .ensures)) (simp ((c .before .before .before .before .before .before .before .before .before .before .before .before .before .before .if2 .left), (c .before .before .before .before .before .before .before .before .before .before .before .before .before .before .before .before .if1 .left)))
 
 pub t11-spec : {M : Type 1} → statement M
 t11-spec =
@@ -78,10 +78,10 @@ t11-spec =
     shared-slice-read-flux-factor-2
     element-copy-out-flux-factor-2
     flux-factor-requires-2
-    shared-slice-read-ut-cos
-    ut-cos-requires
-    shared-slice-read-ut-long-cos
-    ut-long-cos-requires
+    shared-slice-read-ut
+    ut-requires
+    shared-slice-read-ut-with-long
+    ut-with-long-requires
     element-copy-out-ut-mean
     ut-mean-requires
     element-copy-out-ut-long

@@ -1,8 +1,8 @@
 -- `annual_cos` meets its contract.
-use Rattle.parts.specs.Parts.{annualCosOf}
+use Rattle.setting.specs.Phases.{annualCosOf}
 use borrow.Author.Needs.{needs}
-use Rattle.parts.proofs.annual_cos.Statement.{statement}
-use Rattle.parts.proofs.annual_cos.Tie as tie
+use Rattle.setting.proofs.phases.annual_cos.Statement.{statement}
+use Rattle.setting.proofs.phases.annual_cos.Tie as tie
 
 cos-requires : tie.Need-cos-requires
 cos-requires c κs = search needs

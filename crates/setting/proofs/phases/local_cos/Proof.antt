@@ -1,8 +1,8 @@
 -- `local_cos` meets its contract.
-use Rattle.parts.specs.Parts.{localCosOf}
+use Rattle.setting.specs.Phases.{localCosOf}
 use borrow.Author.Needs.{needs}
-use Rattle.parts.proofs.local_cos.Statement.{statement}
-use Rattle.parts.proofs.local_cos.Tie as tie
+use Rattle.setting.proofs.phases.local_cos.Statement.{statement}
+use Rattle.setting.proofs.phases.local_cos.Tie as tie
 
 cos-requires : tie.Need-cos-requires
 cos-requires c κs = search needs

@@ -1,8 +1,8 @@
 -- `semiannual_cos` meets its contract.
-use Rattle.parts.specs.Parts.{semiannualCosOf}
+use Rattle.setting.specs.Phases.{semiannualCosOf}
 use borrow.Author.Needs.{needs}
-use Rattle.parts.proofs.semiannual_cos.Statement.{statement}
-use Rattle.parts.proofs.semiannual_cos.Tie as tie
+use Rattle.setting.proofs.phases.semiannual_cos.Statement.{statement}
+use Rattle.setting.proofs.phases.semiannual_cos.Tie as tie
 
 cos-requires : tie.Need-cos-requires
 cos-requires c κs = search needs

@@ -1,8 +1,8 @@
 -- `ut_long_cos` meets its contract.
-use Rattle.parts.specs.Parts.{utLongCosOf}
+use Rattle.setting.specs.Phases.{utLongCosOf}
 use borrow.Author.Needs.{needs}
-use Rattle.parts.proofs.ut_long_cos.Statement.{statement}
-use Rattle.parts.proofs.ut_long_cos.Tie as tie
+use Rattle.setting.proofs.phases.ut_long_cos.Statement.{statement}
+use Rattle.setting.proofs.phases.ut_long_cos.Tie as tie
 
 cos-requires : tie.Need-cos-requires
 cos-requires c κs = search needs

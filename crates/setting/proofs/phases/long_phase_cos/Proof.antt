@@ -1,8 +1,8 @@
 -- `long_phase_cos` meets its contract.
-use Rattle.parts.specs.Parts.{longPhaseCosOf}
+use Rattle.setting.specs.Phases.{longPhaseCosOf}
 use borrow.Author.Needs.{needs}
-use Rattle.parts.proofs.long_phase_cos.Statement.{statement}
-use Rattle.parts.proofs.long_phase_cos.Tie as tie
+use Rattle.setting.proofs.phases.long_phase_cos.Statement.{statement}
+use Rattle.setting.proofs.phases.long_phase_cos.Tie as tie
 
 cos-requires : tie.Need-cos-requires
 cos-requires c κs = search needs

@@ -1,0 +1,29 @@
+-- `ut` meets its contract.
+use mathlib.Core.Path.{sym, _∙_, ap}
+use lib.Ieee.{Float}
+use Rattle.setting.specs.Phases.{utCosOf}
+use borrow.Author.Needs.{needs}
+use Rattle.parts.proofs.ut.Statement.{statement}
+use Rattle.parts.proofs.ut.Tie as tie
+
+plus-zero-requires : tie.Need-plus-zero-requires
+plus-zero-requires c κs = search needs
+
+returns : tie.Need-returns
+returns c = let A = (c .before .before .args) in
+    (c .before .before .pre .ut) ∙ ap (λ (y : Float). utCosOf (A .v .sec) y) (sym ((c .before .plus-zero .ensures) (c .if1 .taken)))
+
+ut-cos-requires : tie.Need-ut-cos-requires
+ut-cos-requires c κs = search needs
+
+returns-2 : tie.Need-returns-2
+returns-2 c = (c .ut-cos .ensures)
+
+pub ut-spec : {M : Type 1} → statement M
+ut-spec =
+    tie.close
+    (tie.spec
+    plus-zero-requires
+    returns
+    ut-cos-requires
+    returns-2)
