@@ -1,5 +1,5 @@
 // Our one-altitude call against the Rust: the eleven numbers to the bit, the refusals, pairs under the shut-off list, the 1E-6 rule,
-// the published samples, calls of each elementary function, and time per call.
+// the published samples, calls of each elementary function, and time per call. The expansions and the line program stand in files of their own.
 mod expansions;
 mod lines;
 use std::time::Instant;

@@ -1,6 +1,7 @@
 // gtd7 and the one-altitude call.
 ghost use mathlib.Core.Path.{_≡_};
 ghost use lib.ListN.{length};
+ghost use Rattle.setting.specs.Shared.{Shared};
 ghost use Rattle.plan.specs.Plan.{told, given};
 ghost use Rattle.atmosphere.specs.Atmosphere.{gtd7Plan, elevenAtOf, elevenOf, stateAfterOf, answerOf, rowAfter};
 use acceptance::Answer;
@@ -44,6 +45,7 @@ pub fn gtd7_stage(sw: [f64; 24], x: Site, alt: f64, l: Levels) -> Whole
 
 // The eleven numbers at an altitude, from a fresh State.
 pub fn eleven_at(v: View, x: Site, alt: f64) -> [f64; 11]
+    requires { ⌜ Shared v ⌝ }
     ensures { λ r. ⌜ r ≡ elevenAtOf v x alt ⌝ }
 {
     let n = need_at(alt);

@@ -5,6 +5,7 @@ ghost use mathlib.Core.Bool.{cond};
 ghost use lib.ListN.{length};
 ghost use Rattle.numbers.specs.Literals.{0·0};
 ghost use Rattle.tables.specs.Tables.{ptT, psT};
+ghost use Rattle.setting.specs.Shared.{Shared};
 ghost use Rattle.levels.specs.Levels.{legendreIn, quietOf, activeOf, wideOf, warmOf, lightOf, heavyOf, nodesOf, mesoOf, tropoOf, needAt, bothOf, levelsOf};
 use activity::apdf_next;
 use activity::apt_next;
@@ -116,7 +117,7 @@ pub fn active(v: View, p: &[f64], c: Carried) -> Carried
 
 // globe7 over a set.
 pub fn wide(v: View, g: [[f64; 9]; 4], c: Carried, p: &[f64]) -> f64
-    requires { ⌜ length (now p) ≡ 150 ⌝ }
+    requires { ⌜ (length (now p) ≡ 150) × Shared v ⌝ }
     ensures { λ r. ⌜ r ≡ wideOf v g c (now (p .entry)) ⌝ }
 {
     let a = active(v, p, c);
@@ -124,6 +125,7 @@ pub fn wide(v: View, g: [[f64; 9]; 4], c: Carried, p: &[f64]) -> f64
 }
 
 pub fn pt_level(v: View, g: [[f64; 9]; 4], c: Carried, on: bool) -> f64
+    requires { ⌜ Shared v ⌝ }
     ensures { λ r. ⌜ r ≡ cond on (wideOf v g c ptT) 0·0 ⌝ }
 {
     if on {
@@ -134,6 +136,7 @@ pub fn pt_level(v: View, g: [[f64; 9]; 4], c: Carried, on: bool) -> f64
 }
 
 pub fn ps_level(v: View, g: [[f64; 9]; 4], c: Carried, on: bool) -> f64
+    requires { ⌜ Shared v ⌝ }
     ensures { λ r. ⌜ r ≡ cond on (wideOf v g c psT) 0·0 ⌝ }
 {
     if on {
@@ -145,6 +148,7 @@ pub fn ps_level(v: View, g: [[f64; 9]; 4], c: Carried, on: bool) -> f64
 
 // PT and PS where they count, and PD[3], whose activity is c3.
 pub fn warm(v: View, g: [[f64; 9]; 4], c: Carried, c3: Carried, n: Need) -> [f64; 3]
+    requires { ⌜ Shared v ⌝ }
     ensures { λ r. ⌜ r ≡ warmOf v g c c3 n ⌝ }
 {
     let a = pt_level(v, g, c, n.pt);
@@ -156,6 +160,7 @@ pub fn warm(v: View, g: [[f64; 9]; 4], c: Carried, c3: Carried, n: Need) -> [f64
 
 // PD[0], PD[1], PD[2].
 pub fn light(v: View, g: [[f64; 9]; 4], c: Carried) -> [f64; 3]
+    requires { ⌜ Shared v ⌝ }
     ensures { λ r. ⌜ r ≡ lightOf v g c ⌝ }
 {
     let p0 = pd0();
@@ -169,6 +174,7 @@ pub fn light(v: View, g: [[f64; 9]; 4], c: Carried) -> [f64; 3]
 
 // PD[4], PD[5], PD[6].
 pub fn heavy(v: View, g: [[f64; 9]; 4], c: Carried) -> [f64; 3]
+    requires { ⌜ Shared v ⌝ }
     ensures { λ r. ⌜ r ≡ heavyOf v g c ⌝ }
 {
     let p4 = pd4();
@@ -182,6 +188,7 @@ pub fn heavy(v: View, g: [[f64; 9]; 4], c: Carried) -> [f64; 3]
 
 // PTL and PMA[8], where the nodes of the lower thermosphere count.
 pub fn nodes(v: View, g: [[f64; 9]; 4], c: Carried, on: bool) -> [f64; 5]
+    requires { ⌜ Shared v ⌝ }
     ensures { λ r. ⌜ r ≡ nodesOf v g c on ⌝ }
 {
     if !on {
@@ -202,6 +209,7 @@ pub fn nodes(v: View, g: [[f64; 9]; 4], c: Carried, on: bool) -> [f64; 5]
 
 // PMA[0], PMA[1], PMA[2] and PMA[9], where the nodes of the mesosphere count.
 pub fn meso(v: View, g: [[f64; 9]; 4], c: Carried, on: bool) -> [f64; 4]
+    requires { ⌜ Shared v ⌝ }
     ensures { λ r. ⌜ r ≡ mesoOf v g c on ⌝ }
 {
     if !on {
@@ -220,6 +228,7 @@ pub fn meso(v: View, g: [[f64; 9]; 4], c: Carried, on: bool) -> [f64; 4]
 
 // PMA[3] to PMA[7], where the nodes of the troposphere count.
 pub fn tropo(v: View, g: [[f64; 9]; 4], c: Carried, on: bool) -> [f64; 5]
+    requires { ⌜ Shared v ⌝ }
     ensures { λ r. ⌜ r ≡ tropoOf v g c on ⌝ }
 {
     if !on {
@@ -240,6 +249,7 @@ pub fn tropo(v: View, g: [[f64; 9]; 4], c: Carried, on: bool) -> [f64; 5]
 
 // The values that are needed; the others are 0.
 pub fn levels_of(v: View, n: Need) -> Levels
+    requires { ⌜ Shared v ⌝ }
     ensures { λ r. ⌜ r ≡ levelsOf v n ⌝ }
 {
     let g = legendre(v.slat, v.clat, [0.0; 36]);

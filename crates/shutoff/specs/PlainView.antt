@@ -5,14 +5,15 @@ use Prim.Native.Nat.{ℕ}
 use lib.IntN.{ℤ}
 use lib.Ieee.{Float, binary64, ofInt}
 use Rattle.numbers.specs.Arithmetic.{_⊖_, _⊗_}
-use Rattle.numbers.specs.Literals.{2·0, 3·0, 150·0}
+use Rattle.numbers.specs.Literals.{0·0, 2·0, 3·0, 150·0}
 use Rattle.numbers.specs.Constants.{dgtr, hr}
 use Rattle.elementary.specs.Trig.{sinOf, cosOf}
 use Rattle.elementary.specs.Pow.{powOf}
 use Rattle.setting.specs.declared.View.{View}
 use Rattle.setting.specs.declared.Input.{Input}
 use Rattle.setting.specs.Switches.{swAt, swcAt, filled, swOf, swcOf}
-use Rattle.setting.specs.View.{turnedOf, viewOf}
+use Rattle.setting.specs.Phases.{annualCosOf, semiannualCosOf, localCosOf, utCosOf, utLongCosOf, longPhaseCosOf}
+use Rattle.setting.specs.View.{turnedOf, plainOf, viewOf}
 
 abbrev row24 : (ℕ → Float) → List Float
 row24 f =
@@ -44,8 +45,14 @@ plainView w n =
       c2t = cosOf (2·0 ⊗ hr ⊗ n .lst);
       s3t = sinOf (3·0 ⊗ hr ⊗ n .lst);
       c3t = cosOf (3·0 ⊗ hr ⊗ n .lst);
+      «cos_year» = annualCosOf (ofInt binary64 (n .doy)) 0·0;
+      «cos_half_year» = semiannualCosOf (ofInt binary64 (n .doy)) 0·0;
+      «cos_local» = localCosOf (n .lst) 0·0;
+      «cos_ut» = utCosOf (n .sec) 0·0;
+      «cos_ut_long» = utLongCosOf (n .sec) 0·0 (n .«g_long»);
+      «cos_long» = longPhaseCosOf (n .«g_long») 0·0;
     }
 
 pub view-is : (w : List ℤ) (n : Input) → viewOf w n ≡ plainView w n
-unfolding viewOf turnedOf swOf swcOf filled
+unfolding viewOf turnedOf plainOf swOf swcOf filled
 view-is w n = refl

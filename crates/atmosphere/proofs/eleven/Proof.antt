@@ -1,5 +1,6 @@
 -- `eleven` meets its contract.
 use Rattle.atmosphere.specs.Atmosphere.{elevenOf}
+use Rattle.setting.specs.Shared.{shared}
 use borrow.Author.Needs.{needs}
 use Rattle.atmosphere.proofs.eleven.Statement.{statement}
 use Rattle.atmosphere.proofs.eleven.Tie as tie
@@ -11,7 +12,7 @@ site-of-requires : tie.Need-site-of-requires
 site-of-requires c κs = search needs
 
 eleven-at-requires : tie.Need-eleven-at-requires
-eleven-at-requires c κs = search needs
+eleven-at-requires c κs = shared _ _ _ (c .before .before .view-of .ensures)
 
 returns : tie.Need-returns
 unfolding elevenOf

@@ -2,6 +2,7 @@
 use borrow.Author.Tests.{ltb-false}
 use Rattle.calls.proofs.Or.{or-left}
 use Rattle.calls.specs.Calls.{glob7sCallOf}
+use Rattle.setting.specs.Shared.{shared}
 use borrow.Author.Needs.{needs}
 use Rattle.calls.proofs.glob7s.Statement.{statement}
 use Rattle.calls.proofs.glob7s.Tie as tie
@@ -14,7 +15,7 @@ view-of-requires : tie.Need-view-of-requires
 view-of-requires c κs = search needs
 
 glob7s-requires : tie.Need-glob7s-requires
-glob7s-requires c κs = ltb-false _ _ (or-left _ _ (c .before .if1 .left))
+glob7s-requires c κs = (ltb-false _ _ (or-left _ _ (c .before .if1 .left)), shared _ _ _ (c .view-of .ensures))
 
 returns-2 : tie.Need-returns-2
 unfolding glob7sCallOf

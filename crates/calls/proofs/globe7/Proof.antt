@@ -1,6 +1,7 @@
 -- `globe7` meets its contract.
 use borrow.Author.Tests.{eq-eqb, ne-eqb}
 use Rattle.calls.specs.Calls.{globe7CallOf}
+use Rattle.setting.specs.Shared.{shared}
 use borrow.Author.Needs.{needs}
 use Rattle.calls.proofs.globe7.Statement.{statement}
 use Rattle.calls.proofs.globe7.Tie as tie
@@ -20,7 +21,7 @@ view-of-requires : tie.Need-view-of-requires
 view-of-requires c κs = search needs
 
 globe7-requires : tie.Need-globe7-requires
-globe7-requires c κs = search needs
+globe7-requires c κs = (search needs, shared _ _ _ (c .view-of .ensures))
 
 returns-3 : tie.Need-returns-3
 unfolding globe7CallOf

@@ -1,6 +1,7 @@
 -- `rows` meets its contract.
 use mathlib.Core.Path.{_∙_}
 use Rattle.column.proofs.Laws.{rows-are}
+use Rattle.setting.specs.Shared.{shared}
 use borrow.Author.Needs.{needs}
 use Rattle.column.proofs.rows.Statement.{statement}
 use Rattle.column.proofs.rows.Tie as tie
@@ -15,7 +16,7 @@ needs-requires : tie.Need-needs-requires
 needs-requires c κs = search needs
 
 levels-of-requires : tie.Need-levels-of-requires
-levels-of-requires c κs = search needs
+levels-of-requires c κs = shared _ _ _ (c .before .before .before .view-of .ensures)
 
 rows-at-requires : tie.Need-rows-at-requires
 rows-at-requires c κs = search needs

@@ -1,4 +1,5 @@
 -- `left` meets its contract.
+use Rattle.setting.specs.Shared.{shared}
 use Rattle.host_state.proofs.Laws.{left-law}
 use borrow.Author.Needs.{needs}
 use Rattle.host_state.proofs.left.Statement.{statement}
@@ -14,7 +15,7 @@ need-at-requires : tie.Need-need-at-requires
 need-at-requires c κs = search needs
 
 levels-of-requires : tie.Need-levels-of-requires
-levels-of-requires c κs = search needs
+levels-of-requires c κs = shared _ _ _ (c .before .before .before .view-of .ensures)
 
 gtd7-stage-requires : tie.Need-gtd7-stage-requires
 gtd7-stage-requires c κs = search needs

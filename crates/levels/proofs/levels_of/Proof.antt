@@ -38,34 +38,34 @@ active-requires-3 : tie.Need-active-requires-3
 active-requires-3 c κs = search needs
 
 warm-requires : tie.Need-warm-requires
-warm-requires c κs = search needs
+warm-requires c κs = (c .before .before .before .before .before .before .before .before .before .before .before .pre)
 
 light-requires : tie.Need-light-requires
-light-requires c κs = search needs
+light-requires c κs = (c .before .before .before .before .before .before .before .before .before .before .before .before .pre)
 
 heavy-requires : tie.Need-heavy-requires
-heavy-requires c κs = search needs
+heavy-requires c κs = (c .before .before .before .before .before .before .before .before .before .before .before .before .before .pre)
 
 slice-aggregate-level7 : tie.Need-slice-aggregate-level7
 slice-aggregate-level7 c = search needs
 
 level7-requires : tie.Need-level7-requires
-level7-requires c κs = search needs
+level7-requires c κs = (search needs, (c .before .before .before .before .before .before .before .before .before .before .before .before .before .before .before .pre))
 
 slice-aggregate-level7-2 : tie.Need-slice-aggregate-level7-2
 slice-aggregate-level7-2 c = search needs
 
 level7-requires-2 : tie.Need-level7-requires-2
-level7-requires-2 c κs = search needs
+level7-requires-2 c κs = (search needs, (c .before .before .before .before .before .before .before .before .before .before .before .before .before .before .before .before .before .pre))
 
 nodes-requires : tie.Need-nodes-requires
-nodes-requires c κs = search needs
+nodes-requires c κs = (c .before .before .before .before .before .before .before .before .before .before .before .before .before .before .before .before .before .before .pre)
 
 meso-requires : tie.Need-meso-requires
-meso-requires c κs = search needs
+meso-requires c κs = (c .before .before .before .before .before .before .before .before .before .before .before .before .before .before .before .before .before .before .before .pre)
 
 tropo-requires : tie.Need-tropo-requires
-tropo-requires c κs = search needs
+tropo-requires c κs = (c .before .before .before .before .before .before .before .before .before .before .before .before .before .before .before .before .before .before .before .before .pre)
 
 array-read-t36 : tie.Need-array-read-t36
 array-read-t36 c = search needs
