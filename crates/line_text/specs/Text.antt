@@ -1,0 +1,68 @@
+-- The bytes of the line program's answers, in ASCII.
+use Prim.Native.Nat.{ℕ, zero, suc, _+_, _/_, _%_}
+use mathlib.Core.Path.{_≡_}
+use mathlib.Core.Bool.{cond}
+use mathlib.Core.List.{List, [], _∷_, _++_}
+use lib.Dec.{ltb}
+use lib.ListN.{length, take, drop}
+use lib.Ieee.{Float, binary64, isNan, toBits}
+use Rattle.io.specs.Digits.{digits, glyph}
+
+-- the bytes b with the bytes t from at on
+unfoldable pub written : List ℕ → ℕ → List ℕ → List ℕ
+written b at t = take at b ++ t ++ drop (at + length t) b
+
+-- a buffer b became c, which has t from at on and is b elsewhere; r is the index after t
+abbrev pub Writes : List ℕ → ℕ → List ℕ → List ℕ → ℕ → Type 0
+Writes b at t c r = (c ≡ written b at t) × (r ≡ at + length t)
+
+-- the bits of a number; any NaN has those of 7ff8000000000000
+unfoldable pub patternOf : Float → ℕ
+patternOf x = cond (isNan x) 0x7ff8_0000_0000_0000 (toBits binary64 x)
+
+-- 16 lower-case hexadecimal digits of the bits
+unfoldable pub hexText : Float → List ℕ
+hexText x = digits 16 16 (patternOf x)
+
+-- decimal digits: those of all but the last digit, where there are any, and the last one; no number has more digits than the number m
+unfoldable pub decimalIn : ℕ → ℕ → List ℕ
+decimalIn zero n = glyph n ∷ []
+decimalIn (suc m) n = cond (ltb n 10) (glyph n ∷ []) (decimalIn m (n / 10) ++ (glyph (n % 10) ∷ []))
+
+-- a number in decimal digits without leading zeros
+unfoldable pub decimalText : ℕ → List ℕ
+decimalText n = decimalIn n n
+
+-- (value H)
+unfoldable pub valueText : Float → List ℕ
+valueText x =
+    -- "(value "
+    (40 ∷ 118 ∷ 97 ∷ 108 ∷ 117 ∷ 101 ∷ 32 ∷ [])
+    ++ hexText x
+    -- ")\n"
+    ++ (41 ∷ 10 ∷ [])
+
+-- each number after a space
+unfoldable pub spacedText : List Float → List ℕ
+spacedText [] = []
+spacedText (x ∷ xs) = (32 ∷ []) ++ hexText x ++ spacedText xs
+
+-- (row H .. H)
+unfoldable pub rowText : List Float → List ℕ
+rowText xs =
+    -- "(row"
+    (40 ∷ 114 ∷ 111 ∷ 119 ∷ [])
+    ++ spacedText xs
+    -- ")\n"
+    ++ (41 ∷ 10 ∷ [])
+
+-- (refused N P)
+unfoldable pub refusedText : ℕ → ℕ → List ℕ
+refusedText n p =
+    -- "(refused "
+    (40 ∷ 114 ∷ 101 ∷ 102 ∷ 117 ∷ 115 ∷ 101 ∷ 100 ∷ 32 ∷ [])
+    ++ decimalText n
+    ++ (32 ∷ [])
+    ++ decimalText p
+    -- ")\n"
+    ++ (41 ∷ 10 ∷ [])
