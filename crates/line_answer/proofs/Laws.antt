@@ -1,6 +1,6 @@
 -- The answer's text by the form that a line is.
 use mathlib.Core.Path.{_≡_, refl, sym, ap, _∙_, subst}
-use mathlib.Core.Bool.{Bool, true, false, cond, true≢false, false≢true}
+use mathlib.Core.Bool.{true, false, cond}
 use mathlib.Core.List.{List}
 use Prim.Native.Nat.{ℕ, _≤_}
 use lib.IntN.{ℤ}
@@ -14,6 +14,7 @@ use Rattle.atmosphere.specs.Atmosphere.{elevenOf, answerOf, rowAfter}
 use Rattle.line_form.specs.declared.Reading.{Reading}
 use Rattle.line_form.specs.declared.Run.{Run}
 use Rattle.line_form.specs.Grammar.{dnetFormOf, ccorFormOf, runFormOf, switchesOf, inputOf}
+use Rattle.line_text.specs.Choice.{cond-true, cond-false}
 use Rattle.line_text.specs.Text.{Writes, valueText, refusedText}
 use Rattle.line_answer.specs.Answer.{dnetValue, ccorValue, outcomeText, runText, answerText}
 
@@ -38,18 +39,10 @@ run-is f w n a xs ys e g l h k =
 
 -- ---- a line
 
-first : (b : Bool) (x y : List ℕ) → b ≡ true → x ≡ cond b x y
-first true x y t = refl
-first false x y t = absurd (false≢true t)
-
-other : (b : Bool) (x y : List ℕ) → b ≡ false → y ≡ cond b x y
-other true x y t = absurd (true≢false t)
-other false x y t = refl
-
 module _ (s : List ℕ) (number : ℕ) (a : Reading) (e : a ≡ dnetFormOf s) where
   pub dnet-line : (x : Float) → a .ok ≡ true → x ≡ dnetValue a → valueText x ≡ answerText s number
   unfolding answerText
-  dnet-line x t f = ap valueText (f ∙ ap dnetValue e) ∙ first _ _ _ (ap (λ (q : Reading). q .ok) (sym e) ∙ t)
+  dnet-line x t f = ap valueText (f ∙ ap dnetValue e) ∙ cond-true _ _ _ (ap (λ (q : Reading). q .ok) (sym e) ∙ t)
 
   module _ (u : a .ok ≡ false) (b : Reading) (g : b ≡ ccorFormOf s) where
     no-dnet : (dnetFormOf s) .ok ≡ false
@@ -57,7 +50,7 @@ module _ (s : List ℕ) (number : ℕ) (a : Reading) (e : a ≡ dnetFormOf s) wh
 
     pub ccor-line : (x : Float) → b .ok ≡ true → x ≡ ccorValue b → valueText x ≡ answerText s number
     unfolding answerText
-    ccor-line x t f = ap valueText (f ∙ ap ccorValue g) ∙ (first _ _ _ (ap (λ (q : Reading). q .ok) (sym g) ∙ t) ∙ other _ _ _ no-dnet)
+    ccor-line x t f = ap valueText (f ∙ ap ccorValue g) ∙ (cond-true _ _ _ (ap (λ (q : Reading). q .ok) (sym g) ∙ t) ∙ cond-false _ _ _ no-dnet)
 
     module _ (v : b .ok ≡ false) (c : Run) (h : c ≡ runFormOf s) where
       no-ccor : (ccorFormOf s) .ok ≡ false
@@ -65,8 +58,8 @@ module _ (s : List ℕ) (number : ℕ) (a : Reading) (e : a ≡ dnetFormOf s) wh
 
       pub run-line : c .reading .ok ≡ true → runText c ≡ answerText s number
       unfolding answerText
-      run-line t = ap runText h ∙ (first _ _ _ (ap (λ (q : Run). q .reading .ok) (sym h) ∙ t) ∙ (other _ _ _ no-ccor ∙ other _ _ _ no-dnet))
+      run-line t = ap runText h ∙ (cond-true _ _ _ (ap (λ (q : Run). q .reading .ok) (sym h) ∙ t) ∙ (cond-false _ _ _ no-ccor ∙ cond-false _ _ _ no-dnet))
 
       pub no-line : c .reading .ok ≡ false → refusedText 7 number ≡ answerText s number
       unfolding answerText
-      no-line t = other _ _ _ (ap (λ (q : Run). q .reading .ok) (sym h) ∙ t) ∙ (other _ _ _ no-ccor ∙ other _ _ _ no-dnet)
+      no-line t = cond-false _ _ _ (ap (λ (q : Run). q .reading .ok) (sym h) ∙ t) ∙ (cond-false _ _ _ no-ccor ∙ cond-false _ _ _ no-dnet)

@@ -1,9 +1,10 @@
-// The answers to the lines of the line program.
+// The answers to the lines of the line program, and the input cut into its lines.
 ghost use mathlib.Core.Path.{_≡_};
-ghost use Prim.Native.Nat.{_+_, _≤_};
-ghost use lib.ListN.{length};
+ghost use Prim.Native.Nat.{_+_, _*_, _≤_};
+ghost use lib.ListN.{length, take};
 ghost use Rattle.line_text.specs.Text.{Writes};
 ghost use Rattle.line_answer.specs.Answer.{dnetValue, ccorValue, outcomeText, runText, answerText};
+ghost use Rattle.line_answer.specs.Lines.{afterOf, progressOf, stepOf, fedOf, lastOf};
 use acceptance::Answer;
 use atmosphere::gtd7;
 use line_form::Reading;
@@ -19,6 +20,13 @@ use line_text::row;
 use line_text::value;
 use mixing::ccor;
 use mixing::dnet;
+
+// How far the input is read: how many bytes of the line begun are kept, its number, and how many bytes of answers wait.
+pub struct Place {
+    pub len: usize,
+    pub number: u64,
+    pub used: usize,
+}
 
 pub fn dnet_value(r: Reading) -> f64
     ensures { λ x. ⌜ x ≡ dnetValue r ⌝ }
@@ -84,4 +92,71 @@ pub fn answer(out: &mut [u8], at: usize, s: &[u8], number: u64) -> usize
         return run(out, at, c);
     }
     refused(out, at, 7, number)
+}
+
+pub fn after(number: u64) -> u64
+    ensures { λ r. ⌜ r ≡ afterOf number ⌝ }
+{
+    if number < 18446744073709551615 {
+        return number + 1;
+    }
+    number
+}
+
+// One byte of the input.
+pub fn take_byte(b: u8, line: &mut [u8], out: &mut [u8], p: Place) -> Place
+    requires { ⌜ (length (now line) ≡ 512) × (p .len ≤ 512) × (p .used + 193 ≤ length (now out)) ⌝ }
+    ensures { λ r. ⌜ (progressOf (now (line .exit)) (now (out .exit)) r ≡ stepOf b (progressOf (now (line .entry)) (now (out .entry)) p))
+        × (r .len ≤ 512) × (r .used ≤ p .used + 193) ⌝ }
+{
+    let len = p.len;
+    let number = p.number;
+    let used = p.used;
+    if b == 10 {
+        let end = answer(out, used, &line[..len], number);
+        return Place {
+            len: 0,
+            number: after(number),
+            used: end,
+        };
+    }
+    if len < 512 {
+        line[len] = b;
+        return Place {
+            len: len + 1,
+            number: number,
+            used: used,
+        };
+    }
+    p
+}
+
+// The bytes of a chunk, whose answers the buffer has room for.
+pub fn feed(chunk: &[u8], line: &mut [u8], out: &mut [u8], p: Place) -> Place
+    requires { ⌜ (length (now line) ≡ 512) × (p .len ≤ 512) × (p .used + 193 * length (now chunk) ≤ length (now out)) ⌝ }
+    ensures { λ r. ⌜ (progressOf (now (line .exit)) (now (out .exit)) r ≡ fedOf (now (chunk .entry)) (progressOf (now (line .entry)) (now (out .entry)) p))
+        × (r .len ≤ 512) × (r .used ≤ length (now (out .entry))) ⌝ }
+{
+    let mut q = p;
+    let mut i: usize = 0;
+    while i < chunk.len() {
+        let b = chunk[i];
+        q = take_byte(b, line, out, q);
+        i += 1;
+    }
+    q
+}
+
+// The end of the input.
+pub fn finish(line: &[u8], out: &mut [u8], p: Place) -> usize
+    requires { ⌜ (p .len ≤ length (now line)) × (p .used + 193 ≤ length (now out)) ⌝ }
+    ensures { λ r. ⌜ (take r (now (out .exit)) ≡ lastOf (progressOf (now (line .entry)) (now (out .entry)) p)) × (r ≤ length (now (out .entry))) ⌝ }
+{
+    let len = p.len;
+    let number = p.number;
+    let used = p.used;
+    if len == 0 {
+        return used;
+    }
+    answer(out, used, &line[..len], number)
 }
