@@ -2,12 +2,12 @@
 use mathlib.Core.Path.{_≡_, refl, sym, ap, _∙_, subst}
 use mathlib.Core.Bool.{Bool, true, false, cond, not, _&&_, false≢true}
 use mathlib.Core.List.{List, [], _∷_}
-use Prim.Native.Nat.{ℕ, zero, suc, _+_, _*_, _-_, _<_, _≤_, zero-le}
+use Prim.Native.Nat.{ℕ, zero, suc, _+_, _*_, _^_, _-_, _<_, _≤_, zero-le}
 use native.Mathlib.Omega.{arith}
 use borrow.Author.Tests.{lt-ltb, le-ltb, eq-eqb, ne-eqb, ltb-true, not-false}
 use lib.Dec.{ltb, eqb, lit<}
 use lib.IntN.{ℤ, pos, negsuc, _-ℤ_, +ℤ-idl}
-use native.Mathlib.Nat.{lt-trans}
+use native.Mathlib.Nat.{lt-trans, mul-le-mul-right, le-mul-of-pos-right, pow-le-pow-right, pow-suc}
 use mir.Syntax.{w32}
 use mir.Val.{SFits, toZ, ofZ}
 use mir.ValLaws.{toZ-ofZ}
@@ -74,23 +74,35 @@ module _ (s : List ℕ) (k v d : ℕ) (e : d ≡ digitOf s k) where
       none l = omega arith
   no-digit (suc m) g h = simp (← e) (simp (lt-ltb 9 d h))
 
-  pub no-room : (m : ℕ) → 0 < m → d ≤ 9 → 100000000 ≤ v → record { size = v; next = k } ≡ moreOf m s k v
+  pub one-more : (m : ℕ) → 0 < m → d ≤ 9 → moreOf (m - 1) s (k + 1) (10 * v + d) ≡ moreOf m s k v
   unfolding moreOf
-  no-room zero g h r = absurd (none g)
+  one-more zero g h = absurd (none g)
     where
       none : 0 < 0 → ⊥
       none l = omega arith
-  no-room (suc m) g h r = simp (← e) (simp (le-ltb 9 d h, le-ltb v 100000000 r))
-
-  pub one-more : (m : ℕ) → 0 < m → d ≤ 9 → v < 100000000 → moreOf (m - 1) s (k + 1) (10 * v + d) ≡ moreOf m s k v
-  unfolding moreOf
-  one-more zero g h r = absurd (none g)
-    where
-      none : 0 < 0 → ⊥
-      none l = omega arith
-  one-more (suc m) g h r =
+  one-more (suc m) g h =
       let p : suc m - 1 ≡ m = omega arith in
-      rw p (simp (← e) (simp (le-ltb 9 d h, lt-ltb v 100000000 r)))
+      rw p (simp (← e) (simp (le-ltb 9 d h)))
+
+-- with m digits to come, v has room for them in nine digits
+
+pub room-less : (v m : ℕ) → (v + 1) * 10 ^ m ≤ 1000000000 → v < 1000000000
+room-less v m h =
+    let one : 0 < 10 ^ m = pow-le-pow-right {n = 10} (omega arith) {i = 0} {j = m} zero-le in
+    omega (arith, le-mul-of-pos-right (v + 1) one)
+
+pub room-next : (v d m : ℕ) → 0 < m → d ≤ 9 → (v + 1) * 10 ^ m ≤ 1000000000 → ((10 * v + d) + 1) * 10 ^ (m - 1) ≤ 1000000000
+room-next v d zero g h r = absurd (none g)
+  where
+    none : 0 < 0 → ⊥
+    none l = omega arith
+room-next v d (suc m) g h r =
+    let p : suc m - 1 ≡ m = omega arith in
+    let q : (v + 1) * (10 ^ m * 10) ≤ 1000000000 = rw (← pow-suc 10 m) r in
+    rw p (omega (arith, mul-le-mul-right (10 ^ m) h))
+
+pub room-fits : (v m : ℕ) → 0 < m → (v + 1) * 10 ^ m ≤ 1000000000 → 10 * v + 9 < 1000000000
+room-fits v m g h = room-less (10 * v + 9) (m - 1) (room-next v 9 m g (omega arith) h)
 
 pub all-read : (s : List ℕ) (k v m : ℕ) → m ≡ 0 → record { size = v; next = k } ≡ moreOf m s k v
 unfolding moreOf
