@@ -13,7 +13,7 @@ use native.Mathlib.Nat.{mod-eq-of-lt, le-trans, le-of-lt, add-zero, lt-of-not-le
 use Rattle.io.specs.Digits.{digits, glyph, Fewest}
 use lib.Ieee.{Float, nan, inf, fin, ne, isNan, binary64, toBits}
 use lib.Ieee.Compare.{differs-from-itself, nan-differs}
-use Rattle.line_text.specs.Choice.{cond-true, cond-false}
+use Rattle.line_text.specs.Decimal.{one-digit, more-digits}
 use Rattle.line_text.specs.Text.{written, Writes, patternOf, hexText, decimalIn, decimalText, valueText, spacedText, rowText, refusedText}
 
 -- ---- a text byte by byte
@@ -86,15 +86,6 @@ few b least n k top z l h w = let g : k < suc top = lt-of-not-le none in omega a
         let p : b ^ (k - 1) ≤ n = w .2 (omega arith) in
         let q : b ^ top ≤ b ^ (k - 1) = pow-le-pow-right z (omega arith) in
         omega arith
-
-module _ (m n : ℕ) where
-  one-digit : n < 10 → decimalIn (suc m) n ≡ glyph n ∷ []
-  unfolding decimalIn
-  one-digit h = sym (cond-true _ _ _ (lt-ltb n 10 h))
-
-  more-digits : 10 ≤ n → decimalIn (suc m) n ≡ decimalIn m (n / 10) ++ (glyph (n % 10) ∷ [])
-  unfolding decimalIn
-  more-digits h = sym (cond-false _ _ _ (le-ltb n 10 h))
 
 decimal-in : (m j n : ℕ) → j ≤ m → n < 10 ^ suc j → (1 < suc j → 10 ^ j ≤ n) → digits 10 (suc j) n ≡ decimalIn m n
 unfolding decimalIn
