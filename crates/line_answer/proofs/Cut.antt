@@ -1,15 +1,14 @@
 -- The input cut into lines: a byte taken, a chunk, and the end of the input.
-use mathlib.Core.Path.{_≡_, refl, sym, ap, _∙_}
-use mathlib.Core.Bool.{Bool, true, false, cond}
+use mathlib.Core.Path.{_≡_, refl, ap, _∙_}
+use mathlib.Core.Bool.{true, false}
 use mathlib.Core.List.{List, [], _∷_, _++_}
-use Prim.Native.Nat.{ℕ, suc, _+_, _<_, _≤_}
-use native.Mathlib.Omega.{arith}
+use Prim.Native.Nat.{ℕ, _+_, _<_, _≤_}
 use native.Mathlib.Numerals.{add-one}
 use borrow.Author.Tests.{lt-ltb, le-ltb, eq-eqb, ne-eqb}
 use lib.Dec.{ltb, eqb}
 use lib.ListN.{length, take, drop, getD, set, length-append}
 use lib.Seq.{length-take-le, take-suc-set, take-at, drop-cons, drop-length}
-use Rattle.line_text.specs.Choice.{cond-true, cond-false}
+use Rattle.line_text.proofs.Choice.{cond-true, cond-false}
 use Rattle.line_text.specs.Text.{written, Writes}
 use Rattle.line_answer.specs.declared.Place.{Place}
 use Rattle.line_answer.specs.Answer.{answerText}

@@ -1,10 +1,10 @@
 -- The answer's text by the form that a line is.
-use mathlib.Core.Path.{_≡_, refl, sym, ap, _∙_, subst}
+use mathlib.Core.Path.{_≡_, refl, sym, ap, _∙_}
 use mathlib.Core.Bool.{true, false, cond}
 use mathlib.Core.List.{List}
 use Prim.Native.Nat.{ℕ, _≤_}
 use lib.IntN.{ℤ}
-use lib.ListN.{length, replicate}
+use lib.ListN.{length}
 use lib.Ieee.{Float}
 use Rattle.setting.specs.declared.Input.{Input}
 use Rattle.acceptance.specs.declared.Answer.{Answer}
@@ -14,7 +14,7 @@ use Rattle.atmosphere.specs.Atmosphere.{elevenOf, answerOf, rowAfter}
 use Rattle.line_form.specs.declared.Reading.{Reading}
 use Rattle.line_form.specs.declared.Run.{Run}
 use Rattle.line_form.specs.Grammar.{dnetFormOf, ccorFormOf, runFormOf, switchesOf, inputOf}
-use Rattle.line_text.specs.Choice.{cond-true, cond-false}
+use Rattle.line_text.proofs.Choice.{cond-true, cond-false}
 use Rattle.line_text.specs.Text.{Writes, valueText, refusedText}
 use Rattle.line_answer.specs.Answer.{dnetValue, ccorValue, outcomeText, runText, answerText}
 

@@ -2,9 +2,7 @@
 use Prim.Native.Nat.{ℕ}
 use mathlib.Core.Bool.{cond}
 use mathlib.Core.List.{List}
-use lib.IntN.{ℤ}
 use lib.Ieee.{Float}
-use Rattle.setting.specs.declared.Input.{Input}
 use Rattle.mixing.specs.Mixing.{ccorOf, dnetOf}
 use Rattle.acceptance.specs.declared.Answer.{Answer}
 use Rattle.acceptance.specs.declared.Answer.the-variants.{Accepted, Refused}

@@ -1,4 +1,3 @@
--- The definitions that the contracts of this crate cite, and what they come to.
+-- The definitions that the contracts of this crate cite.
 pub mod Answer
 pub mod Lines
-pub mod Theorems

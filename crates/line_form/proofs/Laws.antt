@@ -1,11 +1,11 @@
 -- A line's bytes met one by one: texts, digits, numbers and fields; and the numbers as a record and a switch row.
 use mathlib.Core.Path.{_≡_, refl, sym, ap, _∙_, subst}
-use mathlib.Core.Bool.{Bool, true, false, cond, not, _&&_, false≢true}
+use mathlib.Core.Bool.{Bool, true, false, cond, not, _&&_}
 use mathlib.Core.List.{List, [], _∷_}
 use Prim.Native.Nat.{ℕ, zero, suc, _+_, _*_, _^_, _-_, _<_, _≤_, zero-le}
 use native.Mathlib.Omega.{arith}
 use borrow.Author.Tests.{lt-ltb, le-ltb, eq-eqb, ne-eqb, ltb-true, not-false}
-use lib.Dec.{ltb, eqb, lit<}
+use lib.Dec.{ltb, lit<}
 use lib.IntN.{ℤ, pos, negsuc, _-ℤ_, +ℤ-idl}
 use native.Mathlib.Nat.{lt-trans, mul-le-mul-right, le-mul-of-pos-right, pow-le-pow-right, pow-suc}
 use mir.Syntax.{w32}
@@ -22,6 +22,7 @@ use Rattle.line_form.specs.declared.Run.{Run}
 use Rattle.setting.specs.declared.History.{History}
 use lib.Ieee.{Float}
 use Rattle.line_form.specs.Grammar.{hereOf, startsOf, digitOf, moreOf, signedOf, positiveOf, numberOf, stoppedOf, numbersOf, fieldOf, startOf, laterOf, partOf, thousandthsAt, historyOf, arrayOf, inputOf}
+use Rattle.line_form.proofs.Bytes.{and-first, and-second, here-below}
 
 -- ---- texts
 
@@ -146,13 +147,8 @@ module _ (minus : Bool) (s : List ℕ) (k d : ℕ) (e : d ≡ digitOf s k) where
   some-digits h n w z f g i =
       rw (back minus z (w .size) i g) (simp (← e, ← f) (simp (le-ltb 9 d h, ne-eqb d 0 n)))
 
-both : (b c : Bool) → (b && c) ≡ true → b ≡ true
-both true c h = refl
-both false c h = h
-
 pub here-inside : (s : List ℕ) (k c : ℕ) (b : Bool) → b ≡ hereOf s k c → b ≡ true → k < length s
-unfolding hereOf
-here-inside s k c b e t = ltb-true _ _ (both (ltb k (length s)) _ (sym e ∙ t))
+here-inside s k c b e t = here-below s k c (sym e ∙ t)
 
 module _ (s : List ℕ) (k : ℕ) (b : Bool) (e : b ≡ hereOf s k 48) where
   pub nought : b ≡ true → record { ok = true; value = pos 0; next = k + 1 } ≡ numberOf s k
@@ -209,16 +205,12 @@ no-more s j m q e = rw e
 -- ---- a field
 
 starts-room : (s text : List ℕ) (k : ℕ) → startsOf s k text ≡ true → k ≤ length s → k + length text ≤ length s
-unfolding startsOf hereOf
+unfolding startsOf
 starts-room s [] k t h = omega arith
 starts-room s (c ∷ cs) k t h =
-    let g : k < length s = ltb-true _ _ (both (ltb k (length s)) _ (both (ltb k (length s) && eqb (getD s k 0) c) _ t)) in
-    let i : k + 1 + length cs ≤ length s = starts-room s cs (k + 1) (other (ltb k (length s) && eqb (getD s k 0) c) _ t) (omega arith) in
+    let g : k < length s = here-below s k c (and-first _ (startsOf s (k + 1) cs) t) in
+    let i : k + 1 + length cs ≤ length s = starts-room s cs (k + 1) (and-second (hereOf s k c) _ t) (omega arith) in
     omega arith
-  where
-    other : (a b : Bool) → (a && b) ≡ true → b ≡ true
-    other true b u = u
-    other false b u = absurd (false≢true u)
 
 pub starts-fits : (s text : List ℕ) (k : ℕ) (b : Bool) → b ≡ startsOf s k text → not b ≡ false → k ≤ length s → k + length text ≤ length s
 starts-fits s text k b e t h = starts-room s text k (sym e ∙ not-false b t) h

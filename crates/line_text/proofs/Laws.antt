@@ -1,19 +1,18 @@
 -- Bytes written one after the other, the digits of a number, and the texts' lengths.
 use mathlib.Core.Path.{_≡_, refl, sym, ap, _∙_, subst}
-use mathlib.Core.Bool.{Bool, true, false, cond, not, true≢false}
+use mathlib.Core.Bool.{true, false, true≢false}
 use mathlib.Core.List.{List, [], _∷_, _++_, append-assoc, append-nil}
 use Prim.Native.Nat.{ℕ, zero, suc, _+_, _-_, _*_, _^_, _/_, _%_, _<_, _≤_, zero-le}
 use native.Mathlib.Omega.{arith}
 use native.Mathlib.Numerals.{add-one}
 use lib.Dec.{T}
-use lib.ListN.{length, take, drop, getD, set, length-append, length-take, length-drop}
-use lib.Seq.{take-suc, paste, paste-zero, paste-suc, length-paste, take-length, take-at, drop-at, length-take-le, drop-drop}
-use borrow.Author.Tests.{lt-ltb, le-ltb}
+use lib.ListN.{length, take, drop, getD, set, length-append}
+use lib.Seq.{take-suc, paste, paste-zero, paste-suc, take-length, take-at, drop-at, length-take-le, drop-drop}
 use native.Mathlib.Nat.{mod-eq-of-lt, le-trans, le-of-lt, add-zero, lt-of-not-le, pow-le-pow-right, pow-suc}
 use Rattle.io.specs.Digits.{digits, glyph, Fewest}
 use lib.Ieee.{Float, nan, inf, fin, ne, isNan, binary64, toBits}
 use lib.Ieee.Compare.{differs-from-itself, nan-differs}
-use Rattle.line_text.specs.Decimal.{one-digit, more-digits}
+use Rattle.line_text.proofs.DecimalDigits.{one-digit, more-digits}
 use Rattle.line_text.specs.Text.{written, Writes, patternOf, hexText, decimalIn, decimalText, valueText, spacedText, rowText, refusedText}
 
 -- ---- a text byte by byte

@@ -9,7 +9,7 @@ use native.Mathlib.Nat.{eq-or-lt-of-le}
 use borrow.Author.Tests.{lt-ltb, le-ltb, ltb-true, ltb-false}
 use lib.Dec.{ltb}
 use Rattle.io.specs.Digits.{glyph}
-use Rattle.line_text.specs.Choice.{cond-true, cond-false}
+use Rattle.line_text.proofs.Choice.{cond-true, cond-false}
 use Rattle.line_text.specs.Text.{decimalIn, decimalText}
 
 glyph-is : (d : ℕ) → d ≤ 9 → glyph d ≡ 48 + d

@@ -2,16 +2,16 @@
 use mathlib.Core.Path.{_≡_, refl, sym, ap, _∙_}
 use mathlib.Core.Bool.{Bool, true, false, cond}
 use mathlib.Core.List.{List, [], _∷_, _++_, append-assoc, append-nil}
-use Prim.Native.Nat.{ℕ, zero, suc, _+_, _<_, _≤_}
+use Prim.Native.Nat.{ℕ, suc, _<_, _≤_}
 use native.Mathlib.Omega.{arith}
-use borrow.Author.Tests.{lt-ltb, le-ltb, ltb-true, ltb-false, ne-eqb}
+use borrow.Author.Tests.{le-ltb, ltb-true, ltb-false, ne-eqb}
 use lib.Dec.{ltb, eqb}
 use native.Mathlib.Nat.{le-of-lt, le-refl}
 use lib.ListN.{length, take, length-append}
 use lib.Seq.{length-take-le, take-all, take-append-le}
 use Rattle.line_form.specs.declared.Reading.{Reading}
 use Rattle.line_form.specs.Grammar.{closedOf, restOf, dnetFormOf, ccorFormOf, runFormOf}
-use Rattle.line_text.specs.Choice.{cond-true, cond-false}
+use Rattle.line_text.proofs.Choice.{cond-true, cond-false}
 use Rattle.line_text.specs.Text.{refusedText}
 use Rattle.line_answer.specs.Answer.{answerText}
 use Rattle.line_answer.specs.Lines.{linesFrom, afterOf, answersFrom, answersTo, Progress, keptOf, stepOf, fedOf, lastOf, begin, writtenFor, wholeOf}
