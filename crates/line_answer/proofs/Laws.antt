@@ -16,7 +16,7 @@ use Rattle.line_form.specs.declared.Run.{Run}
 use Rattle.line_form.specs.Grammar.{dnetFormOf, ccorFormOf, runFormOf, switchesOf, inputOf}
 use Rattle.line_text.proofs.Choice.{cond-true, cond-false}
 use Rattle.line_text.specs.Text.{Writes, valueText, refusedText}
-use Rattle.line_answer.specs.Answer.{dnetValue, ccorValue, outcomeText, runText, answerText}
+use Rattle.line_answer.specs.Answer.{dnetValue, ccorValue, outcomeText, runAnswer, answerText}
 
 -- ---- a text for an equal one
 
@@ -26,8 +26,8 @@ same-text b c s t at r e w = rw e at w
 -- ---- a run form
 
 pub run-is : (f : Run) (w : List ℤ) (n : Input) (a : Answer) (xs ys : List Float) → w ≡ switchesOf (f .reading) → n ≡ inputOf f → length xs ≡ 11
-    → a ≡ answerOf w n (length xs) → ys ≡ rowAfter w n xs → outcomeText a ys ≡ runText f
-unfolding runText rowAfter
+    → a ≡ answerOf w n (length xs) → ys ≡ rowAfter w n xs → outcomeText a ys ≡ runAnswer f
+unfolding runAnswer rowAfter
 run-is f w n a xs ys e g l h k =
     let b : a ≡ answerOf w n 11 = h ∙ ap (answerOf w n) l in
     let d : ys ≡ cond (acceptedOf (answerOf w n 11)) (elevenOf w n) xs = k ∙ ap (λ (m : ℕ). cond (acceptedOf (answerOf w n m)) (elevenOf w n) xs) l in
@@ -56,9 +56,9 @@ module _ (s : List ℕ) (number : ℕ) (a : Reading) (e : a ≡ dnetFormOf s) wh
       no-ccor : (ccorFormOf s) .ok ≡ false
       no-ccor = ap (λ (q : Reading). q .ok) (sym g) ∙ v
 
-      pub run-line : c .reading .ok ≡ true → runText c ≡ answerText s number
+      pub run-line : c .reading .ok ≡ true → runAnswer c ≡ answerText s number
       unfolding answerText
-      run-line t = ap runText h ∙ (cond-true _ _ _ (ap (λ (q : Run). q .reading .ok) (sym h) ∙ t) ∙ (cond-false _ _ _ no-ccor ∙ cond-false _ _ _ no-dnet))
+      run-line t = ap runAnswer h ∙ (cond-true _ _ _ (ap (λ (q : Run). q .reading .ok) (sym h) ∙ t) ∙ (cond-false _ _ _ no-ccor ∙ cond-false _ _ _ no-dnet))
 
       pub no-line : c .reading .ok ≡ false → refusedText 7 number ≡ answerText s number
       unfolding answerText

@@ -26,13 +26,13 @@ outcomeText Accepted row = rowText row
 outcomeText (Refused n p) row = refusedText n p
 
 -- the one-altitude call with the record and the switches of a run form, into a row of 11
-unfoldable pub runText : Run → List ℕ
-runText f = outcomeText (answerOf (switchesOf (f .reading)) (inputOf f) 11) (elevenOf (switchesOf (f .reading)) (inputOf f))
+unfoldable pub runAnswer : Run → List ℕ
+runAnswer f = outcomeText (answerOf (switchesOf (f .reading)) (inputOf f) 11) (elevenOf (switchesOf (f .reading)) (inputOf f))
 
 -- the answer to the line s with a number; 7 where it is none of the forms
 unfoldable pub answerText : List ℕ → ℕ → List ℕ
 answerText s number =
     cond ((dnetFormOf s) .ok) (valueText (dnetValue (dnetFormOf s)))
     (cond ((ccorFormOf s) .ok) (valueText (ccorValue (ccorFormOf s)))
-    (cond ((runFormOf s) .reading .ok) (runText (runFormOf s))
+    (cond ((runFormOf s) .reading .ok) (runAnswer (runFormOf s))
     (refusedText 7 number)))

@@ -3,7 +3,7 @@ ghost use mathlib.Core.Path.{_≡_};
 ghost use Prim.Native.Nat.{_+_, _*_, _≤_};
 ghost use lib.ListN.{length, take};
 ghost use Rattle.line_text.specs.Text.{Writes};
-ghost use Rattle.line_answer.specs.Answer.{dnetValue, ccorValue, outcomeText, runText, answerText};
+ghost use Rattle.line_answer.specs.Answer.{dnetValue, ccorValue, outcomeText, runAnswer, answerText};
 ghost use Rattle.line_answer.specs.Lines.{afterOf, progressOf, stepOf, fedOf, lastOf};
 use acceptance::Answer;
 use atmosphere::gtd7;
@@ -62,7 +62,7 @@ pub fn outcome(out: &mut [u8], at: usize, a: Answer, eleven: [f64; 11]) -> usize
 
 pub fn run(out: &mut [u8], at: usize, f: Run) -> usize
     requires { ⌜ at + 193 ≤ length (now out) ⌝ }
-    ensures { λ r. ⌜ Writes (now (out .entry)) at (runText f) (now (out .exit)) r × (length (runText f) ≤ 193) ⌝ }
+    ensures { λ r. ⌜ Writes (now (out .entry)) at (runAnswer f) (now (out .exit)) r × (length (runAnswer f) ≤ 193) ⌝ }
 {
     let n = input_of(f);
     let q = f.reading;

@@ -6,7 +6,7 @@ use Prim.Native.Nat.{ℕ, zero, suc, _+_, _<_, _≤_}
 use native.Mathlib.Omega.{arith}
 use native.Mathlib.Nat.{ne-of-lt}
 use native.Mathlib.Numerals.{add-one}
-use borrow.Author.Tests.{lt-ltb, eq-eqb, eqb-true}
+use borrow.Author.Tests.{lt-ltb, ltb-true, eq-eqb, eqb-true}
 use lib.Dec.{T, ltb, eqb, ltb→lt}
 use lib.IntN.{ℤ, pos}
 use lib.ListN.{length, getD, set, replicate, length-append, length-set}
@@ -15,7 +15,7 @@ use Rattle.line_text.proofs.Choice.{cond-true, cond-false}
 use Rattle.line_form.specs.declared.WholeNumber.{WholeNumber}
 use Rattle.line_form.specs.declared.Reading.{Reading}
 use Rattle.line_form.specs.Grammar.{hereOf, startsOf, digitOf, numberOf, stoppedOf, numbersOf, fieldOf, closedOf, startOf, partOf}
-use Rattle.line_form.specs.Forms.{numberText, AllNine, numbersText, Part, partsText, NineIn}
+use Rattle.line_form.specs.Forms.{numberText, Nine, AllNine, numbersText, Part, partsText, NineIn}
 use Rattle.line_form.proofs.Bytes.{and-first, and-second, and-both, here-byte, here-is, starts-first, starts-rest, starts-both}
 use Rattle.line_form.proofs.Laws.{partOf-length}
 use Rattle.line_form.proofs.WholeNumbers.{no-digit, number-read, Number, number-gives}
@@ -79,17 +79,19 @@ module _ (s : List ℕ) where
     pub there : startsOf s k (numbersText (partOf (q .values) m i)) ≡ true
     pub next-is : q .next ≡ k + length (numbersText (partOf (q .values) m i))
     pub before : (j : ℕ) → j < i → getD (q .values) j (pos 0) ≡ getD v j (pos 0)
+    pub nine : AllNine (partOf (q .values) m i)
 
-  numbers-more : (m i k : ℕ) (v : List ℤ) (z : ℤ) (q : Reading) → i < length v → hereOf s k 32 ≡ true → startsOf s (k + 1) (numberText z) ≡ true
+  numbers-more : (m i k : ℕ) (v : List ℤ) (z : ℤ) (q : Reading) → i < length v → Nine z → hereOf s k 32 ≡ true → startsOf s (k + 1) (numberText z) ≡ true
       → Numbers m (i + 1) (k + 1 + length (numberText z)) (set v i z) q → Numbers (suc m) i k v q
   unfolding partOf numbersText startsOf
-  numbers-more m i k v z q l h t f =
+  numbers-more m i k v z q l n h t f =
       let zs : List ℤ = partOf (q .values) m (i + 1) in
       let e : getD (q .values) i (pos 0) ≡ z = f .before i (omega arith) ∙ getD-set-same v i z (pos 0) l in
       record {
         there = rw e (and-both _ _ h (starts-both s (k + 1) (numberText z) (numbersText zs) t (f .there)));
         next-is = rw e (f .next-is ∙ omega (arith, length-append (numberText z) (numbersText zs)));
         before = λ j g. f .before j (omega arith) ∙ getD-set-other v i j z (pos 0) (ne-of-lt g);
+        nine = rw e (n, f .nine);
       }
 
   pub numbers-give : (m i k : ℕ) (v : List ℤ) → i + m ≤ length v → (numbersOf m s i (record { ok = true; next = k; values = v })) .ok ≡ true
@@ -97,7 +99,7 @@ module _ (s : List ℕ) where
   unfolding numbersOf stoppedOf partOf numbersText startsOf
   numbers-give zero i k v l h =
       let e : k ≡ k + 0 = omega arith in
-      record { there = refl; next-is = e; before = λ j g. refl }
+      record { there = refl; next-is = e; before = λ j g. refl; nine = tt }
   numbers-give (suc m) i k v l h =
       by (hereOf s k 32) ((numberOf s (k + 1)) .ok) refl refl
       (numbers-give m (i + 1) ((numberOf s (k + 1)) .next) (set v i ((numberOf s (k + 1)) .value)) (rw (length-set v i ((numberOf s (k + 1)) .value)) (omega arith))) h
@@ -117,7 +119,7 @@ module _ (s : List ℕ) where
       by true true e f g h =
           let p : r ≡ q = cond-false _ _ _ (ap not f) ∙ cond-false _ _ _ (ap not e) in
           let w : Number s (k + 1) = number-gives s (k + 1) f in
-          numbers-more m i k v (w .number) q (omega arith) e (w .there)
+          numbers-more m i k v (w .number) q (omega arith) (w .nine) e (w .there)
           (subst (λ (x : WholeNumber). Numbers m (i + 1) (x .next) (set v i (x .value)) q) (w .is)
           (subst (λ (t : Reading). Numbers m (i + 1) (n .next) (set v i (n .value)) t) p (g (ap (λ (t : Reading). t .ok) p ∙ h))))
 
@@ -248,6 +250,7 @@ module _ (s : List ℕ) where
     pub there : startsOf s (r .next) (partsText ps (q .values)) ≡ true
     pub next-is : q .next ≡ r .next + length (partsText ps (q .values))
     pub before : (j : ℕ) → j < lo → getD (q .values) j (pos 0) ≡ getD (r .values) j (pos 0)
+    pub nine : NineIn ps (q .values)
 
   part-more : (lo : ℕ) (p : Part) (ps : List Part) (r t q : Reading) → lo ≤ p .at → Field (p .text) (p .at) (p .count) r t → Parts (p .at + p .count) ps t q
       → Parts lo (p ∷ ps) r q
@@ -265,11 +268,12 @@ module _ (s : List ℕ) where
             (rw n at (g .there)));
         next-is = rw e (g .next-is ∙ omega (arith, length-append text (partsText ps (q .values))));
         before = λ j h. g .before j (omega arith) ∙ f .numbers .before j (omega arith);
+        nine = (rw e (f .numbers .nine), g .nine);
       }
 
   pub parts-give : (ps : List Part) (lo : ℕ) (r : Reading) → Rising lo (length (r .values)) ps → (readOf s ps r) .ok ≡ true → Parts lo ps r (readOf s ps r)
   unfolding readOf partsText startsOf
-  parts-give [] lo r a h = let e : r .next ≡ r .next + 0 = omega arith in record { so-far = h; there = refl; next-is = e; before = λ j g. refl }
+  parts-give [] lo r a h = let e : r .next ≡ r .next + 0 = omega arith in record { so-far = h; there = refl; next-is = e; before = λ j g. refl; nine = tt }
   parts-give (p ∷ ps) lo r a h =
       let t : Reading = fieldOf s (p .text) (p .at) (p .count) r in
       let b : Rising (p .at + p .count) (length (t .values)) ps = rw (field-length (p .text) (p .at) (p .count) r) (a .2) in
@@ -278,12 +282,15 @@ module _ (s : List ℕ) where
 
 -- ---- a form: parts, and a text that ends the line
 
--- a form's text within 511 bytes is read, with its numbers
-pub form-read : (ps : List Part) (end : List ℕ) (v : List ℤ) → AllPlain ps → T (plain end) → NineIn ps v → length (partsText ps v ++ end) < 512
+-- the line s is the text of the numbers v, of at most 511 bytes, each number of at most nine digits
+abbrev pub IsForm : List Part → List ℕ → List ℕ → List ℤ → Type 0
+IsForm ps end s v = (s ≡ partsText ps v ++ end) × NineIn ps v × (length s < 512)
+
+text-read : (ps : List Part) (end : List ℕ) (v : List ℤ) → AllPlain ps → T (plain end) → NineIn ps v → length (partsText ps v ++ end) < 512
     → closedOf (partsText ps v ++ end) end (readOf (partsText ps v ++ end) ps startOf)
     ≡ record { ok = true; next = length (partsText ps v); values = filled ps v (replicate 41 (pos 0)) }
 unfolding closedOf startOf
-form-read ps end v a b n l =
+text-read ps end v a b n l =
     let p : List ℕ = partsText ps v in
     let s : List ℕ = p ++ end in
     let e : 0 + length p ≡ length p = omega arith in
@@ -292,9 +299,14 @@ form-read ps end v a b n l =
     parts-read s ps 0 v (replicate 41 (pos 0)) a n (there [] p end) (rw e (plain-first s end (length p) b t)) ∙ rw e in
     rw r (rw (and-both _ _ (lt-ltb (length s) 512 l) (and-both _ _ t (eq-eqb (length p + length end) (length s) (sym (length-append p end))))))
 
--- a line that is read as a form is the text of the form's numbers
+pub form-read : (ps : List Part) (end s : List ℕ) (v : List ℤ) → AllPlain ps → T (plain end) → IsForm ps end s v
+    → closedOf s end (readOf s ps startOf) ≡ record { ok = true; next = length (partsText ps v); values = filled ps v (replicate 41 (pos 0)) }
+form-read ps end s v a b h =
+    subst (λ (t : List ℕ). closedOf t end (readOf t ps startOf) ≡ record { ok = true; next = length (partsText ps v); values = filled ps v (replicate 41 (pos 0)) }) (sym (h .0))
+    (text-read ps end v a b (h .1) (subst (λ (t : List ℕ). length t < 512) (h .0) (h .2)))
+
 pub form-gives : (ps : List Part) (end s : List ℕ) → Rising 0 41 ps → (closedOf s end (readOf s ps startOf)) .ok ≡ true
-    → s ≡ partsText ps ((closedOf s end (readOf s ps startOf)) .values) ++ end
+    → IsForm ps end s ((closedOf s end (readOf s ps startOf)) .values)
 unfolding closedOf startOf
 form-gives ps end s a h =
     let start : Reading = record { ok = true; next = 0; values = replicate 41 (pos 0) } in
@@ -304,5 +316,8 @@ form-gives ps end s a h =
     let ends : (startsOf s (q .next) end && eqb (q .next + length end) (length s)) ≡ true = and-second (q .ok) _ more in
     let g : Parts s 0 ps start q = parts-give s ps 0 start a (and-first _ (startsOf s (q .next) end && eqb (q .next + length end) (length s)) more) in
     let last : startsOf s (q .next) end ≡ true = and-first _ (eqb (q .next + length end) (length s)) ends in
-    let len : q .next + length end ≡ length s = eqb-true _ _ (and-second (startsOf s (q .next) end) _ ends) in
-    line-is s (text ++ end) (starts-both s 0 text end (g .there) (rw (← g .next-is) last)) (omega (arith, length-append text end, g .next-is))
+    let len : q .next + length end ≡ length s = eqb-true _ _ (and-second (startsOf s (q .next) end) _ ends) in (
+      line-is s (text ++ end) (starts-both s 0 text end (g .there) (rw (← g .next-is) last)) (omega (arith, length-append text end, g .next-is)),
+      g .nine,
+      ltb-true (length s) 512 (and-first _ (q .ok && (startsOf s (q .next) end && eqb (q .next + length end) (length s))) h),
+    )

@@ -1,8 +1,8 @@
 -- The grammar both ways: every form's text is read with just its numbers, and whatever is read is the text of its numbers.
-use mathlib.Core.Path.{_≡_, refl, sym, ap, _∙_}
+use mathlib.Core.Path.{_≡_, refl, sym, ap, _∙_, subst}
 use mathlib.Core.Bool.{Bool, true, false, not}
 use mathlib.Core.List.{List, [], _∷_, _++_}
-use Prim.Native.Nat.{ℕ, _+_, _<_, _≤_}
+use Prim.Native.Nat.{ℕ, _+_, _≤_}
 use native.Mathlib.Omega.{arith}
 use lib.Dec.{ltb}
 use lib.IntN.{ℤ, pos}
@@ -10,29 +10,33 @@ use lib.ListN.{length, replicate}
 use Rattle.line_text.proofs.Choice.{cond-true, cond-false}
 use Rattle.line_form.specs.declared.Reading.{Reading}
 use Rattle.line_form.specs.Grammar.{hereOf, startsOf, stoppedOf, fieldOf, closedOf, startOf, dnetFormOf, ccorFormOf, dateOf, placeOf, activityOf, laterOf, restOf, runFormOf, partOf}
-use Rattle.line_form.specs.Forms.{AllNine, NineIn, Part, partsText, dnetParts, dnetText, ccorParts, ccorText, fieldParts, arrayPart, switchesPart, runParts, runText}
+use Rattle.line_form.specs.Forms.{Part, partsText, dnetParts, IsDnet, ccorParts, IsCcor, fieldParts, arrayPart, switchesPart, runParts, IsRun, runValues}
 use Rattle.line_form.proofs.Bytes.{and-first, and-second, here-other}
 use Rattle.line_form.proofs.Parts.{readOf, filled, AllPlain, Rising, form-read, form-gives, field-gives, read-length}
 
 -- ---- dnet and ccor
 
-pub dnet-read : (v : List ℤ) → AllNine (partOf v 5 0) → length (dnetText v) < 512
-    → dnetFormOf (dnetText v) ≡ record { ok = true; next = length (partsText dnetParts v); values = partOf v 5 0 ++ replicate 36 (pos 0) }
-unfolding dnetFormOf dnetText readOf filled partOf
-dnet-read v n l = form-read dnetParts (41 ∷ []) v (tt, tt) tt (n, tt) l
+-- the form of five numbers is read with just these
+pub dnet-read : (s : List ℕ) (v : List ℤ) → IsDnet s v
+    → dnetFormOf s ≡ record { ok = true; next = length (partsText dnetParts v); values = partOf v 5 0 ++ replicate 36 (pos 0) }
+unfolding dnetFormOf readOf filled partOf
+dnet-read s v h = form-read dnetParts (41 ∷ []) s v (tt, tt) tt (h .0, (h .1, tt), h .2)
 
-pub dnet-gives : (s : List ℕ) → (dnetFormOf s) .ok ≡ true → s ≡ dnetText ((dnetFormOf s) .values)
-unfolding dnetFormOf dnetText readOf
-dnet-gives s h = form-gives dnetParts (41 ∷ []) s (omega arith, omega arith, tt) h
+-- a line that is read as one is the form of the numbers read
+pub dnet-gives : (s : List ℕ) → (dnetFormOf s) .ok ≡ true → IsDnet s ((dnetFormOf s) .values)
+unfolding dnetFormOf readOf
+dnet-gives s h = let g = form-gives dnetParts (41 ∷ []) s (omega arith, omega arith, tt) h in (g .0, g .1 .0, g .2)
 
-pub ccor-read : (v : List ℤ) → AllNine (partOf v 4 0) → length (ccorText v) < 512
-    → ccorFormOf (ccorText v) ≡ record { ok = true; next = length (partsText ccorParts v); values = partOf v 4 0 ++ replicate 37 (pos 0) }
-unfolding ccorFormOf ccorText readOf filled partOf
-ccor-read v n l = form-read ccorParts (41 ∷ []) v (tt, tt) tt (n, tt) l
+-- the form of four numbers is read with just these
+pub ccor-read : (s : List ℕ) (v : List ℤ) → IsCcor s v
+    → ccorFormOf s ≡ record { ok = true; next = length (partsText ccorParts v); values = partOf v 4 0 ++ replicate 37 (pos 0) }
+unfolding ccorFormOf readOf filled partOf
+ccor-read s v h = form-read ccorParts (41 ∷ []) s v (tt, tt) tt (h .0, (h .1, tt), h .2)
 
-pub ccor-gives : (s : List ℕ) → (ccorFormOf s) .ok ≡ true → s ≡ ccorText ((ccorFormOf s) .values)
-unfolding ccorFormOf ccorText readOf
-ccor-gives s h = form-gives ccorParts (41 ∷ []) s (omega arith, omega arith, tt) h
+-- a line that is read as one is the form of the numbers read
+pub ccor-gives : (s : List ℕ) → (ccorFormOf s) .ok ≡ true → IsCcor s ((ccorFormOf s) .values)
+unfolding ccorFormOf readOf
+ccor-gives s h = let g = form-gives ccorParts (41 ∷ []) s (omega arith, omega arith, tt) h in (g .0, g .1 .0, g .2)
 
 -- ---- run
 
@@ -106,43 +110,37 @@ plain-fields qs a = (tt, (tt, (tt, (tt, (tt, (tt, (tt, (tt, (tt, (tt, a)))))))))
 rising-fields : (qs : List Part) → Rising 10 41 qs → Rising 0 41 (fieldParts ++ qs)
 rising-fields qs a = (omega arith, omega arith, (omega arith, omega arith, (omega arith, omega arith, (omega arith, omega arith, (omega arith, omega arith, (omega arith, omega arith, (omega arith, omega arith, (omega arith, omega arith, (omega arith, omega arith, (omega arith, omega arith, a))))))))))
 
--- the numbers of a run form: all 41, or all but the array's
-abbrev pub runValues : Bool → List ℤ → List ℤ
-runValues true v = partOf v 41 0
-runValues false v = partOf v 10 0 ++ replicate 7 (pos 0) ++ partOf v 24 17
-
 run-is : (s : List ℕ) (b : Bool) (r : Reading) → (runFormOf s) .array ≡ b → (runFormOf s) .reading ≡ r → runFormOf s ≡ record { array = b; reading = r }
 run-is s b r e f = ap (λ (a : Bool). record { array = a; reading = (runFormOf s) .reading }) e ∙ ap (λ (q : Reading). record { array = b; reading = q }) f
 
-pub run-read : (b : Bool) (v : List ℤ) → NineIn (runParts b) v → length (runText b v) < 512
-    → runFormOf (runText b v) ≡ record { array = b; reading = record { ok = true; next = length (partsText (runParts b) v); values = runValues b v } }
-unfolding runText filled partOf
-run-read true v n l =
-    let s : List ℕ = runText true v in
-    let q = form-read (runParts true) (41 ∷ 41 ∷ []) v (plain-fields (arrayPart ∷ switchesPart ∷ []) (tt, (tt, tt))) tt n l in
+-- the run form of numbers, with or without the array, is read with just these
+pub run-read : (b : Bool) (s : List ℕ) (v : List ℤ) → IsRun b s v
+    → runFormOf s ≡ record { array = b; reading = record { ok = true; next = length (partsText (runParts b) v); values = runValues b v } }
+unfolding filled partOf
+run-read true s v h =
+    let q = form-read (runParts true) (41 ∷ 41 ∷ []) s v (plain-fields (arrayPart ∷ switchesPart ∷ []) (tt, (tt, tt))) tt h in
     let a : (array s) .ok ≡ true = array-read s (read-all s true (ap (λ (r : Reading). r .ok) q)) in
     run-is s true _ (mark-is s true (array-there s a)) (with-array s a ∙ q)
-run-read false v n l =
-    let s : List ℕ = runText false v in
-    let q = form-read (runParts false) (41 ∷ 41 ∷ []) v (plain-fields (switchesPart ∷ []) (tt, tt)) tt n l in
+run-read false s v h =
+    let q = form-read (runParts false) (41 ∷ 41 ∷ []) s v (plain-fields (switchesPart ∷ []) (tt, tt)) tt h in
     let e : startsOf s ((fields s) .next) (arrayPart .text) ≡ false = no-array s _ (switches-there s (read-all s false (ap (λ (r : Reading). r .ok) q))) in
     run-is s false _ (mark-is s false e) (without-array s (not-read s e) ∙ q)
 
-pub run-gives : (s : List ℕ) → (runFormOf s) .reading .ok ≡ true → s ≡ runText ((runFormOf s) .array) ((runFormOf s) .reading .values)
-unfolding runText
+-- a line that is read as one is the run form of the numbers read
+pub run-gives : (s : List ℕ) → (runFormOf s) .reading .ok ≡ true → IsRun ((runFormOf s) .array) s ((runFormOf s) .reading .values)
 run-gives s h = by ((array s) .ok) refl
   where
-    by : (b : Bool) → (array s) .ok ≡ b → s ≡ runText ((runFormOf s) .array) ((runFormOf s) .reading .values)
+    same : (b : Bool) (r : Reading) → (runFormOf s) .array ≡ b → (runFormOf s) .reading ≡ r → IsRun b s (r .values) → IsRun ((runFormOf s) .array) s ((runFormOf s) .reading .values)
+    same b r e f g = subst (λ (a : Bool). IsRun a s ((runFormOf s) .reading .values)) (sym e) (subst (λ (q : Reading). IsRun b s (q .values)) (sym f) g)
+
+    by : (b : Bool) → (array s) .ok ≡ b → IsRun ((runFormOf s) .array) s ((runFormOf s) .reading .values)
     by true e =
         let p = with-array s e in
-        let q : s ≡ runText true ((closedOf s (41 ∷ 41 ∷ []) (readOf s (runParts true) startOf)) .values) =
-        form-gives (runParts true) (41 ∷ 41 ∷ []) s (rising-fields (arrayPart ∷ switchesPart ∷ []) (omega arith, omega arith, (omega arith, omega arith, tt)))
-        (ap (λ (r : Reading). r .ok) (sym p) ∙ h) in
-        q ∙ (ap (λ (r : Reading). runText true (r .values)) (sym p) ∙ ap (λ (b : Bool). runText b ((runFormOf s) .reading .values)) (sym (mark-is s true (array-there s e))))
+        let k = ap (λ (r : Reading). r .ok) (sym p) ∙ h in
+        same true _ (mark-is s true (array-there s e)) p
+        (form-gives (runParts true) (41 ∷ 41 ∷ []) s (rising-fields (arrayPart ∷ switchesPart ∷ []) (omega arith, omega arith, (omega arith, omega arith, tt))) k)
     by false e =
         let p = without-array s e in
         let k = ap (λ (r : Reading). r .ok) (sym p) ∙ h in
-        let q : s ≡ runText false ((closedOf s (41 ∷ 41 ∷ []) (readOf s (runParts false) startOf)) .values) =
-        form-gives (runParts false) (41 ∷ 41 ∷ []) s (rising-fields (switchesPart ∷ []) (omega arith, omega arith, tt)) k in
-        let m : (runFormOf s) .array ≡ false = mark-is s false (no-array s _ (switches-there s (read-all s false k))) in
-        q ∙ (ap (λ (r : Reading). runText false (r .values)) (sym p) ∙ ap (λ (b : Bool). runText b ((runFormOf s) .reading .values)) (sym m))
+        same false _ (mark-is s false (no-array s _ (switches-there s (read-all s false k)))) p
+        (form-gives (runParts false) (41 ∷ 41 ∷ []) s (rising-fields (switchesPart ∷ []) (omega arith, omega arith, tt)) k)

@@ -16,6 +16,7 @@ use Rattle.line_text.proofs.DecimalDigits.{decimal-one, decimal-more}
 use Rattle.line_form.specs.declared.WholeNumber.{WholeNumber}
 use Rattle.line_form.specs.Grammar.{hereOf, startsOf, digitOf, moreOf, signedOf, positiveOf, numberOf}
 use Rattle.line_form.specs.Forms.{numberText, Nine}
+use Rattle.line_form.proofs.Laws.{room-less, room-next}
 use Rattle.line_form.proofs.Bytes.{and-first, and-second, and-both, here-below, here-byte, here-is, here-other}
 
 -- ---- digits
@@ -199,20 +200,23 @@ module _ (s : List ℕ) where
     small : AllDigits digits
     there : startsOf s k (bytesOf digits) ≡ true
     is : moreOf m s k v ≡ record { size = valueOf v digits; next = k + length digits }
+    nine : (v + 1) * 10 ^ m ≤ 1000000000 → valueOf v digits < 1000000000
 
   none-more : (m k v : ℕ) → moreOf m s k v ≡ record { size = v; next = k } → More m k v
   unfolding bytesOf valueOf AllDigits startsOf
-  none-more m k v h = let e : k + 0 ≡ k = omega arith in record { digits = []; small = tt; there = refl; is = rw e h }
+  none-more m k v h = let e : k + 0 ≡ k = omega arith in record { digits = []; small = tt; there = refl; is = rw e h; nine = room-less v m }
 
   one-more : (m k v : ℕ) → digitOf s k ≤ 9 → More m (k + 1) (10 * v + digitOf s k) → More (suc m) k v
   unfolding moreOf bytesOf valueOf AllDigits startsOf
   one-more m k v h f =
       let e : k + suc (length (f .digits)) ≡ k + 1 + length (f .digits) = omega arith in
+      let p : suc m - 1 ≡ m = omega arith in
       record {
         digits = digitOf s k ∷ f .digits;
         small = (h, f .small);
         there = and-both _ _ (digit-here s k h) (f .there);
         is = sym (cond-false _ _ _ (le-ltb 9 (digitOf s k) h)) ∙ rw e (f .is);
+        nine = λ r. f .nine (rw p at (room-next v (digitOf s k) (suc m) (omega arith) h r));
       }
 
   more-gives : (m k v : ℕ) → More m k v
@@ -245,6 +249,7 @@ module _ (minus : Bool) (s : List ℕ) where
   pub record Positive (k : ℕ) : Type 0 where
     pub size : ℕ
     pub positive : 0 < size
+    pub nine : size < 1000000000
     pub there : startsOf s k (decimalText size) ≡ true
     pub is : positiveOf minus s k ≡ record { ok = true; value = signedOf minus size; next = k + length (decimalText size) }
 
@@ -268,6 +273,7 @@ module _ (minus : Bool) (s : List ℕ) where
           record {
             size = n;
             positive = value-positive d (w .digits) first;
+            nine = w .nine (omega arith);
             there = rw text (and-both _ _ (digit-here s k small) (w .there));
             is = sym (cond-false _ _ _ e) ∙ (sym (cond-false _ _ _ f) ∙ rw (len, w .is));
           }
@@ -297,26 +303,27 @@ module _ (s : List ℕ) where
   -- what is read as a number is its text
   pub record Number (k : ℕ) : Type 0 where
     pub number : ℤ
+    pub nine : Nine number
     pub there : startsOf s k (numberText number) ≡ true
     pub is : numberOf s k ≡ record { ok = true; value = number; next = k + length (numberText number) }
 
   above : (k : ℕ) → Positive false s k → numberOf s k ≡ positiveOf false s k → Number k
   unfolding numberText
-  above k p e = record { number = pos (p .size); there = p .there; is = e ∙ p .is }
+  above k p e = record { number = pos (p .size); nine = p .nine; there = p .there; is = e ∙ p .is }
 
   below : (k : ℕ) → hereOf s k 45 ≡ true → Positive true s (k + 1) → numberOf s k ≡ positiveOf true s (k + 1) → Number k
   unfolding numberText startsOf
-  below k h p e = by (p .size) (p .positive) (p .there) (p .is)
+  below k h p e = by (p .size) (p .positive) (p .nine) (p .there) (p .is)
     where
-      by : (n : ℕ) → 0 < n → startsOf s (k + 1) (decimalText n) ≡ true
+      by : (n : ℕ) → 0 < n → n < 1000000000 → startsOf s (k + 1) (decimalText n) ≡ true
           → positiveOf true s (k + 1) ≡ record { ok = true; value = signedOf true n; next = k + 1 + length (decimalText n) } → Number k
-      by zero g t i = absurd (none g)
+      by zero g l t i = absurd (none g)
         where
           none : 0 < 0 → ⊥
-          none l = omega arith
-      by (suc n) g t i =
+          none j = omega arith
+      by (suc n) g l t i =
           let f : k + suc (length (decimalText (suc n))) ≡ k + 1 + length (decimalText (suc n)) = omega arith in
-          record { number = negsuc n; there = and-both _ _ h t; is = e ∙ rw f i }
+          record { number = negsuc n; nine = l; there = and-both _ _ h t; is = e ∙ rw f i }
 
   pub number-gives : (k : ℕ) → (numberOf s k) .ok ≡ true → Number k
   unfolding numberOf numberText startsOf
@@ -326,6 +333,7 @@ module _ (s : List ℕ) where
       by true b e f g =
           record {
             number = pos 0;
+            nine = omega arith;
             there = rw (decimal-one 0 zero-le) (and-both _ _ e refl);
             is = sym (cond-true _ _ _ e) ∙ rw (decimal-one 0 zero-le);
           }

@@ -1,9 +1,11 @@
 -- The line program's forms as texts of their numbers. A form has its numbers where a Reading has them: v holds the fields 0 to 9, the
 -- array's values from 10, the switches from 17; of dnet and ccor the first numbers.
 use Prim.Native.Nat.{ℕ, suc, _<_}
-use mathlib.Core.Bool.{Bool, cond}
+use mathlib.Core.Path.{_≡_}
+use mathlib.Core.Bool.{Bool, true, false, cond}
 use mathlib.Core.List.{List, [], _∷_, _++_}
 use lib.IntN.{ℤ, pos, negsuc}
+use lib.ListN.{length, replicate}
 use Rattle.line_text.specs.Text.{decimalText}
 use Rattle.line_form.specs.Grammar.{partOf}
 
@@ -45,15 +47,21 @@ NineIn (p ∷ ps) v = AllNine (partOf v (p .count) (p .at)) × NineIn ps v
 abbrev pub dnetParts : List Part
 dnetParts = record { text = 40 ∷ 100 ∷ 110 ∷ 101 ∷ 116 ∷ []; at = 0; count = 5 } ∷ []
 
-unfoldable pub dnetText : List ℤ → List ℕ
+abbrev pub dnetText : List ℤ → List ℕ
 dnetText v = partsText dnetParts v ++ (41 ∷ [])
+
+abbrev pub IsDnet : List ℕ → List ℤ → Type 0
+IsDnet s v = (s ≡ dnetText v) × AllNine (partOf v 5 0) × (length s < 512)
 
 -- (ccor alt r h1 zh)
 abbrev pub ccorParts : List Part
 ccorParts = record { text = 40 ∷ 99 ∷ 99 ∷ 111 ∷ 114 ∷ []; at = 0; count = 4 } ∷ []
 
-unfoldable pub ccorText : List ℤ → List ℕ
+abbrev pub ccorText : List ℤ → List ℕ
 ccorText v = partsText ccorParts v ++ (41 ∷ [])
+
+abbrev pub IsCcor : List ℕ → List ℤ → Type 0
+IsCcor s v = (s ≡ ccorText v) × AllNine (partOf v 4 0) × (length s < 512)
 
 -- the ten fields of a record, one nested form each
 abbrev pub fieldParts : List Part
@@ -92,5 +100,13 @@ abbrev pub runParts : Bool → List Part
 runParts array = fieldParts ++ cond array (arrayPart ∷ switchesPart ∷ []) (switchesPart ∷ [])
 
 -- (run (year ..) .. (switches ..))
-unfoldable pub runText : Bool → List ℤ → List ℕ
+abbrev pub runText : Bool → List ℤ → List ℕ
 runText array v = partsText (runParts array) v ++ (41 ∷ 41 ∷ [])
+
+abbrev pub IsRun : Bool → List ℕ → List ℤ → Type 0
+IsRun array s v = (s ≡ runText array v) × NineIn (runParts array) v × (length s < 512)
+
+-- the numbers that a run form has: all 41, or all but the array's
+abbrev pub runValues : Bool → List ℤ → List ℤ
+runValues true v = partOf v 41 0
+runValues false v = partOf v 10 0 ++ replicate 7 (pos 0) ++ partOf v 24 17
