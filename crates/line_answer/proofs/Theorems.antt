@@ -1,32 +1,96 @@
--- However the input is cut into chunks, the program writes the answers to the lines of the whole; a line of more than 511 bytes is no form.
+-- A line's answer by the form that it is; and however the input is cut into chunks, the program writes the answers to the lines of the whole.
 use mathlib.Core.Path.{_≡_, refl, sym, ap, _∙_}
 use mathlib.Core.Bool.{Bool, true, false, cond}
 use mathlib.Core.List.{List, [], _∷_, _++_, append-assoc, append-nil}
 use Prim.Native.Nat.{ℕ, suc, _<_, _≤_}
-use native.Mathlib.Omega.{arith}
-use borrow.Author.Tests.{le-ltb, ltb-true, ltb-false, ne-eqb}
-use lib.Dec.{ltb, eqb}
 use native.Mathlib.Nat.{le-of-lt, le-refl}
-use lib.ListN.{length, take, length-append}
+use native.Mathlib.Omega.{arith}
+use borrow.Author.Tests.{ltb-true, ltb-false, ne-eqb}
+use lib.Dec.{ltb, eqb}
+use lib.IntN.{ℤ, pos}
+use lib.ListN.{length, take, getD, length-append}
 use lib.Seq.{length-take-le, take-all, take-append-le}
+use lib.Ieee.{Float}
+use Rattle.mixing.specs.Mixing.{ccorOf, dnetOf}
 use Rattle.line_form.specs.declared.Reading.{Reading}
-use Rattle.line_form.specs.Grammar.{closedOf, restOf, dnetFormOf, ccorFormOf, runFormOf}
+use Rattle.line_form.specs.declared.Run.{Run}
+use Rattle.line_form.specs.Grammar.{dnetFormOf, ccorFormOf, runFormOf, thousandthsOf, thousandthsAt, partOf}
+use Rattle.line_form.specs.Forms.{partsText, runParts, runValues, IsDnet, IsCcor, IsRun}
+use Rattle.line_form.proofs.Theorems.{dnet-read, dnet-gives, ccor-read, ccor-gives, run-read, run-gives}
+use Rattle.line_text.specs.Text.{valueText, refusedText}
 use Rattle.line_text.proofs.Choice.{cond-true, cond-false}
-use Rattle.line_text.specs.Text.{refusedText}
-use Rattle.line_answer.specs.Answer.{answerText}
+use Rattle.line_answer.specs.Answer.{dnetValue, ccorValue, runAnswer, answerText}
 use Rattle.line_answer.specs.Lines.{linesFrom, afterOf, answersFrom, answersTo, Progress, keptOf, stepOf, fedOf, lastOf, begin, writtenFor, wholeOf}
+
+-- ---- a line by its form
+
+false-is : (b : Bool) → (b ≡ true → ⊥) → b ≡ false
+false-is true f = absurd (f refl)
+false-is false f = refl
+
+-- the forms differ in their second byte
+module _ (s : List ℕ) where
+  second : (c : ℕ) (t : List ℕ) → s ≡ t → getD t 1 0 ≡ c → (getD s 1 0 ≡ c)
+  second c t e h = ap (λ (l : List ℕ). getD l 1 0) e ∙ h
+
+  no-dnet : (getD s 1 0 ≡ 100 → ⊥) → (dnetFormOf s) .ok ≡ false
+  unfolding partsText
+  no-dnet f = false-is _ (λ h. f (second 100 _ (dnet-gives s h .0) refl))
+
+  no-ccor : (getD s 1 0 ≡ 99 → ⊥) → (ccorFormOf s) .ok ≡ false
+  unfolding partsText
+  no-ccor f = false-is _ (λ h. f (second 99 _ (ccor-gives s h .0) refl))
+
+-- the number at an index, as thousandths
+abbrev pub thousandth : List ℤ → ℕ → Float
+thousandth v i = thousandthsOf (getD v i (pos 0))
+
+-- a dnet form is answered with the value of dnet
+pub dnet-answer : (s : List ℕ) (v : List ℤ) (number : ℕ) → IsDnet s v
+    → answerText s number ≡ valueText (dnetOf (thousandth v 0) (thousandth v 1) (thousandth v 2) (thousandth v 3) (thousandth v 4))
+unfolding answerText dnetValue thousandthsAt partOf
+dnet-answer s v number h =
+    let e = dnet-read s v h in
+    sym (cond-true _ _ _ (ap (λ (r : Reading). r .ok) e)) ∙ ap (λ (r : Reading). valueText (dnetValue r)) e
+
+-- a ccor form is answered with the value of ccor
+pub ccor-answer : (s : List ℕ) (v : List ℤ) (number : ℕ) → IsCcor s v
+    → answerText s number ≡ valueText (ccorOf (thousandth v 0) (thousandth v 1) (thousandth v 2) (thousandth v 3))
+unfolding answerText ccorValue thousandthsAt partOf partsText
+ccor-answer s v number h =
+    let e = ccor-read s v h in
+    let c : getD s 1 0 ≡ 99 = second s 99 _ (h .0) refl in
+    sym (cond-false _ _ _ (no-dnet s (λ d. omega arith)))
+    ∙ (sym (cond-true _ _ _ (ap (λ (r : Reading). r .ok) e)) ∙ ap (λ (r : Reading). valueText (ccorValue r)) e)
+
+-- a run form is answered with the row, or the refusal, of its record under its switches
+pub run-answer : (array : Bool) (s : List ℕ) (v : List ℤ) (number : ℕ) → IsRun array s v
+    → answerText s number
+    ≡ runAnswer (record { array = array; reading = record { ok = true; next = length (partsText (runParts array) v); values = runValues array v } })
+unfolding answerText partsText
+run-answer array s v number h =
+    let e = run-read array s v h in
+    let c : getD s 1 0 ≡ 114 = second s 114 _ (h .0) refl in
+    sym (cond-false _ _ _ (no-dnet s (λ d. omega arith)))
+    ∙ (sym (cond-false _ _ _ (no-ccor s (λ d. omega arith))) ∙ (sym (cond-true _ _ _ (ap (λ (f : Run). f .reading .ok) e)) ∙ ap runAnswer e))
+
+-- a line that is no form is refused with 7 and its number
+pub no-form : (s : List ℕ) (number : ℕ) → ((v : List ℤ) → IsDnet s v → ⊥) → ((v : List ℤ) → IsCcor s v → ⊥) → ((array : Bool) (v : List ℤ) → IsRun array s v → ⊥)
+    → answerText s number ≡ refusedText 7 number
+unfolding answerText
+no-form s number f g h =
+    sym (cond-false _ _ _ (false-is _ (λ e. f _ (dnet-gives s e))))
+    ∙ (sym (cond-false _ _ _ (false-is _ (λ e. g _ (ccor-gives s e)))) ∙ sym (cond-false _ _ _ (false-is _ (λ e. h ((runFormOf s) .array) ((runFormOf s) .reading .values) (run-gives s e)))))
 
 -- ---- long lines
 
-closed-long : (s text : List ℕ) (r : Reading) → 512 ≤ length s → (closedOf s text r) .ok ≡ false
-unfolding closedOf
-closed-long s text r h = rw (le-ltb (length s) 512 h)
-
 -- a line of more than 511 bytes is refused with 7
-pub long-line : (s : List ℕ) (number : ℕ) → 512 ≤ length s → refusedText 7 number ≡ answerText s number
-unfolding answerText dnetFormOf ccorFormOf runFormOf restOf
+pub long-line : (s : List ℕ) (number : ℕ) → 512 ≤ length s → answerText s number ≡ refusedText 7 number
 long-line s number h =
-    cond-false _ _ _ (closed-long s _ _ h) ∙ (cond-false _ _ _ (closed-long s _ _ h) ∙ cond-false _ _ _ (closed-long s _ _ h))
+    no-form s number (λ v f. short (f .2)) (λ v f. short (f .2)) (λ array v f. short (f .2))
+  where
+    short : length s < 512 → ⊥
+    short l = omega arith
 
 -- so the first 512 bytes of a line decide its answer
 pub cut-line : (s : List ℕ) (number : ℕ) → answerText (take 512 s) number ≡ answerText s number
@@ -37,7 +101,7 @@ cut-line s number = by (ltb (length s) 512) refl
     by false e =
         let h : 512 ≤ length s = ltb-false _ _ e in
         let g : 512 ≤ length (take 512 s) = rw (length-take-le 512 s h) (le-refl 512) in
-        sym (long-line (take 512 s) number g) ∙ long-line s number h
+        long-line (take 512 s) number g ∙ sym (long-line s number h)
 
 kept-cut : (l : List ℕ) (b : ℕ) → keptOf (take 512 l) b ≡ take 512 (l ++ (b ∷ []))
 unfolding keptOf
