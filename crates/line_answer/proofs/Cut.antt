@@ -2,7 +2,7 @@
 use mathlib.Core.Path.{_≡_, refl, ap, _∙_}
 use mathlib.Core.Bool.{true, false}
 use mathlib.Core.List.{List, [], _∷_, _++_}
-use Prim.Native.Nat.{ℕ, _+_, _<_, _≤_}
+use Prim.Native.Nat.{ℕ, _+_, _<_, _≤_, zero-le}
 use native.Mathlib.Numerals.{add-one}
 use borrow.Author.Tests.{lt-ltb, le-ltb, eq-eqb, ne-eqb}
 use lib.Dec.{ltb, eqb}
@@ -12,7 +12,7 @@ use Rattle.line_text.proofs.Choice.{cond-true, cond-false}
 use Rattle.line_text.specs.Text.{written, Writes}
 use Rattle.line_answer.specs.declared.Place.{Place}
 use Rattle.line_answer.specs.Answer.{answerText}
-use Rattle.line_answer.specs.Lines.{Progress, afterOf, progressOf, keptOf, stepOf, fedOf, lastOf}
+use Rattle.line_answer.specs.Lines.{Progress, afterOf, progressOf, keptOf, stepOf, fedOf, lastOf, begin}
 
 pub after-more : (n : ℕ) → n < 0xffff_ffff_ffff_ffff → n + 1 ≡ afterOf n
 after-more n h = cond-true _ _ _ (lt-ltb n 0xffff_ffff_ffff_ffff h)
@@ -51,8 +51,10 @@ module _ (line out : List ℕ) (p : Place) (b : ℕ) where
 
 -- ---- a chunk
 
-pub fed-first : (chunk : List ℕ) (s : Progress) → fedOf (drop 0 chunk) s ≡ fedOf chunk s
-fed-first chunk s = refl
+pub fed-first : (chunk line out : List ℕ) (len number : ℕ)
+    → fedOf (drop 0 chunk) (progressOf line out (record { len = len; number = number; used = 0 })) ≡ fedOf chunk (begin (take len line) number)
+unfolding progressOf
+fed-first chunk line out len number = refl
 
 pub fed-more : (chunk : List ℕ) (i : ℕ) (s t : Progress) → i < length chunk → t ≡ stepOf (getD chunk i 0) s → fedOf (drop (i + 1) chunk) t ≡ fedOf (drop i chunk) s
 unfolding fedOf
@@ -64,14 +66,14 @@ fed-last chunk i s e = rw (e, drop-length chunk)
 
 -- ---- the end of the input
 
-module _ (line out : List ℕ) (p : Place) where
-  pub no-last : p .len ≡ 0 → take (p .used) out ≡ lastOf (progressOf line out p)
-  unfolding progressOf lastOf
+module _ (line : List ℕ) (len number : ℕ) where
+  pub no-last : len ≡ 0 → [] ≡ lastOf (begin (take len line) number)
+  unfolding lastOf
   no-last e = cond-true _ _ _ (ap (λ (k : ℕ). eqb (length (take k line)) 0) e)
 
-  pub last-line : (p .len ≡ 0 → ⊥) → p .len ≤ length line → (c : List ℕ) (r : ℕ) → p .used ≤ length out
-      → Writes out (p .used) (answerText (take (p .len) line) (p .number)) c r → take r c ≡ lastOf (progressOf line out p)
-  unfolding progressOf lastOf
-  last-line n h c r g w =
-      let some : eqb (length (take (p .len) line)) 0 ≡ false = rw (length-take-le (p .len) line h) (ne-eqb _ _ n) in
-      take-written out c (answerText (take (p .len) line) (p .number)) (p .used) r g w ∙ cond-false _ _ _ some
+  pub last-line : (len ≡ 0 → ⊥) → len ≤ length line → (out c : List ℕ) (r : ℕ) → Writes out 0 (answerText (take len line) number) c r
+      → take r c ≡ lastOf (begin (take len line) number)
+  unfolding lastOf
+  last-line n h out c r w =
+      let some : eqb (length (take len line)) 0 ≡ false = rw (length-take-le len line h) (ne-eqb _ _ n) in
+      take-written out c (answerText (take len line) number) 0 r zero-le w ∙ cond-false _ _ _ some

@@ -36,6 +36,10 @@ pub record Progress : Type 0 where
   pub number : ℕ
   pub printed : List ℕ
 
+-- where it stands before a chunk: nothing printed yet
+abbrev pub begin : List ℕ → ℕ → Progress
+begin kept number = record { kept = kept; number = number; printed = [] }
+
 -- as it is held in the buffers of the line and of the answers
 unfoldable pub progressOf : List ℕ → List ℕ → Place → Progress
 progressOf line out p = record { kept = take (p .len) line; number = p .number; printed = take (p .used) out }
@@ -59,10 +63,6 @@ unfoldable pub lastOf : Progress → List ℕ
 lastOf s = cond (eqb (length (s .kept)) 0) (s .printed) (s .printed ++ answerText (s .kept) (s .number))
 
 -- ---- chunk by chunk
-
--- nothing printed yet
-abbrev pub begin : List ℕ → ℕ → Progress
-begin kept number = record { kept = kept; number = number; printed = [] }
 
 -- what is written for the chunks that the input comes in: the answers of each, and of a last line without newline
 unfoldable pub writtenFor : List (List ℕ) → List ℕ → ℕ → List ℕ

@@ -4,7 +4,7 @@ ghost use Prim.Native.Nat.{_+_, _*_, _≤_};
 ghost use lib.ListN.{length, take};
 ghost use Rattle.line_text.specs.Text.{Writes};
 ghost use Rattle.line_answer.specs.Answer.{dnetValue, ccorValue, outcomeText, runAnswer, answerText};
-ghost use Rattle.line_answer.specs.Lines.{afterOf, progressOf, stepOf, fedOf, lastOf};
+ghost use Rattle.line_answer.specs.Lines.{afterOf, progressOf, stepOf, fedOf, lastOf, begin};
 use acceptance::Answer;
 use atmosphere::gtd7;
 use line_form::Reading;
@@ -131,13 +131,28 @@ pub fn take_byte(b: u8, line: &mut [u8], out: &mut [u8], p: Place) -> Place
     p
 }
 
-// The bytes of a chunk, whose answers the buffer has room for.
+// Before the input.
+pub fn start() -> Place
+    ensures { λ r. ⌜ (r .len ≡ 0) × (r .number ≡ 1) ⌝ }
+{
+    Place {
+        len: 0,
+        number: 1,
+        used: 0,
+    }
+}
+
+// A chunk of the input, and the answers to the lines that end in it, for which the buffer has room.
 pub fn feed(chunk: &[u8], line: &mut [u8], out: &mut [u8], p: Place) -> Place
-    requires { ⌜ (length (now line) ≡ 512) × (p .len ≤ 512) × (p .used + 193 * length (now chunk) ≤ length (now out)) ⌝ }
-    ensures { λ r. ⌜ (progressOf (now (line .exit)) (now (out .exit)) r ≡ fedOf (now (chunk .entry)) (progressOf (now (line .entry)) (now (out .entry)) p))
+    requires { ⌜ (length (now line) ≡ 512) × (p .len ≤ 512) × (193 * length (now chunk) ≤ length (now out)) ⌝ }
+    ensures { λ r. ⌜ (progressOf (now (line .exit)) (now (out .exit)) r ≡ fedOf (now (chunk .entry)) (begin (take (p .len) (now (line .entry))) (p .number)))
         × (r .len ≤ 512) × (r .used ≤ length (now (out .entry))) ⌝ }
 {
-    let mut q = p;
+    let mut q = Place {
+        len: p.len,
+        number: p.number,
+        used: 0,
+    };
     let mut i: usize = 0;
     while i < chunk.len() {
         let b = chunk[i];
@@ -147,16 +162,15 @@ pub fn feed(chunk: &[u8], line: &mut [u8], out: &mut [u8], p: Place) -> Place
     q
 }
 
-// The end of the input.
+// The end of the input, and the answer to a last line without newline.
 pub fn finish(line: &[u8], out: &mut [u8], p: Place) -> usize
-    requires { ⌜ (p .len ≤ length (now line)) × (p .used + 193 ≤ length (now out)) ⌝ }
-    ensures { λ r. ⌜ (take r (now (out .exit)) ≡ lastOf (progressOf (now (line .entry)) (now (out .entry)) p)) × (r ≤ length (now (out .entry))) ⌝ }
+    requires { ⌜ (p .len ≤ length (now line)) × (193 ≤ length (now out)) ⌝ }
+    ensures { λ r. ⌜ (take r (now (out .exit)) ≡ lastOf (begin (take (p .len) (now (line .entry))) (p .number))) × (r ≤ length (now (out .entry))) ⌝ }
 {
     let len = p.len;
     let number = p.number;
-    let used = p.used;
     if len == 0 {
-        return used;
+        return 0;
     }
-    answer(out, used, &line[..len], number)
+    answer(out, 0, &line[..len], number)
 }

@@ -24,7 +24,7 @@ patternOf x = cond (isNan x) 0x7ff8_0000_0000_0000 (toBits binary64 x)
 unfoldable pub hexText : Float → List ℕ
 hexText x = digits 16 16 (patternOf x)
 
--- decimal digits: those of all but the last digit, where there are any, and the last one; no number has more digits than the number m
+-- the decimal digits of n: below ten its own, else those of n / 10 and then the last one; m bounds the recursion, and n is enough for n
 unfoldable pub decimalIn : ℕ → ℕ → List ℕ
 decimalIn zero n = glyph n ∷ []
 decimalIn (suc m) n = cond (ltb n 10) (glyph n ∷ []) (decimalIn m (n / 10) ++ (glyph (n % 10) ∷ []))

@@ -3,8 +3,8 @@ use mathlib.Core.Path.{_≡_, _∙_}
 use Prim.Native.Nat.{_≤_, _+_, _*_, _-_}
 use native.Mathlib.Omega.{arith}
 use borrow.Author.Needs.{needs}
-use lib.ListN.{length, drop}
-use Rattle.line_answer.specs.Lines.{progressOf, fedOf}
+use lib.ListN.{length, take, drop}
+use Rattle.line_answer.specs.Lines.{progressOf, fedOf, begin}
 use Rattle.line_answer.proofs.Cut.{fed-first, fed-more, fed-last}
 use Rattle.line_answer.proofs.feed.Statement.{statement}
 use Rattle.line_answer.proofs.feed.Tie as tie
@@ -12,13 +12,15 @@ use Rattle.line_answer.proofs.feed.Tie as tie
 abbrev Inv-loop : tie.InvT-loop
 Inv-loop chunk line₀ out₀ q₀ i₀ line out q i =
     (i ≤ length chunk) × (length line ≡ 512) × (length out ≡ length out₀) × (q .len ≤ 512) × (q .used + 193 * (length chunk - i) ≤ length out₀)
-    × (fedOf (drop i chunk) (progressOf line out q) ≡ fedOf chunk (progressOf line₀ out₀ q₀))
+    × (fedOf (drop i chunk) (progressOf line out q) ≡ fedOf chunk (begin (take (q₀ .len) line₀) (q₀ .number)))
 
 abbrev μ-loop : tie.MeasureT-loop
 μ-loop chunk line₀ out₀ q₀ i₀ line out q i = length chunk - i
 
 loop-holds : tie.Need-loop-holds Inv-loop μ-loop
-loop-holds c = (search needs, search needs, search needs, search needs, search needs, fed-first _ _)
+loop-holds c =
+    let a = c .before .before .before .args in
+    (search needs, search needs, search needs, search needs, search needs, fed-first (a .chunk .now) (a .line .now) (a .out .now) (a .p .len) (a .p .number))
 
 shared-slice-read-b : tie.Need-shared-slice-read-b Inv-loop μ-loop
 shared-slice-read-b c = search needs

@@ -23,7 +23,7 @@ returns-2 : tie.Need-returns-2
 returns-2 c =
     let call = c .before .before in
     let test = call .before .before .before in
-    (last-line _ _ _ (test .if1 .left) (search needs) _ _ (search needs) (call .answer .ensures .0), omega (arith, call .answer .ensures .0 .1, call .answer .ensures .1))
+    (last-line _ _ _ (test .if1 .left) (search needs) _ _ _ (call .answer .ensures .0), omega (arith, call .answer .ensures .0 .1, call .answer .ensures .1))
 
 pub finish-spec : {M : Type 1} → statement M
 finish-spec =

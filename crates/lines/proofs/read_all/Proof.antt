@@ -7,16 +7,34 @@ use Rattle.lines.proofs.read_all.Statement.{statement}
 use Rattle.lines.proofs.read_all.Tie as tie
 
 abbrev Inv-loop : tie.InvT-loop
-Inv-loop line₀ out₀ t₀ turns₀ line out t turns = (length line ≡ 512) × (length out ≡ 98816) × (t .len ≤ 512)
+Inv-loop chunk₀ line₀ out₀ p₀ turns₀ chunk line out p turns = (length chunk ≡ 512) × (length line ≡ 512) × (length out ≡ 98816) × (p .len ≤ 512)
 
 abbrev μ-loop : tie.MeasureT-loop
-μ-loop line₀ out₀ t₀ turns₀ line out t turns = turns
+μ-loop chunk₀ line₀ out₀ p₀ turns₀ chunk line out p turns = turns
+
+start-requires : tie.Need-start-requires Inv-loop μ-loop
+start-requires c κs = search needs
 
 loop-holds : tie.Need-loop-holds Inv-loop μ-loop
 loop-holds c = search needs
 
-read-some-requires : tie.Need-read-some-requires Inv-loop μ-loop
-read-some-requires c κs = search needs
+read-requires : tie.Need-read-requires Inv-loop μ-loop
+read-requires c κs = search needs
+
+count-requires : tie.Need-count-requires Inv-loop μ-loop
+count-requires c κs = search needs
+
+slice-reshare-prefix-feed : tie.Need-slice-reshare-prefix-feed Inv-loop μ-loop
+slice-reshare-prefix-feed c = search needs
+
+slice-aggregate-feed : tie.Need-slice-aggregate-feed Inv-loop μ-loop
+slice-aggregate-feed c = search needs
+
+feed-requires : tie.Need-feed-requires Inv-loop μ-loop
+feed-requires c κs = search needs
+
+print-requires : tie.Need-print-requires Inv-loop μ-loop
+print-requires c κs = search needs
 
 turns-left-requires : tie.Need-turns-left-requires Inv-loop μ-loop
 turns-left-requires c κs = search needs
@@ -30,14 +48,17 @@ loop-again c = search needs
 finish-requires : tie.Need-finish-requires Inv-loop μ-loop
 finish-requires c κs = search needs
 
-print-requires : tie.Need-print-requires Inv-loop μ-loop
-print-requires c κs = search needs
+print-requires-2 : tie.Need-print-requires-2 Inv-loop μ-loop
+print-requires-2 c κs = search needs
 
 same-length : tie.Need-same-length Inv-loop μ-loop
 same-length c = search needs
 
 same-length-2 : tie.Need-same-length-2 Inv-loop μ-loop
 same-length-2 c = search needs
+
+same-length-3 : tie.Need-same-length-3 Inv-loop μ-loop
+same-length-3 c = search needs
 
 returns : tie.Need-returns Inv-loop μ-loop
 returns c = search needs
@@ -48,13 +69,20 @@ read-all-spec =
     (tie.spec
     Inv-loop
     μ-loop
+    start-requires
     loop-holds
-    read-some-requires
+    read-requires
+    count-requires
+    slice-reshare-prefix-feed
+    slice-aggregate-feed
+    feed-requires
+    print-requires
     turns-left-requires
     loop-less
     loop-again
     finish-requires
-    print-requires
+    print-requires-2
     same-length
     same-length-2
+    same-length-3
     returns)
