@@ -8,19 +8,15 @@ use native.Mathlib.Omega.{arith}
 use native.Mathlib.Nat.{eq-or-lt-of-le}
 use borrow.Author.Tests.{lt-ltb, le-ltb, ltb-true, ltb-false}
 use lib.Dec.{ltb}
-use Rattle.io.specs.Digits.{glyph}
 use Rattle.line_text.proofs.Choice.{cond-true, cond-false}
 use Rattle.line_text.specs.Text.{decimalIn, decimalText}
 
-glyph-is : (d : ℕ) → d ≤ 9 → glyph d ≡ 48 + d
-glyph-is d h = let g : d < 10 = omega arith in sym (cond-true _ _ _ (lt-ltb d 10 g))
-
 module _ (m n : ℕ) where
-  pub one-digit : n < 10 → decimalIn (suc m) n ≡ glyph n ∷ []
+  pub one-digit : n < 10 → decimalIn (suc m) n ≡ (48 + n) ∷ []
   unfolding decimalIn
   one-digit h = sym (cond-true _ _ _ (lt-ltb n 10 h))
 
-  pub more-digits : 10 ≤ n → decimalIn (suc m) n ≡ decimalIn m (n / 10) ++ (glyph (n % 10) ∷ [])
+  pub more-digits : 10 ≤ n → decimalIn (suc m) n ≡ decimalIn m (n / 10) ++ ((48 + n % 10) ∷ [])
   unfolding decimalIn
   more-digits h = sym (cond-false _ _ _ (le-ltb n 10 h))
 
@@ -33,7 +29,7 @@ one-more m n f h = by (ltb n 10) refl
     by true e = one-digit m n (ltb-true _ _ e) ∙ sym (one-digit (suc m) n (ltb-true _ _ e))
     by false e =
         let g : 10 ≤ n = ltb-false _ _ e in
-        more-digits m n g ∙ (ap (λ (t : List ℕ). t ++ (glyph (n % 10) ∷ [])) (f (omega arith)) ∙ sym (more-digits (suc m) n g))
+        more-digits m n g ∙ (ap (λ (t : List ℕ). t ++ ((48 + n % 10) ∷ [])) (f (omega arith)) ∙ sym (more-digits (suc m) n g))
 
 allowed : (m n : ℕ) → n ≤ m → decimalIn m n ≡ decimalIn (suc m) n
 unfolding decimalIn
@@ -54,7 +50,7 @@ enough (suc m) n h = by (eq-or-lt-of-le h) (enough m n)
 pub decimal-one : (d : ℕ) → d ≤ 9 → decimalText d ≡ (48 + d) ∷ []
 unfolding decimalText decimalIn
 decimal-one zero h = refl
-decimal-one (suc m) h = one-digit m (suc m) (omega arith) ∙ ap (λ (c : ℕ). c ∷ []) (glyph-is (suc m) h)
+decimal-one (suc m) h = one-digit m (suc m) (omega arith)
 
 pub decimal-more : (v d : ℕ) → 0 < v → d ≤ 9 → decimalText (10 * v + d) ≡ decimalText v ++ ((48 + d) ∷ [])
 unfolding decimalText
@@ -66,6 +62,5 @@ decimal-more v d g h =
     let r : n % 10 ≡ d = omega arith in
     ap (λ (k : ℕ). decimalIn k n) s
     ∙ (more-digits m n (omega arith)
-    ∙ (ap (λ (k : ℕ). decimalIn m k ++ (glyph (n % 10) ∷ [])) q
-    ∙ (ap (λ (k : ℕ). decimalIn m v ++ (glyph k ∷ [])) r
-    ∙ (ap (λ (c : ℕ). decimalIn m v ++ (c ∷ [])) (glyph-is d h) ∙ ap (λ (t : List ℕ). t ++ ((48 + d) ∷ [])) (enough m v (omega arith))))))
+    ∙ (ap (λ (k : ℕ). decimalIn m k ++ ((48 + n % 10) ∷ [])) q
+    ∙ (ap (λ (k : ℕ). decimalIn m v ++ ((48 + k) ∷ [])) r ∙ ap (λ (t : List ℕ). t ++ ((48 + d) ∷ [])) (enough m v (omega arith)))))

@@ -12,8 +12,10 @@ use native.Mathlib.Nat.{mod-eq-of-lt, le-trans, le-of-lt, add-zero, lt-of-not-le
 use Rattle.io.specs.Digits.{digits, glyph, Fewest}
 use lib.Ieee.{Float, nan, inf, fin, ne, isNan, binary64, toBits}
 use lib.Ieee.Compare.{differs-from-itself, nan-differs}
+use borrow.Author.Tests.{lt-ltb}
+use Rattle.line_text.proofs.Choice.{cond-true}
 use Rattle.line_text.proofs.DecimalDigits.{one-digit, more-digits}
-use Rattle.line_text.specs.Text.{written, Writes, patternOf, hexText, decimalIn, decimalText, valueText, spacedText, rowText, refusedText}
+use Rattle.line_text.specs.Text.{written, Writes, patternOf, hexIn, hexText, decimalIn, decimalText, valueText, spacedText, rowText, refusedText}
 
 -- ---- a text byte by byte
 
@@ -65,17 +67,22 @@ same-text b c s t at r e w = rw e at w
 
 -- ---- digits
 
-pub length-digits : (b k n : ℕ) → length (digits b k n) ≡ k
+length-digits : (b k n : ℕ) → length (digits b k n) ≡ k
 length-digits b zero n = refl
 length-digits b (suc k) n = length-append (digits b k (n / b)) _ ∙ (ap (λ (j : ℕ). j + 1) (length-digits b k (n / b)) ∙ add-one k)
 
+hex-in : (k n : ℕ) → digits 16 k n ≡ hexIn k n
+unfolding hexIn
+hex-in zero n = refl
+hex-in (suc k) n = ap (λ (t : List ℕ). t ++ (glyph (n % 16) ∷ [])) (hex-in k (n / 16))
+
 pub hex-is : (x : Float) (n k : ℕ) (t : List ℕ) → n ≡ patternOf x → k ≡ 16 → t ≡ digits 16 k n → t ≡ hexText x
 unfolding hexText
-hex-is x n k t e f g = rw (g, f, e)
+hex-is x n k t e f g = g ∙ (hex-in k n ∙ rw (f, e))
 
 pub length-hex : (x : Float) → length (hexText x) ≡ 16
 unfolding hexText
-length-hex x = length-digits 16 16 (patternOf x)
+length-hex x = ap length (sym (hex-in 16 (patternOf x))) ∙ length-digits 16 16 (patternOf x)
 
 pub few : (b least n k top : ℕ) → 0 < b → least ≤ top → n < b ^ top → Fewest b least n k → k ≤ top
 few b least n k top z l h w = let g : k < suc top = lt-of-not-le none in omega arith
@@ -86,10 +93,13 @@ few b least n k top z l h w = let g : k < suc top = lt-of-not-le none in omega a
         let q : b ^ top ≤ b ^ (k - 1) = pow-le-pow-right z (omega arith) in
         omega arith
 
+glyph-last : (n : ℕ) → glyph (n % 10) ∷ [] ≡ (48 + n % 10) ∷ []
+glyph-last n = let g : n % 10 < 10 = omega arith in ap (λ (c : ℕ). c ∷ []) (sym (cond-true _ _ _ (lt-ltb (n % 10) 10 g)))
+
 decimal-in : (m j n : ℕ) → j ≤ m → n < 10 ^ suc j → (1 < suc j → 10 ^ j ≤ n) → digits 10 (suc j) n ≡ decimalIn m n
 unfolding decimalIn
-decimal-in zero zero n h g l = ap (λ (d : ℕ). glyph d ∷ []) (mod-eq-of-lt g)
-decimal-in (suc m) zero n h g l = ap (λ (d : ℕ). glyph d ∷ []) (mod-eq-of-lt g) ∙ sym (one-digit m n g)
+decimal-in zero zero n h g l = glyph-last n ∙ ap (λ (d : ℕ). (48 + d) ∷ []) (mod-eq-of-lt g)
+decimal-in (suc m) zero n h g l = glyph-last n ∙ (ap (λ (d : ℕ). (48 + d) ∷ []) (mod-eq-of-lt g) ∙ sym (one-digit m n g))
 decimal-in zero (suc j) n h g l = absurd (none h)
   where
     none : suc j ≤ 0 → ⊥
@@ -99,7 +109,8 @@ decimal-in (suc m) (suc j) n h g l =
     let q : 10 ≤ n = le-trans (pow-le-pow-right {n = 10} (omega arith) {i = 1} {j = suc j} (omega arith)) p in
     let u : n / 10 < 10 ^ suc j = omega (arith, pow-suc 10 (suc j)) in
     let v : 10 ^ j ≤ n / 10 = omega (arith, pow-suc 10 j) in
-    ap (λ (t : List ℕ). t ++ (glyph (n % 10) ∷ [])) (decimal-in m j (n / 10) (omega arith) u (λ _. v)) ∙ sym (more-digits m n q)
+    ap (λ (t : List ℕ). t ++ (glyph (n % 10) ∷ [])) (decimal-in m j (n / 10) (omega arith) u (λ _. v))
+    ∙ (ap (λ (t : List ℕ). decimalIn m (n / 10) ++ t) (glyph-last n) ∙ sym (more-digits m n q))
 
 no-more-than : (j : ℕ) → j < 10 ^ j
 no-more-than zero = omega arith

@@ -6,7 +6,6 @@ use mathlib.Core.List.{List, [], _∷_, _++_}
 use lib.Dec.{ltb}
 use lib.ListN.{length, take, drop}
 use lib.Ieee.{Float, binary64, isNan, toBits}
-use Rattle.io.specs.Digits.{digits, glyph}
 
 -- the bytes b with the bytes t from at on
 unfoldable pub written : List ℕ → ℕ → List ℕ → List ℕ
@@ -20,14 +19,23 @@ Writes b at t c r = (c ≡ written b at t) × (r ≡ at + length t)
 unfoldable pub patternOf : Float → ℕ
 patternOf x = cond (isNan x) 0x7ff8_0000_0000_0000 (toBits binary64 x)
 
+-- a hexadecimal digit: 0 to 9 and a to f
+abbrev pub hexDigit : ℕ → ℕ
+hexDigit d = cond (ltb d 10) (48 + d) (87 + d)
+
+-- the last k hexadecimal digits of n
+unfoldable pub hexIn : ℕ → ℕ → List ℕ
+hexIn zero n = []
+hexIn (suc k) n = hexIn k (n / 16) ++ (hexDigit (n % 16) ∷ [])
+
 -- 16 lower-case hexadecimal digits of the bits
 unfoldable pub hexText : Float → List ℕ
-hexText x = digits 16 16 (patternOf x)
+hexText x = hexIn 16 (patternOf x)
 
 -- the decimal digits of n: below ten its own, else those of n / 10 and then the last one; m bounds the recursion, and n is enough for n
 unfoldable pub decimalIn : ℕ → ℕ → List ℕ
-decimalIn zero n = glyph n ∷ []
-decimalIn (suc m) n = cond (ltb n 10) (glyph n ∷ []) (decimalIn m (n / 10) ++ (glyph (n % 10) ∷ []))
+decimalIn zero n = (48 + n) ∷ []
+decimalIn (suc m) n = cond (ltb n 10) ((48 + n) ∷ []) (decimalIn m (n / 10) ++ ((48 + n % 10) ∷ []))
 
 -- a number in decimal digits without leading zeros
 unfoldable pub decimalText : ℕ → List ℕ
