@@ -1,13 +1,13 @@
 -- A line's bytes met one by one: texts, digits, numbers and fields; and the numbers as a record and a switch row.
 use mathlib.Core.Path.{_≡_, refl, sym, ap, _∙_, subst}
-use mathlib.Core.Bool.{Bool, true, false, cond, not, _&&_, false≢true}
+use mathlib.Core.Bool.{Bool, true, false, cond, not, _&&_}
 use mathlib.Core.List.{List, [], _∷_}
-use Prim.Native.Nat.{ℕ, zero, suc, _+_, _*_, _-_, _<_, _≤_, zero-le}
+use Prim.Native.Nat.{ℕ, zero, suc, _+_, _*_, _^_, _-_, _<_, _≤_, zero-le}
 use native.Mathlib.Omega.{arith}
 use borrow.Author.Tests.{lt-ltb, le-ltb, eq-eqb, ne-eqb, ltb-true, not-false}
-use lib.Dec.{ltb, eqb, lit<}
+use lib.Dec.{ltb, lit<}
 use lib.IntN.{ℤ, pos, negsuc, _-ℤ_, +ℤ-idl}
-use native.Mathlib.Nat.{lt-trans}
+use native.Mathlib.Nat.{lt-trans, mul-le-mul-right, le-mul-of-pos-right, pow-le-pow-right, pow-suc}
 use mir.Syntax.{w32}
 use mir.Val.{SFits, toZ, ofZ}
 use mir.ValLaws.{toZ-ofZ}
@@ -22,6 +22,7 @@ use Rattle.line_form.specs.declared.Run.{Run}
 use Rattle.setting.specs.declared.History.{History}
 use lib.Ieee.{Float}
 use Rattle.line_form.specs.Grammar.{hereOf, startsOf, digitOf, moreOf, signedOf, positiveOf, numberOf, stoppedOf, numbersOf, fieldOf, startOf, laterOf, partOf, thousandthsAt, historyOf, arrayOf, inputOf}
+use Rattle.line_form.proofs.Bytes.{and-first, and-second, here-below}
 
 -- ---- texts
 
@@ -74,23 +75,35 @@ module _ (s : List ℕ) (k v d : ℕ) (e : d ≡ digitOf s k) where
       none l = omega arith
   no-digit (suc m) g h = simp (← e) (simp (lt-ltb 9 d h))
 
-  pub no-room : (m : ℕ) → 0 < m → d ≤ 9 → 100000000 ≤ v → record { size = v; next = k } ≡ moreOf m s k v
+  pub one-more : (m : ℕ) → 0 < m → d ≤ 9 → moreOf (m - 1) s (k + 1) (10 * v + d) ≡ moreOf m s k v
   unfolding moreOf
-  no-room zero g h r = absurd (none g)
+  one-more zero g h = absurd (none g)
     where
       none : 0 < 0 → ⊥
       none l = omega arith
-  no-room (suc m) g h r = simp (← e) (simp (le-ltb 9 d h, le-ltb v 100000000 r))
-
-  pub one-more : (m : ℕ) → 0 < m → d ≤ 9 → v < 100000000 → moreOf (m - 1) s (k + 1) (10 * v + d) ≡ moreOf m s k v
-  unfolding moreOf
-  one-more zero g h r = absurd (none g)
-    where
-      none : 0 < 0 → ⊥
-      none l = omega arith
-  one-more (suc m) g h r =
+  one-more (suc m) g h =
       let p : suc m - 1 ≡ m = omega arith in
-      rw p (simp (← e) (simp (le-ltb 9 d h, lt-ltb v 100000000 r)))
+      rw p (simp (← e) (simp (le-ltb 9 d h)))
+
+-- with m digits to come, v has room for them in nine digits
+
+pub room-less : (v m : ℕ) → (v + 1) * 10 ^ m ≤ 1000000000 → v < 1000000000
+room-less v m h =
+    let one : 0 < 10 ^ m = pow-le-pow-right {n = 10} (omega arith) {i = 0} {j = m} zero-le in
+    omega (arith, le-mul-of-pos-right (v + 1) one)
+
+pub room-next : (v d m : ℕ) → 0 < m → d ≤ 9 → (v + 1) * 10 ^ m ≤ 1000000000 → ((10 * v + d) + 1) * 10 ^ (m - 1) ≤ 1000000000
+room-next v d zero g h r = absurd (none g)
+  where
+    none : 0 < 0 → ⊥
+    none l = omega arith
+room-next v d (suc m) g h r =
+    let p : suc m - 1 ≡ m = omega arith in
+    let q : (v + 1) * (10 ^ m * 10) ≤ 1000000000 = rw (← pow-suc 10 m) r in
+    rw p (omega (arith, mul-le-mul-right (10 ^ m) h))
+
+pub room-fits : (v m : ℕ) → 0 < m → (v + 1) * 10 ^ m ≤ 1000000000 → 10 * v + 9 < 1000000000
+room-fits v m g h = room-less (10 * v + 9) (m - 1) (room-next v 9 m g (omega arith) h)
 
 pub all-read : (s : List ℕ) (k v m : ℕ) → m ≡ 0 → record { size = v; next = k } ≡ moreOf m s k v
 unfolding moreOf
@@ -134,13 +147,8 @@ module _ (minus : Bool) (s : List ℕ) (k d : ℕ) (e : d ≡ digitOf s k) where
   some-digits h n w z f g i =
       rw (back minus z (w .size) i g) (simp (← e, ← f) (simp (le-ltb 9 d h, ne-eqb d 0 n)))
 
-both : (b c : Bool) → (b && c) ≡ true → b ≡ true
-both true c h = refl
-both false c h = h
-
 pub here-inside : (s : List ℕ) (k c : ℕ) (b : Bool) → b ≡ hereOf s k c → b ≡ true → k < length s
-unfolding hereOf
-here-inside s k c b e t = ltb-true _ _ (both (ltb k (length s)) _ (sym e ∙ t))
+here-inside s k c b e t = here-below s k c (sym e ∙ t)
 
 module _ (s : List ℕ) (k : ℕ) (b : Bool) (e : b ≡ hereOf s k 48) where
   pub nought : b ≡ true → record { ok = true; value = pos 0; next = k + 1 } ≡ numberOf s k
@@ -197,16 +205,12 @@ no-more s j m q e = rw e
 -- ---- a field
 
 starts-room : (s text : List ℕ) (k : ℕ) → startsOf s k text ≡ true → k ≤ length s → k + length text ≤ length s
-unfolding startsOf hereOf
+unfolding startsOf
 starts-room s [] k t h = omega arith
 starts-room s (c ∷ cs) k t h =
-    let g : k < length s = ltb-true _ _ (both (ltb k (length s)) _ (both (ltb k (length s) && eqb (getD s k 0) c) _ t)) in
-    let i : k + 1 + length cs ≤ length s = starts-room s cs (k + 1) (other (ltb k (length s) && eqb (getD s k 0) c) _ t) (omega arith) in
+    let g : k < length s = here-below s k c (and-first _ (startsOf s (k + 1) cs) t) in
+    let i : k + 1 + length cs ≤ length s = starts-room s cs (k + 1) (and-second (hereOf s k c) _ t) (omega arith) in
     omega arith
-  where
-    other : (a b : Bool) → (a && b) ≡ true → b ≡ true
-    other true b u = u
-    other false b u = absurd (false≢true u)
 
 pub starts-fits : (s text : List ℕ) (k : ℕ) (b : Bool) → b ≡ startsOf s k text → not b ≡ false → k ≤ length s → k + length text ≤ length s
 starts-fits s text k b e t h = starts-room s text k (sym e ∙ not-false b t) h

@@ -29,12 +29,10 @@ startsOf s k (c ∷ cs) = hereOf s k c && startsOf s (k + 1) cs
 unfoldable pub digitOf : List ℕ → ℕ → ℕ
 digitOf s k = cond (ltb k (length s) && (leb 48 (getD s k 0) && leb (getD s k 0) 57)) (getD s k 0 - 48) 10
 
--- up to m digits from k on, after digits that make v; below 10^8 there is room for one more in nine
+-- up to m digits from k on, after digits that make v
 unfoldable pub moreOf : ℕ → List ℕ → ℕ → ℕ → Digits
 moreOf zero s k v = record { size = v; next = k }
-moreOf (suc m) s k v =
-    cond (ltb 9 (digitOf s k)) (record { size = v; next = k })
-    (cond (ltb v 100000000) (moreOf m s (k + 1) (10 * v + digitOf s k)) (record { size = v; next = k }))
+moreOf (suc m) s k v = cond (ltb 9 (digitOf s k)) (record { size = v; next = k }) (moreOf m s (k + 1) (10 * v + digitOf s k))
 
 -- minus where the mark is there
 abbrev pub signedOf : Bool → ℕ → ℤ

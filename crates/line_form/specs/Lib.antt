@@ -1,2 +1,3 @@
--- The definitions that the contracts of this crate cite.
+-- The definitions that the contracts of this crate cite, and the forms as texts.
 pub mod Grammar
+pub mod Forms

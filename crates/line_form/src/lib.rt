@@ -78,7 +78,7 @@ pub fn digit(s: &[u8], k: usize) -> u32
 
 pub fn more(s: &[u8], at: usize, first: u32) -> Digits
     requires { ⌜ at ≤ length (now s) ⌝ }
-    requires { ⌜ first < 1000000000 ⌝ }
+    requires { ⌜ first < 10 ⌝ }
     ensures { λ r. ⌜ (r ≡ moreOf 8 (now (s .entry)) at first) × (r .size < 1000000000) × (r .next ≤ length (now (s .entry))) ⌝ }
 {
     let mut k = at;
@@ -87,9 +87,6 @@ pub fn more(s: &[u8], at: usize, first: u32) -> Digits
     while 0 < m {
         let d = digit(s, k);
         if 9 < d {
-            return Digits { size: v, next: k };
-        }
-        if v >= 100000000 {
             return Digits { size: v, next: k };
         }
         v = 10 * v + d;

@@ -1,5 +1,5 @@
 -- `pattern` is safe: a NaN has no one pattern, and is answered before.
-use Rattle.cases_profile.proofs.Ordered.{ordered}
+use Rattle.numbers.specs.Tests.{ordered}
 use borrow.Author.Needs.{needs}
 use Rattle.cases_profile.proofs.pattern.Statement.{statement}
 use Rattle.cases_profile.proofs.pattern.Tie as tie

@@ -1,4 +1,4 @@
--- `read_all` is safe: the line begun has at most 512 bytes.
+-- `read_all` is safe: the buffers keep their lengths, and the line begun has at most 512 bytes.
 use mathlib.Core.Path.{_≡_}
 use Prim.Native.Nat.{_≤_}
 use lib.ListN.{length}
@@ -7,16 +7,34 @@ use Rattle.lines.proofs.read_all.Statement.{statement}
 use Rattle.lines.proofs.read_all.Tie as tie
 
 abbrev Inv-loop : tie.InvT-loop
-Inv-loop line₀ p₀ turns₀ line p turns = (length line ≡ 512) × (p .len ≤ 512)
+Inv-loop chunk₀ line₀ out₀ p₀ turns₀ chunk line out p turns = (length chunk ≡ 512) × (length line ≡ 512) × (length out ≡ 98816) × (p .len ≤ 512)
 
 abbrev μ-loop : tie.MeasureT-loop
-μ-loop line₀ p₀ turns₀ line p turns = turns
+μ-loop chunk₀ line₀ out₀ p₀ turns₀ chunk line out p turns = turns
+
+start-requires : tie.Need-start-requires Inv-loop μ-loop
+start-requires c κs = search needs
 
 loop-holds : tie.Need-loop-holds Inv-loop μ-loop
 loop-holds c = search needs
 
-read-some-requires : tie.Need-read-some-requires Inv-loop μ-loop
-read-some-requires c κs = search needs
+read-requires : tie.Need-read-requires Inv-loop μ-loop
+read-requires c κs = search needs
+
+count-requires : tie.Need-count-requires Inv-loop μ-loop
+count-requires c κs = search needs
+
+slice-reshare-prefix-feed : tie.Need-slice-reshare-prefix-feed Inv-loop μ-loop
+slice-reshare-prefix-feed c = search needs
+
+slice-aggregate-feed : tie.Need-slice-aggregate-feed Inv-loop μ-loop
+slice-aggregate-feed c = search needs
+
+feed-requires : tie.Need-feed-requires Inv-loop μ-loop
+feed-requires c κs = search needs
+
+print-requires : tie.Need-print-requires Inv-loop μ-loop
+print-requires c κs = search needs
 
 turns-left-requires : tie.Need-turns-left-requires Inv-loop μ-loop
 turns-left-requires c κs = search needs
@@ -27,11 +45,20 @@ loop-less c = search needs
 loop-again : tie.Need-loop-again Inv-loop μ-loop
 loop-again c = search needs
 
-answer-last-requires : tie.Need-answer-last-requires Inv-loop μ-loop
-answer-last-requires c κs = search needs
+finish-requires : tie.Need-finish-requires Inv-loop μ-loop
+finish-requires c κs = search needs
+
+print-requires-2 : tie.Need-print-requires-2 Inv-loop μ-loop
+print-requires-2 c κs = search needs
 
 same-length : tie.Need-same-length Inv-loop μ-loop
 same-length c = search needs
+
+same-length-2 : tie.Need-same-length-2 Inv-loop μ-loop
+same-length-2 c = search needs
+
+same-length-3 : tie.Need-same-length-3 Inv-loop μ-loop
+same-length-3 c = search needs
 
 returns : tie.Need-returns Inv-loop μ-loop
 returns c = search needs
@@ -42,11 +69,20 @@ read-all-spec =
     (tie.spec
     Inv-loop
     μ-loop
+    start-requires
     loop-holds
-    read-some-requires
+    read-requires
+    count-requires
+    slice-reshare-prefix-feed
+    slice-aggregate-feed
+    feed-requires
+    print-requires
     turns-left-requires
     loop-less
     loop-again
-    answer-last-requires
+    finish-requires
+    print-requires-2
     same-length
+    same-length-2
+    same-length-3
     returns)

@@ -1,0 +1,79 @@
+-- The input cut into lines: a byte taken, a chunk, and the end of the input.
+use mathlib.Core.Path.{_≡_, refl, ap, _∙_}
+use mathlib.Core.Bool.{true, false}
+use mathlib.Core.List.{List, [], _∷_, _++_}
+use Prim.Native.Nat.{ℕ, _+_, _<_, _≤_, zero-le}
+use native.Mathlib.Numerals.{add-one}
+use borrow.Author.Tests.{lt-ltb, le-ltb, eq-eqb, ne-eqb}
+use lib.Dec.{ltb, eqb}
+use lib.ListN.{length, take, drop, getD, set, length-append}
+use lib.Seq.{length-take-le, take-suc-set, take-at, drop-cons, drop-length}
+use Rattle.line_text.proofs.Choice.{cond-true, cond-false}
+use Rattle.line_text.specs.Text.{written, Writes}
+use Rattle.line_answer.specs.declared.Place.{Place}
+use Rattle.line_answer.specs.Answer.{answerText}
+use Rattle.line_answer.specs.Lines.{Progress, afterOf, progressOf, keptOf, stepOf, fedOf, lastOf, begin}
+
+pub after-more : (n : ℕ) → n < 0xffff_ffff_ffff_ffff → n + 1 ≡ afterOf n
+after-more n h = cond-true _ _ _ (lt-ltb n 0xffff_ffff_ffff_ffff h)
+
+pub after-last : (n : ℕ) → 0xffff_ffff_ffff_ffff ≤ n → n ≡ afterOf n
+after-last n h = cond-false _ _ _ (le-ltb n 0xffff_ffff_ffff_ffff h)
+
+take-written : (b c t : List ℕ) (at r : ℕ) → at ≤ length b → Writes b at t c r → take r c ≡ take at b ++ t
+unfolding written
+take-written b c t at r h w =
+    rw (w .1, w .0) (take-at (take at b ++ t) (drop (at + length t) b) (at + length t) (length-append (take at b) t ∙ ap (λ (k : ℕ). k + length t) (length-take-le at b h)))
+
+-- ---- a byte
+
+module _ (line out : List ℕ) (p : Place) (b : ℕ) where
+  pub line-ended : (c : List ℕ) (r m : ℕ) → b ≡ 10 → p .used ≤ length out → Writes out (p .used) (answerText (take (p .len) line) (p .number)) c r
+      → m ≡ afterOf (p .number) → progressOf line c (record { len = 0; number = m; used = r }) ≡ stepOf b (progressOf line out p)
+  unfolding progressOf stepOf
+  line-ended c r m e h w f =
+      rw (f, take-written out c (answerText (take (p .len) line) (p .number)) (p .used) r h w) (cond-true _ _ _ (eq-eqb b 10 e))
+
+  module _ (ne : b ≡ 10 → ⊥) (h : p .len ≤ length line) where
+    pub line-longer : p .len < 512 → p .len < length line
+        → progressOf (set line (p .len) b) out (record { len = p .len + 1; number = p .number; used = p .used }) ≡ stepOf b (progressOf line out p)
+    unfolding progressOf stepOf keptOf
+    line-longer g i =
+        let k : take (p .len + 1) (set line (p .len) b) ≡ take (p .len) line ++ (b ∷ []) = rw add-one (take-suc-set line (p .len) b i) in
+        let room : ltb (length (take (p .len) line)) 512 ≡ true = rw (length-take-le (p .len) line h) (lt-ltb _ _ g) in
+        rw (k ∙ cond-true _ _ (take (p .len) line) room) (cond-false _ _ _ (ne-eqb b 10 ne))
+
+    pub line-full : 512 ≤ p .len → progressOf line out p ≡ stepOf b (progressOf line out p)
+    unfolding progressOf stepOf keptOf
+    line-full g =
+        let room : ltb (length (take (p .len) line)) 512 ≡ false = rw (length-take-le (p .len) line h) (le-ltb _ _ g) in
+        ap (λ (l : List ℕ). record { kept = l; number = p .number; printed = take (p .used) out }) (cond-false _ (take (p .len) line ++ (b ∷ [])) _ room) ∙ cond-false _ _ _ (ne-eqb b 10 ne)
+
+-- ---- a chunk
+
+pub fed-first : (chunk line out : List ℕ) (len number : ℕ)
+    → fedOf (drop 0 chunk) (progressOf line out (record { len = len; number = number; used = 0 })) ≡ fedOf chunk (begin (take len line) number)
+unfolding progressOf
+fed-first chunk line out len number = refl
+
+pub fed-more : (chunk : List ℕ) (i : ℕ) (s t : Progress) → i < length chunk → t ≡ stepOf (getD chunk i 0) s → fedOf (drop (i + 1) chunk) t ≡ fedOf (drop i chunk) s
+unfolding fedOf
+fed-more chunk i s t h e = rw (e, add-one, drop-cons chunk i 0 h)
+
+pub fed-last : (chunk : List ℕ) (i : ℕ) (s : Progress) → i ≡ length chunk → s ≡ fedOf (drop i chunk) s
+unfolding fedOf
+fed-last chunk i s e = rw (e, drop-length chunk)
+
+-- ---- the end of the input
+
+module _ (line : List ℕ) (len number : ℕ) where
+  pub no-last : len ≡ 0 → [] ≡ lastOf (begin (take len line) number)
+  unfolding lastOf
+  no-last e = cond-true _ _ _ (ap (λ (k : ℕ). eqb (length (take k line)) 0) e)
+
+  pub last-line : (len ≡ 0 → ⊥) → len ≤ length line → (out c : List ℕ) (r : ℕ) → Writes out 0 (answerText (take len line) number) c r
+      → take r c ≡ lastOf (begin (take len line) number)
+  unfolding lastOf
+  last-line n h out c r w =
+      let some : eqb (length (take len line)) 0 ≡ false = rw (length-take-le len line h) (ne-eqb _ _ n) in
+      take-written out c (answerText (take len line) number) 0 r zero-le w ∙ cond-false _ _ _ some

@@ -1,0 +1,76 @@
+-- `feed` meets its contract: the bytes below i are taken.
+use mathlib.Core.Path.{_≡_, _∙_}
+use Prim.Native.Nat.{_≤_, _+_, _*_, _-_}
+use native.Mathlib.Omega.{arith}
+use borrow.Author.Needs.{needs}
+use lib.ListN.{length, take, drop}
+use Rattle.line_answer.specs.Lines.{progressOf, fedOf, begin}
+use Rattle.line_answer.proofs.Cut.{fed-first, fed-more, fed-last}
+use Rattle.line_answer.proofs.feed.Statement.{statement}
+use Rattle.line_answer.proofs.feed.Tie as tie
+
+abbrev Inv-loop : tie.InvT-loop
+Inv-loop chunk line₀ out₀ q₀ i₀ line out q i =
+    (i ≤ length chunk) × (length line ≡ 512) × (length out ≡ length out₀) × (q .len ≤ 512) × (q .used + 193 * (length chunk - i) ≤ length out₀)
+    × (fedOf (drop i chunk) (progressOf line out q) ≡ fedOf chunk (begin (take (q₀ .len) line₀) (q₀ .number)))
+
+abbrev μ-loop : tie.MeasureT-loop
+μ-loop chunk line₀ out₀ q₀ i₀ line out q i = length chunk - i
+
+loop-holds : tie.Need-loop-holds Inv-loop μ-loop
+loop-holds c =
+    let a = c .before .before .before .args in
+    (search needs, search needs, search needs, search needs, search needs, fed-first (a .chunk .now) (a .line .now) (a .out .now) (a .p .len) (a .p .number))
+
+shared-slice-read-b : tie.Need-shared-slice-read-b Inv-loop μ-loop
+shared-slice-read-b c = search needs
+
+take-byte-requires : tie.Need-take-byte-requires Inv-loop μ-loop
+take-byte-requires c κs = search needs
+
+add-i : tie.Need-add-i Inv-loop μ-loop
+add-i c = search needs
+
+loop-less : tie.Need-loop-less Inv-loop μ-loop
+loop-less c = search needs
+
+loop-again : tie.Need-loop-again Inv-loop μ-loop
+loop-again c =
+    let call = c .before .before .before .before in
+    let test = call .before .before .before .before in
+    let at = test .before .loop in
+    let chunk = test .before .before .before .before .before .args .chunk .now in (
+      search needs,
+      search needs,
+      search needs,
+      search needs,
+      search needs,
+      fed-more chunk (at .i) _ _ (test .loop-test .taken) (call .take-byte .ensures .0) ∙ at .inv .5,
+    )
+
+same-length : tie.Need-same-length Inv-loop μ-loop
+same-length c = search needs
+
+same-length-2 : tie.Need-same-length-2 Inv-loop μ-loop
+same-length-2 c = search needs
+
+returns : tie.Need-returns Inv-loop μ-loop
+returns c =
+    let at = c .before .loop in
+    (fed-last (c .before .before .before .before .before .args .chunk .now) (at .i) _ (omega arith) ∙ at .inv .5, search needs, search needs)
+
+pub feed-spec : {M : Type 1} → statement M
+feed-spec =
+    tie.close
+    (tie.spec
+    Inv-loop
+    μ-loop
+    loop-holds
+    shared-slice-read-b
+    take-byte-requires
+    add-i
+    loop-less
+    loop-again
+    same-length
+    same-length-2
+    returns)

@@ -1,0 +1,30 @@
+-- `finish` meets its contract.
+use mathlib.Core.Path.{sym}
+use native.Mathlib.Omega.{arith}
+use lib.Seq.{length-take-le}
+use Rattle.line_answer.proofs.Cut.{no-last, last-line}
+use borrow.Author.Needs.{needs}
+use Rattle.line_answer.proofs.finish.Statement.{statement}
+use Rattle.line_answer.proofs.finish.Tie as tie
+
+returns : tie.Need-returns
+returns c = (no-last _ _ _ (c .if1 .taken), search needs)
+
+slice-aggregate-answer : tie.Need-slice-aggregate-answer
+slice-aggregate-answer c = sym (length-take-le _ _ (search needs))
+
+answer-requires : tie.Need-answer-requires
+answer-requires c κs = search needs
+
+same-length : tie.Need-same-length
+same-length c = search needs
+
+returns-2 : tie.Need-returns-2
+returns-2 c =
+    let call = c .before .before in
+    let test = call .before .before .before in
+    (last-line _ _ _ (test .if1 .left) (search needs) _ _ _ (call .answer .ensures .0), omega (arith, call .answer .ensures .0 .1, call .answer .ensures .1))
+
+pub finish-spec : {M : Type 1} → statement M
+finish-spec =
+    tie.close (tie.spec returns slice-aggregate-answer answer-requires same-length returns-2)

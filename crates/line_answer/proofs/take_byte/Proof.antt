@@ -1,0 +1,68 @@
+-- `take_byte` meets its contract.
+use mathlib.Core.Path.{sym}
+use native.Mathlib.Omega.{arith}
+use lib.Seq.{length-take-le}
+use Rattle.line_answer.proofs.Cut.{line-ended, line-longer, line-full}
+use borrow.Author.Needs.{needs}
+use Rattle.line_answer.proofs.take_byte.Statement.{statement}
+use Rattle.line_answer.proofs.take_byte.Tie as tie
+
+slice-reshare-prefix-answer : tie.Need-slice-reshare-prefix-answer
+slice-reshare-prefix-answer c = search needs
+
+slice-aggregate-answer : tie.Need-slice-aggregate-answer
+slice-aggregate-answer c = sym (length-take-le _ _ (search needs))
+
+answer-requires : tie.Need-answer-requires
+answer-requires c κs = search needs
+
+after-requires : tie.Need-after-requires
+after-requires c κs = search needs
+
+same-length : tie.Need-same-length
+same-length c = search needs
+
+same-length-2 : tie.Need-same-length-2
+same-length-2 c = search needs
+
+returns : tie.Need-returns
+returns c =
+    let call = c .before .before .before in
+    let test = call .before .before .before in
+    (line-ended _ _ _ _ _ _ _ (test .if1 .taken) (search needs) (call .answer .ensures .0) (c .after .ensures), search needs, omega (arith, call .answer .ensures .0 .1, call .answer .ensures .1))
+
+slice-write-line : tie.Need-slice-write-line
+slice-write-line c = search needs
+
+add-t16 : tie.Need-add-t16
+add-t16 c = search needs
+
+same-length-3 : tie.Need-same-length-3
+same-length-3 c = search needs
+
+returns-2 : tie.Need-returns-2
+returns-2 c =
+    let start = c .before .before .before .before .args in
+    (line-longer (start .line .now) (start .out .now) (start .p) (start .b) (c .before .if1 .left) (search needs) (c .if2 .taken) (search needs), search needs, search needs)
+
+returns-3 : tie.Need-returns-3
+returns-3 c =
+    let start = c .before .before .before .before .args in
+    (line-full (start .line .now) (start .out .now) (start .p) (start .b) (c .before .if1 .left) (search needs) (c .if2 .left), search needs, search needs)
+
+pub take-byte-spec : {M : Type 1} → statement M
+take-byte-spec =
+    tie.close
+    (tie.spec
+    slice-reshare-prefix-answer
+    slice-aggregate-answer
+    answer-requires
+    after-requires
+    same-length
+    same-length-2
+    returns
+    slice-write-line
+    add-t16
+    same-length-3
+    returns-2
+    returns-3)

@@ -1,0 +1,77 @@
+-- The lines of a text and the answers to them; and the same byte by byte, as the program reads them.
+use Prim.Native.Nat.{ℕ, _+_}
+use mathlib.Core.Bool.{cond}
+use mathlib.Core.List.{List, [], _∷_, _++_}
+use lib.Dec.{ltb, eqb}
+use lib.ListN.{length, take}
+use Rattle.line_answer.specs.declared.Place.{Place}
+use Rattle.line_answer.specs.Answer.{answerText}
+
+-- ---- a whole text
+
+-- the lines of a text that goes on with a line begun; 10 is the newline, and the last line may lack it
+unfoldable pub linesFrom : List ℕ → List ℕ → List (List ℕ)
+linesFrom [] [] = []
+linesFrom [] (c ∷ begun) = (c ∷ begun) ∷ []
+linesFrom (b ∷ text) begun = cond (eqb b 10) (begun ∷ linesFrom text []) (linesFrom text (begun ++ (b ∷ [])))
+
+-- the number after a line's, which stops at the largest that 64 bits hold
+abbrev pub afterOf : ℕ → ℕ
+afterOf number = cond (ltb number 0xffff_ffff_ffff_ffff) (number + 1) number
+
+-- the answers to lines, the first of which has the number given
+unfoldable pub answersFrom : ℕ → List (List ℕ) → List ℕ
+answersFrom number [] = []
+answersFrom number (s ∷ lines) = answerText s number ++ answersFrom (afterOf number) lines
+
+-- what the program prints for a text
+unfoldable pub answersTo : List ℕ → List ℕ
+answersTo text = answersFrom 1 (linesFrom text [])
+
+-- ---- byte by byte
+
+-- where the reading stands: the bytes kept of the line begun, its number, and the answers so far
+pub record Progress : Type 0 where
+  pub kept : List ℕ
+  pub number : ℕ
+  pub printed : List ℕ
+
+-- where it stands before a chunk: nothing printed yet
+abbrev pub begin : List ℕ → ℕ → Progress
+begin kept number = record { kept = kept; number = number; printed = [] }
+
+-- as it is held in the buffers of the line and of the answers
+unfoldable pub progressOf : List ℕ → List ℕ → Place → Progress
+progressOf line out p = record { kept = take (p .len) line; number = p .number; printed = take (p .used) out }
+
+-- one byte more of a line: of a longer one 512 bytes are kept, one more than a form may have
+unfoldable pub keptOf : List ℕ → ℕ → List ℕ
+keptOf l b = cond (ltb (length l) 512) (l ++ (b ∷ [])) l
+
+-- a newline has the line answered; any other byte is one more of it
+unfoldable pub stepOf : ℕ → Progress → Progress
+stepOf b s =
+    cond (eqb b 10) (record { kept = []; number = afterOf (s .number); printed = s .printed ++ answerText (s .kept) (s .number) })
+    (record { kept = keptOf (s .kept) b; number = s .number; printed = s .printed })
+
+unfoldable pub fedOf : List ℕ → Progress → Progress
+fedOf [] s = s
+fedOf (b ∷ bytes) s = fedOf bytes (stepOf b s)
+
+-- the answers once the input has ended: the last line may lack its newline
+unfoldable pub lastOf : Progress → List ℕ
+lastOf s = cond (eqb (length (s .kept)) 0) (s .printed) (s .printed ++ answerText (s .kept) (s .number))
+
+-- ---- chunk by chunk
+
+-- what is written for the chunks that the input comes in: the answers of each, and of a last line without newline
+unfoldable pub writtenFor : List (List ℕ) → List ℕ → ℕ → List ℕ
+writtenFor [] kept number = lastOf (begin kept number)
+writtenFor (chunk ∷ chunks) kept number =
+    let s = fedOf chunk (begin kept number) in
+    s .printed ++ writtenFor chunks (s .kept) (s .number)
+
+-- the chunks one after the other
+unfoldable pub wholeOf : List (List ℕ) → List ℕ
+wholeOf [] = []
+wholeOf (chunk ∷ chunks) = chunk ++ wholeOf chunks

@@ -1,0 +1,85 @@
+-- `spaced` meets its contract: the first k numbers are written.
+use mathlib.Core.Path.{_≡_, ap}
+use Prim.Native.Nat.{_≤_, _+_, _*_, _-_}
+use native.Mathlib.Omega.{arith}
+use borrow.Author.Needs.{needs}
+use lib.ListN.{length, take}
+use lib.Seq.{take-all}
+use Rattle.line_text.specs.Text.{Writes, spacedText}
+use Rattle.line_text.proofs.Laws.{same-text, joined, nothing, spaced-more, length-spaced}
+use Rattle.line_text.proofs.spaced.Statement.{statement}
+use Rattle.line_text.proofs.spaced.Tie as tie
+
+abbrev Inv-loop : tie.InvT-loop
+Inv-loop out₀ at row k₀ to₀ t9 out k to =
+    (k ≤ 11) × (to ≡ at + 17 * k) × (length out ≡ length out₀) × Writes out₀ at (spacedText (take k row)) out to
+
+abbrev μ-loop : tie.MeasureT-loop
+μ-loop out₀ at row k₀ to₀ t9 out k to = 11 - k
+
+loop-holds : tie.Need-loop-holds Inv-loop μ-loop
+unfolding spacedText
+loop-holds c = (search needs, search needs, search needs, nothing _ _)
+
+mul-x : tie.Need-mul-x Inv-loop μ-loop
+mul-x c = search needs
+
+array-read-x : tie.Need-array-read-x Inv-loop μ-loop
+array-read-x c = search needs
+
+slice-aggregate-put : tie.Need-slice-aggregate-put Inv-loop μ-loop
+slice-aggregate-put c = search needs
+
+put-requires : tie.Need-put-requires Inv-loop μ-loop
+put-requires c κs = search needs
+
+hex-requires : tie.Need-hex-requires Inv-loop μ-loop
+hex-requires c κs = search needs
+
+add-k : tie.Need-add-k Inv-loop μ-loop
+add-k c = search needs
+
+loop-less : tie.Need-loop-less Inv-loop μ-loop
+loop-less c = search needs
+
+loop-again : tie.Need-loop-again Inv-loop μ-loop
+loop-again c =
+    let end = c .before .before in
+    let one = end .before .before .before .before in
+    let test = one .before .before .before in
+    let at = test .before .loop in
+    let row = test .before .before .before .args .t3 in (
+      search needs,
+      search needs,
+      search needs,
+      same-text _ _ _ _ _ _ (spaced-more row (at .k) (search needs)) (joined _ _ _ _ _ _ _ _ (search needs) (joined _ _ _ _ _ _ _ _ (search needs) (at .inv .3) (one .put .ensures)) (end .hex .ensures .0)),
+    )
+
+same-length : tie.Need-same-length Inv-loop μ-loop
+same-length c = search needs
+
+returns : tie.Need-returns Inv-loop μ-loop
+returns c =
+    let at = c .before .loop in
+    let row = c .before .before .before .args .t3 in
+    let e : at .k ≡ 11 = omega arith in
+    let t : take (at .k) row ≡ row = take-all (at .k) row (search needs) in
+    (same-text _ _ _ _ _ _ (ap spacedText t) (at .inv .3), omega (arith, length-spaced row))
+
+pub spaced-spec : {M : Type 1} → statement M
+spaced-spec =
+    tie.close
+    (tie.spec
+    Inv-loop
+    μ-loop
+    loop-holds
+    mul-x
+    array-read-x
+    slice-aggregate-put
+    put-requires
+    hex-requires
+    add-k
+    loop-less
+    loop-again
+    same-length
+    returns)
