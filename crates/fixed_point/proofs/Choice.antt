@@ -3,9 +3,8 @@ use mathlib.Core.Path.{_≡_, sym, ap}
 use mathlib.Core.Bool.{Bool, true, false, cond}
 use Prim.Native.Nat.{ℕ, _-_, _≤_, _<_}
 use borrow.Author.Tests.{eq-eqb, ne-eqb, lt-ltb, le-ltb}
-use lib.Dec.{eqb, ltb}
+use lib.Dec.{eqb}
 use Rattle.fixed_point.specs.Fixed.{chooseOf, apartOf}
-use Rattle.fixed_point.specs.Float.{digit}
 
 pub choose-zero : (h x y : ℕ) → h ≡ 0 → x ≡ chooseOf h x y
 choose-zero h x y e = sym (ap (λ (b : Bool). cond b x y) (eq-eqb h 0 e))
@@ -27,9 +26,3 @@ module _ (p n : ℕ) where
 
   pub apart-above : n ≤ p → p - n ≡ apartOf p n
   apart-above h = sym (ap (λ (b : Bool). cond b (n - p) (p - n)) (le-ltb p n h))
-
-  pub below-one : p < n → 1 ≡ digit (ltb p n)
-  below-one h = sym (ap digit (lt-ltb p n h))
-
-  pub below-none : n ≤ p → 0 ≡ digit (ltb p n)
-  below-none h = sym (ap digit (le-ltb p n h))

@@ -1,11 +1,10 @@
 // Whole numbers made from floats, and the upper half of a product.
 ghost use mathlib.Core.Path.{_≡_};
 ghost use Prim.Native.Nat.{ℕ, _+_, _*_, _/_, _^_, _<_, _≤_};
-ghost use lib.Dec.{T, ltb};
+ghost use lib.Dec.{T};
 ghost use lib.Ieee.{Float, fin, binary64, isNan};
 ghost use lib.Ieee.Scale.{finite};
 ghost use Rattle.fixed_point.specs.Fixed.{highOf, scaledOf, chooseOf, offsetOf, apartOf};
-ghost use Rattle.fixed_point.specs.Float.{digit};
 
 // The upper half of a * b, for a and b below 2^63.
 pub fn high(a: u64, b: u64) -> u64
@@ -62,14 +61,4 @@ pub fn apart(p: u64, n: u64) -> u64
         return n - p;
     }
     p - n
-}
-
-// 1 where p is below n, and 0 elsewhere.
-pub fn below(p: u64, n: u64) -> u64
-    ensures { λ r. ⌜ r ≡ digit (ltb p n) ⌝ }
-{
-    if p < n {
-        return 1;
-    }
-    0
 }
