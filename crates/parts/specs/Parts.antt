@@ -1,6 +1,6 @@
 -- The terms under their switches, the cosines with a phase, and the weighted sum, as the Rust writes them.
 use Prim.Native.Nat.{ℕ, zero, suc, _+_}
-use mathlib.Core.Bool.{cond, not, _&&_, _||_}
+use mathlib.Core.Bool.{Bool, cond, not, _&&_, _||_}
 use mathlib.Core.List.{List}
 use lib.Ieee.{Float, neg, lt, le, eq, ne}
 use Rattle.numbers.specs.Arithmetic.{_⊕_, _⊗_, _‼_}
@@ -57,10 +57,14 @@ t8Of v p g cd14 apdf apt =
     cond (eq ((v .sw) ‼ 9) (neg 1·0)) (history8Of v p g cd14 apt) (
     daily8Of v p g cd14 apdf)
 
+-- switch 10 is on, and g_long is above the value that stands for none
+abbrev pub hasLongitudeOf : View → Bool
+hasLongitudeOf v = ne ((v .sw) ‼ 10) 0·0 && lt (neg 1000·0) (v .«g_long»)
+
 -- t[10]: longitudinal
 unfoldable pub t10Of : View → List Float → List (List Float) → Float → Float
 t10Of v p g cd14 =
-    cond (not ((ne ((v .sw) ‼ 10) 0·0) && (lt (neg 1000·0) (v .«g_long»)))) (0·0) (
+    cond (not (hasLongitudeOf v)) (0·0) (
     cond (not (ne ((v .sw) ‼ 11) 0·0)) (0·0) (
     let b = fluxFactorOf (p ‼ 80) (v .dfa) ((v .swc) ‼ 1) in
     let x = longCosOf p g ((v .swc) ‼ 5) cd14 in
@@ -70,7 +74,7 @@ t10Of v p g cd14 =
 -- t[11]: UT and mixed UT and longitude
 unfoldable pub t11Of : View → List Float → List (List Float) → Float → Float
 t11Of v p g cd14 =
-    cond (not ((ne ((v .sw) ‼ 10) 0·0) && (lt (neg 1000·0) (v .«g_long»)))) (0·0) (
+    cond (not (hasLongitudeOf v)) (0·0) (
     cond (not (ne ((v .sw) ‼ 12) 0·0)) (0·0) (
     let b81 = fluxFactorOf (p ‼ 81) (v .dfa) ((v .swc) ‼ 1) in
     let b137 = fluxFactorOf (p ‼ 137) (v .dfa) ((v .swc) ‼ 1) in
@@ -106,7 +110,7 @@ daily12Of v p g cd14 apdf =
 -- t[12]: UT, longitude and magnetic activity
 unfoldable pub t12Of : View → List Float → List (List Float) → Float → Float → Float → Float
 t12Of v p g cd14 apdf apt =
-    cond (not ((ne ((v .sw) ‼ 10) 0·0) && (lt (neg 1000·0) (v .«g_long»)))) (0·0) (
+    cond (not (hasLongitudeOf v)) (0·0) (
     cond (not (ne ((v .sw) ‼ 13) 0·0)) (0·0) (
     cond (eq ((v .sw) ‼ 9) (neg 1·0)) (history12Of v p g cd14 apt) (
     daily12Of v p g cd14 apdf)))

@@ -4,7 +4,7 @@ ghost use Prim.Native.Nat.{_≤_};
 ghost use lib.ListN.{length};
 ghost use Rattle.setting.specs.Phases.{annualCosOf, semiannualCosOf, localCosOf, utCosOf, utLongCosOf, longPhaseCosOf};
 ghost use Rattle.setting.specs.Shared.{Shared};
-ghost use Rattle.parts.specs.Parts.{dayCosinesOf, t6Of, t7Of, t13Of, history8Of, daily8Of, t8Of, t10Of, t11Of, history12Of, daily12Of, t12Of, weightedOf, t8sOf, t10sOf, t6sOf, t7sOf, t13sOf};
+ghost use Rattle.parts.specs.Parts.{dayCosinesOf, hasLongitudeOf, t6Of, t7Of, t13Of, history8Of, daily8Of, t8Of, t10Of, t11Of, history12Of, daily12Of, t12Of, weightedOf, t8sOf, t10sOf, t6sOf, t7sOf, t13sOf};
 use numbers::abs;
 use numbers::plus_zero;
 use setting::View;
@@ -251,12 +251,19 @@ pub fn t8(v: View, p: &[f64], g: [[f64; 9]; 4], cd14: f64, apdf: f64, apt: f64) 
     daily8(v, p, g, cd14, apdf)
 }
 
+// Whether globe7 takes the longitude: switch 10 is on, and g_long is above the value that stands for none.
+pub fn has_longitude(v: View) -> bool
+    ensures { λ r. ⌜ r ≡ hasLongitudeOf v ⌝ }
+{
+    (v.sw[10] != 0.0) & (v.g_long > -1000.0)
+}
+
 // t[10]: longitudinal.
 pub fn t10(v: View, p: &[f64], g: [[f64; 9]; 4], cd14: f64) -> f64
     requires { ⌜ length (now p) ≡ 150 ⌝ }
     ensures { λ r. ⌜ r ≡ t10Of v (now (p .entry)) g cd14 ⌝ }
 {
-    if !((v.sw[10] != 0.0) & (v.g_long > -1000.0)) {
+    if !has_longitude(v) {
         return 0.0;
     }
     if !(v.sw[11] != 0.0) {
@@ -273,7 +280,7 @@ pub fn t11(v: View, p: &[f64], g: [[f64; 9]; 4], cd14: f64) -> f64
     requires { ⌜ (length (now p) ≡ 150) × Shared v ⌝ }
     ensures { λ r. ⌜ r ≡ t11Of v (now (p .entry)) g cd14 ⌝ }
 {
-    if !((v.sw[10] != 0.0) & (v.g_long > -1000.0)) {
+    if !has_longitude(v) {
         return 0.0;
     }
     if !(v.sw[12] != 0.0) {
@@ -344,7 +351,7 @@ pub fn t12(v: View, p: &[f64], g: [[f64; 9]; 4], cd14: f64, apdf: f64, apt: f64)
     requires { ⌜ (length (now p) ≡ 150) × Shared v ⌝ }
     ensures { λ r. ⌜ r ≡ t12Of v (now (p .entry)) g cd14 apdf apt ⌝ }
 {
-    if !((v.sw[10] != 0.0) & (v.g_long > -1000.0)) {
+    if !has_longitude(v) {
         return 0.0;
     }
     if !(v.sw[13] != 0.0) {

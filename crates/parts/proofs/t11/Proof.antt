@@ -4,19 +4,19 @@ use borrow.Author.Needs.{needs}
 use Rattle.parts.proofs.t11.Statement.{statement}
 use Rattle.parts.proofs.t11.Tie as tie
 
-element-copy-out-if1 : tie.Need-element-copy-out-if1
-element-copy-out-if1 c = search needs
+has-longitude-requires : tie.Need-has-longitude-requires
+has-longitude-requires c κs = search needs
 
 returns : tie.Need-returns
 unfolding t11Of
-returns c = simp ((c .if1 .taken))
+returns c = simp (← (c .before .has-longitude .ensures)) (simp ((c .if1 .taken)))
 
 element-copy-out-if2 : tie.Need-element-copy-out-if2
 element-copy-out-if2 c = search needs
 
 returns-2 : tie.Need-returns-2
 unfolding t11Of
-returns-2 c = simp ((c .if2 .taken), (c .before .before .if1 .left))
+returns-2 c = simp (← (c .before .before .before .has-longitude .ensures)) (simp ((c .if2 .taken), (c .before .before .if1 .left)))
 
 shared-slice-read-flux-factor : tie.Need-shared-slice-read-flux-factor
 shared-slice-read-flux-factor c = search needs
@@ -62,13 +62,13 @@ ut-long-requires c κs = search needs
 
 returns-3 : tie.Need-returns-3
 unfolding t11Of
-returns-3 c = simp (← (c .ut-long .ensures), ← (c .before .before .ut-mean .ensures), ← (c .before .before .before .before .ut-with-long .ensures), ← (c .before .before .before .before .before .before .ut .ensures), ← (c .before .before .before .before .before .before .before .before .flux-factor2 .ensures), ← (c .before .before .before .before .before .before .before .before .before .before .before .flux-factor .ensures)) (simp ((c .before .before .before .before .before .before .before .before .before .before .before .before .before .before .if2 .left), (c .before .before .before .before .before .before .before .before .before .before .before .before .before .before .before .before .if1 .left)))
+returns-3 c = simp (← (c .ut-long .ensures), ← (c .before .before .ut-mean .ensures), ← (c .before .before .before .before .ut-with-long .ensures), ← (c .before .before .before .before .before .before .ut .ensures), ← (c .before .before .before .before .before .before .before .before .flux-factor2 .ensures), ← (c .before .before .before .before .before .before .before .before .before .before .before .flux-factor .ensures), ← (c .before .before .before .before .before .before .before .before .before .before .before .before .before .before .before .before .before .has-longitude .ensures)) (simp ((c .before .before .before .before .before .before .before .before .before .before .before .before .before .before .if2 .left), (c .before .before .before .before .before .before .before .before .before .before .before .before .before .before .before .before .if1 .left)))
 
 pub t11-spec : {M : Type 1} → statement M
 t11-spec =
     tie.close
     (tie.spec
-    element-copy-out-if1
+    has-longitude-requires
     returns
     element-copy-out-if2
     returns-2
