@@ -468,8 +468,8 @@ fn apart(a: f64, b: f64) -> f64 {
     }
 }
 
-// The 1E-6 rule against the untouched Rust.
-fn near(g: &mut Random, count: u64) -> u64 {
+// The 1E-6 rule against the untouched Rust; with any entry 9, a line for each record beyond it.
+fn near(g: &mut Random, count: u64, any: bool) -> u64 {
     let (mut worst, mut beyond) = (0.0f64, 0u64);
     for _ in 0..count {
         let mut w = row_of(g);
@@ -477,7 +477,7 @@ fn near(g: &mut Random, count: u64) -> u64 {
         r.f107a = g.between(60.0, 400.0);
         r.f107 = g.between(60.0, 400.0);
         // beyond these, entry 9 multiplies the activity without bound and the temperatures lose all meaning
-        if !(-2..=3).contains(&w[9]) || (w[9] == -1 && r.ap_array.is_none()) {
+        if !(any || (-2..=3).contains(&w[9])) || (w[9] == -1 && r.ap_array.is_none()) {
             w[9] = 1;
         }
         let mut row = [0.0; 11];
@@ -485,10 +485,14 @@ fn near(g: &mut Random, count: u64) -> u64 {
             continue;
         }
         let (expect, _) = untouched::astro::atmosphere::shim::gtd7(&r, w);
-        let d = (0..11).map(|k| apart(row[k], expect[k])).fold(0.0, |a: f64, b| if b.is_nan() { f64::INFINITY } else { a.max(b) });
+        let differences: Vec<f64> = (0..11).map(|k| apart(row[k], expect[k])).map(|d| if d.is_nan() { f64::INFINITY } else { d }).collect();
+        let d = differences.iter().fold(0.0, |a: f64, b| a.max(*b));
         if d > 1e-6 {
             beyond += 1;
-            if beyond <= 5 {
+            let k = differences.iter().position(|x| *x == d).unwrap();
+            if any {
+                println!("| {} | {} | {:.3} | {:.1} | {k} | {:e} | {:e} |", w[9], r.doy, r.alt, r.ap, row[k], expect[k]);
+            } else if beyond <= 5 {
                 show("beyond 1E-6", &r, &w, &row, &expect);
             }
         } else {
@@ -496,7 +500,7 @@ fn near(g: &mut Random, count: u64) -> u64 {
         }
     }
     println!("untouched Rust: {count} records, fluxes 60 to 400, worst relative difference {worst:.2e}, {beyond} beyond 1E-6");
-    beyond
+    if any { 0 } else { beyond }
 }
 
 fn sample(doy: i32, sec: f64, alt: f64, g_lat: f64, g_long: f64, lst: f64, f107a: f64, f107: f64, ap: f64) -> Input {
@@ -569,31 +573,40 @@ fn counts() {
 }
 
 fn time() {
-    println!("ns per call, all switches on (ours, untouched Rust, ratio):");
-    for alt in [0.0, 50.0, 90.0, 150.0, 400.0, 1000.0] {
-        let mut g = Random(7);
-        let records: Vec<Input> = (0..256)
-            .map(|_| sample(1 + g.below(366) as i32, g.between(0.0, 86400.0), alt, g.between(-90.0, 90.0), g.between(-180.0, 180.0), g.between(0.0, 24.0), g.between(70.0, 250.0), g.between(70.0, 250.0), g.between(0.0, 50.0)))
-            .collect();
-        let w = [1; 24];
-        let (mut best, mut best_rust) = (f64::INFINITY, f64::INFINITY);
-        let mut sum = 0.0;
-        for _ in 0..15 {
-            let t = Instant::now();
-            for r in &records {
-                let mut row = [0.0; 11];
-                ours(r, &w, &mut row);
-                sum += row[5];
+    for nine in [1, -1] {
+        println!("ns per call, all switches on, switch 9 at {nine} (ours, untouched Rust, ratio):");
+        for alt in [0.0, 50.0, 90.0, 150.0, 400.0, 1000.0] {
+            let mut g = Random(7);
+            let records: Vec<Input> = (0..256)
+                .map(|_| {
+                    let mut r = sample(1 + g.below(366) as i32, g.between(0.0, 86400.0), alt, g.between(-90.0, 90.0), g.between(-180.0, 180.0), g.between(0.0, 24.0), g.between(70.0, 250.0), g.between(70.0, 250.0), g.between(0.0, 50.0));
+                    if nine == -1 {
+                        r.ap_array = Some(std::array::from_fn(|_| g.between(0.0, 50.0)));
+                    }
+                    r
+                })
+                .collect();
+            let mut w = [1; 24];
+            w[9] = nine;
+            let (mut best, mut best_rust) = (f64::INFINITY, f64::INFINITY);
+            let mut sum = 0.0;
+            for _ in 0..15 {
+                let t = Instant::now();
+                for r in &records {
+                    let mut row = [0.0; 11];
+                    ours(r, &w, &mut row);
+                    sum += row[5];
+                }
+                best = best.min(t.elapsed().as_nanos() as f64 / 256.0);
+                let flags = untouched::astro::atmosphere::Flags::new(w);
+                let t = Instant::now();
+                for r in &records {
+                    sum += untouched::astro::atmosphere::gtd7(r, &flags).unwrap().d[5];
+                }
+                best_rust = best_rust.min(t.elapsed().as_nanos() as f64 / 256.0);
             }
-            best = best.min(t.elapsed().as_nanos() as f64 / 256.0);
-            let flags = untouched::astro::atmosphere::Flags::new(w);
-            let t = Instant::now();
-            for r in &records {
-                sum += untouched::astro::atmosphere::gtd7(r, &flags).unwrap().d[5];
-            }
-            best_rust = best_rust.min(t.elapsed().as_nanos() as f64 / 256.0);
+            println!("  {alt:6} km: {best:8.0} {best_rust:8.0} {:5.2}{}", best / best_rust, if sum == 1.5 { "!" } else { "" });
         }
-        println!("  {alt:6} km: {best:8.0} {best_rust:8.0} {:5.2}{}", best / best_rust, if sum == 1.5 { "!" } else { "" });
     }
 }
 
@@ -634,7 +647,8 @@ fn main() {
         Some("columns") => columns(&mut g, count),
         Some("lines") => lines::good(&args[4], &mut g, count),
         Some("hostile") => lines::hostile(&args[4], &mut g, count),
-        Some("near") => near(&mut g, count),
+        Some("near") => near(&mut g, count, false),
+        Some("near-any") => near(&mut g, count, true),
         Some("samples") => samples(&args[2]),
         Some("counts") => {
             counts();
@@ -650,7 +664,7 @@ fn main() {
             0
         }
         _ => {
-            eprintln!("model differential|pairs|states|expansions|columns|near [SEED] [COUNT], lines|hostile SEED COUNT PROGRAM, forms SEED COUNT INPUT OUTPUT, samples FILE, counts, time");
+            eprintln!("model differential|pairs|states|expansions|columns|near|near-any [SEED] [COUNT], lines|hostile SEED COUNT PROGRAM, forms SEED COUNT INPUT OUTPUT, samples FILE, counts, time");
             std::process::exit(2);
         }
     };
