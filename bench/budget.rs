@@ -1,67 +1,21 @@
 // Instructions and stack of one call, of ours and of the untouched Rust's, over the same records and switch rows.
 // `count` runs each call between two requests to callgrind, which writes one file a call; `table` reads these files in the same order;
 // `stack` paints the stack below a call and looks how far it was written.
+#[path = "../oracle/host.rs"]
+mod host;
+#[path = "../oracle/random.rs"]
+mod random;
+use host::{ours, ours_column};
+use random::Random;
 use std::arch::asm;
 use std::hint::black_box;
 use untouched::astro::atmosphere::{gtd7, Flags, NrlmsiseInput as Input};
 
-extern "C" {
-    fn potirehu_gtd7(
-        year: i32,
-        doy: i32,
-        fields: *const f64,
-        n_fields: usize,
-        ap_array: *const f64,
-        n_ap: usize,
-        switches: *const i32,
-        n_switches: usize,
-        row: *mut f64,
-        n_row: usize,
-    ) -> u64;
-    fn potirehu_gtd7_column(
-        year: i32,
-        doy: i32,
-        fields: *const f64,
-        n_fields: usize,
-        ap_array: *const f64,
-        n_ap: usize,
-        switches: *const i32,
-        n_switches: usize,
-        altitudes: *const f64,
-        n: usize,
-        rows: *mut f64,
-        n_rows: usize,
-    ) -> u64;
-}
-
 const ALTITUDES: [f64; 6] = [0.0, 50.0, 90.0, 150.0, 400.0, 1000.0];
 const COLUMN: usize = 32;
 
-// splitmix64
-struct Random(u64);
-
-impl Random {
-    fn next(&mut self) -> u64 {
-        self.0 = self.0.wrapping_add(0x9E37_79B9_7F4A_7C15);
-        let mut z = self.0;
-        z = (z ^ (z >> 30)).wrapping_mul(0xBF58_476D_1CE4_E5B9);
-        z = (z ^ (z >> 27)).wrapping_mul(0x94D0_49BB_1331_11EB);
-        z ^ (z >> 31)
-    }
-
-    fn below(&mut self, n: u64) -> u64 {
-        self.next() % n
-    }
-
-    fn between(&mut self, lo: f64, hi: f64) -> f64 {
-        lo + (hi - lo) * (self.next() >> 11) as f64 / (1u64 << 53) as f64
-    }
-}
-
 struct Case {
     input: Input,
-    fields: [f64; 8],
-    history: [f64; 7],
     row: [i32; 24],
     flags: Flags,
     column: [f64; COLUMN],
@@ -87,41 +41,15 @@ fn case(g: &mut Random, alt: f64, all_on: bool) -> Case {
         ap: g.between(0.0, 200.0),
         ap_array: Some(history),
     };
-    let fields = [input.sec, input.alt, input.g_lat, input.g_long, input.lst, input.f107a, input.f107, input.ap];
     // the Rust takes no more than 1000 km
     let column = std::array::from_fn(|_| g.between((alt - 10.0).max(0.0), (alt + 10.0).min(1000.0)));
-    Case { input, fields, history, row, flags: Flags::new(row), column }
+    Case { input, row, flags: Flags::new(row), column }
 }
 
 // The cases of one altitude and one kind of row.
 fn cases(alt: usize, all_on: bool, records: usize) -> Vec<Case> {
     let mut g = Random(2 * alt as u64 + all_on as u64);
     (0..records).map(|_| case(&mut g, ALTITUDES[alt], all_on)).collect()
-}
-
-fn ours(c: &Case, row: &mut [f64; 11]) -> u64 {
-    let r = &c.input;
-    unsafe { potirehu_gtd7(r.year, r.doy, c.fields.as_ptr(), 8, c.history.as_ptr(), 7, c.row.as_ptr(), 24, row.as_mut_ptr(), 11) }
-}
-
-fn ours_column(c: &Case, rows: &mut [f64; 11 * COLUMN]) -> u64 {
-    let r = &c.input;
-    unsafe {
-        potirehu_gtd7_column(
-            r.year,
-            r.doy,
-            c.fields.as_ptr(),
-            8,
-            c.history.as_ptr(),
-            7,
-            c.row.as_ptr(),
-            24,
-            c.column.as_ptr(),
-            COLUMN,
-            rows.as_mut_ptr(),
-            11 * COLUMN,
-        )
-    }
 }
 
 fn rust(input: &Input, flags: &Flags) -> f64 {
@@ -154,13 +82,13 @@ fn count(records: usize) {
             for c in cases(alt, all_on, records) {
                 let mut row = [0.0; 11];
                 counted(|| {
-                    assert_eq!(ours(&c, &mut row), 0);
+                    assert_eq!(ours(&c.input, &c.row, &mut row), (0, 0));
                     row[5]
                 });
                 counted(|| rust(&c.input, &c.flags));
                 let mut rows = [0.0; 11 * COLUMN];
                 counted(|| {
-                    assert_eq!(ours_column(&c, &mut rows), 0);
+                    assert_eq!(ours_column(&c.input, &c.row, &c.column, &mut rows), (0, 0));
                     rows[5]
                 });
                 let inputs: Vec<Input> = c.column.iter().map(|z| Input { alt: *z, ..c.input }).collect();
@@ -256,12 +184,14 @@ struct Held {
 
 extern "C" fn hold_ours(data: *mut u8) {
     let h = unsafe { &mut *(data as *mut Held) };
-    ours(unsafe { &*h.case }, &mut h.row);
+    let c = unsafe { &*h.case };
+    ours(&c.input, &c.row, &mut h.row);
 }
 
 extern "C" fn hold_column(data: *mut u8) {
     let h = unsafe { &mut *(data as *mut Held) };
-    ours_column(unsafe { &*h.case }, &mut h.rows);
+    let c = unsafe { &*h.case };
+    ours_column(&c.input, &c.row, &c.column, &mut h.rows);
 }
 
 extern "C" fn hold_rust(data: *mut u8) {

@@ -1,5 +1,8 @@
 // Nanoseconds per call of the elementary functions and of the Rust libm crate, in one run.
 // Throughput: independent arguments. Latency: each argument waits for the result before it.
+#[path = "../../oracle/random.rs"]
+mod random;
+use random::Random;
 use std::hint::black_box;
 use std::time::Instant;
 
@@ -15,21 +18,6 @@ extern "C" {
 const COUNT: usize = 4096;
 const ROUNDS: usize = 4;
 const REPEATS: usize = 200;
-
-struct Random(u64);
-
-impl Random {
-    fn next(&mut self) -> u64 {
-        self.0 = self.0.wrapping_add(0x9E3779B97F4A7C15);
-        let mut z = self.0;
-        z = (z ^ (z >> 30)).wrapping_mul(0xBF58476D1CE4E5B9);
-        z = (z ^ (z >> 27)).wrapping_mul(0x94D049BB133111EB);
-        z ^ (z >> 31)
-    }
-    fn between(&mut self, a: f64, b: f64) -> f64 {
-        a + (b - a) * ((self.next() >> 11) as f64 / 9007199254740992.0)
-    }
-}
 
 fn throughput<F: Fn(f64) -> f64>(f: F, xs: &[f64]) -> f64 {
     let start = Instant::now();

@@ -1,5 +1,9 @@
 // The elementary functions against the Rust libm crate, and the square root against Rust's own.
 // oracle SEED COUNT: COUNT compared arguments for each function; worst differences with their arguments; fails beyond the bounds.
+#[path = "../random.rs"]
+mod random;
+use random::Random;
+
 extern "C" {
     fn elementary_exp(x: f64) -> f64;
     fn elementary_log(x: f64) -> f64;
@@ -11,19 +15,7 @@ extern "C" {
 
 const SMALLEST: f64 = 2.2250738585072014e-308; // 2^-1022
 
-struct Random(u64);
-
 impl Random {
-    fn next(&mut self) -> u64 {
-        self.0 = self.0.wrapping_add(0x9E3779B97F4A7C15);
-        let mut z = self.0;
-        z = (z ^ (z >> 30)).wrapping_mul(0xBF58476D1CE4E5B9);
-        z = (z ^ (z >> 27)).wrapping_mul(0x94D049BB133111EB);
-        z ^ (z >> 31)
-    }
-    fn between(&mut self, a: f64, b: f64) -> f64 {
-        a + (b - a) * ((self.next() >> 11) as f64 / 9007199254740992.0)
-    }
     // A point of the list, or one of its 16 neighbours on either side, with either sign.
     fn near(&mut self, points: &[f64]) -> f64 {
         let p = points[self.next() as usize % points.len()];

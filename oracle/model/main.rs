@@ -1,38 +1,18 @@
 // Our one-altitude call against the Rust: the eleven numbers to the bit, the refusals, pairs under the shut-off list, the 1E-6 rule,
 // the published samples, calls of each elementary function, and time per call. The expansions and the line program stand in files of their own.
 mod expansions;
+#[path = "../host.rs"]
+mod host;
 mod lines;
+#[path = "../random.rs"]
+mod random;
+use host::{numbers, ours, ours_column};
+use random::Random;
 use std::time::Instant;
 
 type Input = untouched::astro::atmosphere::NrlmsiseInput;
 
 extern "C" {
-    fn potirehu_gtd7(
-        year: i32,
-        doy: i32,
-        fields: *const f64,
-        n_fields: usize,
-        ap_array: *const f64,
-        n_ap: usize,
-        switches: *const i32,
-        n_switches: usize,
-        row: *mut f64,
-        n_row: usize,
-    ) -> u64;
-    fn potirehu_gtd7_column(
-        year: i32,
-        doy: i32,
-        fields: *const f64,
-        n_fields: usize,
-        ap_array: *const f64,
-        n_ap: usize,
-        switches: *const i32,
-        n_switches: usize,
-        altitudes: *const f64,
-        n: usize,
-        rows: *mut f64,
-        n_rows: usize,
-    ) -> u64;
     fn state_number(
         year: i32,
         doy: i32,
@@ -46,103 +26,25 @@ extern "C" {
     ) -> f64;
 }
 
-fn ours(r: &Input, w: &[i32; 24], row: &mut [f64]) -> (u64, u64) {
-    let fields = [r.sec, r.alt, r.g_lat, r.g_long, r.lst, r.f107a, r.f107, r.ap];
-    let ap = r.ap_array.unwrap_or([0.0; 7]);
-    let n_ap = if r.ap_array.is_some() { 7 } else { 0 };
-    let code = unsafe {
-        potirehu_gtd7(r.year, r.doy, fields.as_ptr(), 8, ap.as_ptr(), n_ap, w.as_ptr(), 24, row.as_mut_ptr(), row.len())
+// The record for another copy of the Rust.
+macro_rules! to_copy {
+    ($name:ident, $copy:ident) => {
+        fn $name(r: &Input) -> $copy::astro::atmosphere::NrlmsiseInput {
+            let Input { year, doy, sec, alt, g_lat, g_long, lst, f107a, f107, ap, ap_array } = *r;
+            $copy::astro::atmosphere::NrlmsiseInput { year, doy, sec, alt, g_lat, g_long, lst, f107a, f107, ap, ap_array }
+        }
     };
-    (code >> 32, code & 0xffff_ffff)
 }
-
-fn ours_column(r: &Input, w: &[i32; 24], alts: &[f64], rows: &mut [f64]) -> (u64, u64) {
-    let fields = [r.sec, r.alt, r.g_lat, r.g_long, r.lst, r.f107a, r.f107, r.ap];
-    let ap = r.ap_array.unwrap_or([0.0; 7]);
-    let n_ap = if r.ap_array.is_some() { 7 } else { 0 };
-    let code = unsafe {
-        potirehu_gtd7_column(
-            r.year,
-            r.doy,
-            fields.as_ptr(),
-            8,
-            ap.as_ptr(),
-            n_ap,
-            w.as_ptr(),
-            24,
-            alts.as_ptr(),
-            alts.len(),
-            rows.as_mut_ptr(),
-            rows.len(),
-        )
-    };
-    (code >> 32, code & 0xffff_ffff)
-}
-
-fn to_routed(r: &Input) -> routed::astro::atmosphere::NrlmsiseInput {
-    routed::astro::atmosphere::NrlmsiseInput {
-        year: r.year,
-        doy: r.doy,
-        sec: r.sec,
-        alt: r.alt,
-        g_lat: r.g_lat,
-        g_long: r.g_long,
-        lst: r.lst,
-        f107a: r.f107a,
-        f107: r.f107,
-        ap: r.ap,
-        ap_array: r.ap_array,
-    }
-}
-
-fn to_counted(r: &Input) -> counted::astro::atmosphere::NrlmsiseInput {
-    counted::astro::atmosphere::NrlmsiseInput {
-        year: r.year,
-        doy: r.doy,
-        sec: r.sec,
-        alt: r.alt,
-        g_lat: r.g_lat,
-        g_long: r.g_long,
-        lst: r.lst,
-        f107a: r.f107a,
-        f107: r.f107,
-        ap: r.ap,
-        ap_array: r.ap_array,
-    }
-}
+to_copy!(to_routed, routed);
+to_copy!(to_counted, counted);
 
 // State after gtd7, number by number.
 fn state(r: &Input, w: &[i32; 24], k: usize) -> f64 {
-    let fields = [r.sec, r.alt, r.g_lat, r.g_long, r.lst, r.f107a, r.f107, r.ap];
-    let ap = r.ap_array.unwrap_or([0.0; 7]);
-    let n_ap = if r.ap_array.is_some() { 7 } else { 0 };
+    let (fields, ap, n_ap) = numbers(r);
     unsafe { state_number(r.year, r.doy, fields.as_ptr(), 8, ap.as_ptr(), n_ap, w.as_ptr(), 24, k) }
 }
 
-// splitmix64
-struct Random(u64);
-
 impl Random {
-    fn next(&mut self) -> u64 {
-        self.0 = self.0.wrapping_add(0x9E37_79B9_7F4A_7C15);
-        let mut z = self.0;
-        z = (z ^ (z >> 30)).wrapping_mul(0xBF58_476D_1CE4_E5B9);
-        z = (z ^ (z >> 27)).wrapping_mul(0x94D0_49BB_1331_11EB);
-        z ^ (z >> 31)
-    }
-
-    fn below(&mut self, n: u64) -> u64 {
-        self.next() % n
-    }
-
-    fn unit(&mut self) -> f64 {
-        (self.next() >> 11) as f64 / (1u64 << 53) as f64
-    }
-
-    fn between(&mut self, lo: f64, hi: f64) -> f64 {
-        lo + (hi - lo) * self.unit()
-    }
-
     // Uniform, an end, the neighbour of an end, or a round number.
     fn field(&mut self, lo: f64, hi: f64) -> f64 {
         match self.below(12) {

@@ -19,24 +19,11 @@ mod ours {
     }
 }
 
-// splitmix64
-struct Random(u64);
+use crate::random::Random;
 
 impl Random {
-    fn next(&mut self) -> u64 {
-        self.0 = self.0.wrapping_add(0x9e3779b97f4a7c15);
-        let mut z = self.0;
-        z = (z ^ (z >> 30)).wrapping_mul(0xbf58476d1ce4e5b9);
-        z = (z ^ (z >> 27)).wrapping_mul(0x94d049bb133111eb);
-        z ^ (z >> 31)
-    }
-
-    fn below(&mut self, n: usize) -> usize {
-        (self.next() % n as u64) as usize
-    }
-
-    fn between(&mut self, lo: f64, hi: f64) -> f64 {
-        lo + (hi - lo) * ((self.next() >> 11) as f64 / 9007199254740992.0)
+    fn index(&mut self, n: usize) -> usize {
+        self.below(n as u64) as usize
     }
 
     // NaN, infinities, zeros, ends of the formats and of the tests in the text, whole numbers, any bits.
@@ -45,17 +32,17 @@ impl Random {
             f64::NAN, f64::INFINITY, f64::NEG_INFINITY, 0.0, -0.0, 1.0, -1.0, 2.0, 0.5, 10.0, -10.0, 50.0, 70.0, -70.0, 5e-324,
             -5e-324, 2.2250738585072014e-308, f64::MAX, f64::MIN, 1e300, 1e-300, 0.99e30, 1e30, 709.0, -708.0, 100.0,
         ];
-        match self.below(4) {
-            0 => SPECIAL[self.below(26)],
+        match self.index(4) {
+            0 => SPECIAL[self.index(26)],
             1 => f64::from_bits(self.next()),
-            2 => self.below(200) as f64 - 100.0,
+            2 => self.index(200) as f64 - 100.0,
             _ => self.between(-1000.0, 1000.0),
         }
     }
 
     // Hostile three times in 8; never where the whole call is to be ordinary.
     fn number(&mut self, ordinary: bool, lo: f64, hi: f64) -> f64 {
-        if !ordinary && self.below(8) < 3 {
+        if !ordinary && self.index(8) < 3 {
             self.hostile()
         } else {
             self.between(lo, hi)
@@ -65,14 +52,14 @@ impl Random {
     // n numbers falling from hi, or rising from lo, where ordinary; else any, some equal.
     fn nodes(&mut self, ordinary: bool, rising: bool, n: usize, lo: f64, hi: f64) -> Vec<f64> {
         let mut v: Vec<f64> = (0..n).map(|_| self.number(ordinary, lo, hi)).collect();
-        if ordinary || self.below(2) == 0 {
+        if ordinary || self.index(2) == 0 {
             v.sort_by(|a, b| a.partial_cmp(b).unwrap_or(std::cmp::Ordering::Equal));
             if !rising {
                 v.reverse();
             }
         }
-        if !ordinary && self.below(4) == 0 {
-            let (i, j) = (self.below(n), self.below(n));
+        if !ordinary && self.index(4) == 0 {
+            let (i, j) = (self.index(n), self.index(n));
             v[i] = v[j];
         }
         v
@@ -122,13 +109,13 @@ fn mixing(r: &mut Random, rows: &mut Vec<Row>, count: u64) {
         let (h1, h2) = (r.number(o, 1.0, 60.0), r.number(o, 1.0, 60.0));
         let x = r.number(o, -5.0, 5.0);
         // e at and beside the ends of the formula, too
-        let alt = if r.below(16) == 0 { zh + h1 * [70.0, -70.0, 70.5, -70.5, 69.5, -69.5][r.below(6)] } else { alt };
+        let alt = if r.index(16) == 0 { zh + h1 * [70.0, -70.0, 70.5, -70.5, 69.5, -69.5][r.index(6)] } else { alt };
         unsafe {
             a.take(&[ccor(alt, x, h1, zh)], &[ours::parts_ccor(alt, x, h1, zh)], &(alt, x, h1, zh));
             b.take(&[ccor2(alt, x, h1, zh, h2)], &[ours::parts_ccor2(alt, x, h1, zh, h2)], &(alt, x, h1, zh, h2));
         }
         let dd = r.number(o, 0.0, 1e12);
-        let dm = if r.below(4) == 0 { dd * r.between(0.5, 2.0) } else { r.number(o, 0.0, 1e12) };
+        let dm = if r.index(4) == 0 { dd * r.between(0.5, 2.0) } else { r.number(o, 0.0, 1e12) };
         let (zhm, xmm, xm) = (r.number(o, 20.0, 120.0), r.number(o, 28.0, 29.0), r.number(o, 1.0, 40.0));
         unsafe {
             c.take(&[dnet(dd, dm, zhm, xmm, xm)], &[ours::parts_dnet(dd, dm, zhm, xmm, xm)], &(dd, dm, zhm, xmm, xm));
@@ -141,14 +128,14 @@ fn splines(r: &mut Random, rows: &mut Vec<Row>, count: u64) {
     let (mut a, mut b, mut c) = (row("splini"), row("splint"), row("spline"));
     for i in 0..count {
         let o = i % 2 == 0;
-        let n = 2 + r.below(9);
-        let longer = n + r.below(3);
-        let rising = r.below(4) != 0;
+        let n = 2 + r.index(9);
+        let longer = n + r.index(3);
+        let rising = r.index(4) != 0;
         let xa = r.nodes(o, rising, longer, 0.0, 1.0);
         let ya: Vec<f64> = (0..longer).map(|_| r.number(o, 0.001, 0.01)).collect();
         let y2a: Vec<f64> = (0..longer).map(|_| r.number(o, -0.1, 0.1)).collect();
-        let x = if r.below(8) == 0 { xa[r.below(n)] } else { r.number(o, -0.1, 1.2) };
-        let (yp1, ypn) = (r.number(o, -1.0, 1.0), if r.below(4) == 0 { 1e30 } else { r.number(o, -1.0, 1.0) });
+        let x = if r.index(8) == 0 { xa[r.index(n)] } else { r.number(o, -0.1, 1.2) };
+        let (yp1, ypn) = (r.number(o, -1.0, 1.0), if r.index(4) == 0 { 1e30 } else { r.number(o, -1.0, 1.0) });
         unsafe {
             let (p, q, s) = (xa.as_ptr(), ya.as_ptr(), y2a.as_ptr());
             a.take(&[splini(&xa, &ya, &y2a, n, x)], &[ours::parts_splini(p, longer, q, longer, s, longer, n, x)], &(&xa, &ya, &y2a, n, x));
@@ -190,8 +177,8 @@ fn profiles(r: &mut Random, rows: &mut Vec<Row>, count: u64) {
     for i in 0..count {
         let o = i % 2 == 0;
         let s = ground(r, o);
-        let (n3, n2) = (2 + r.below(9), 2 + r.below(9));
-        let (l3, l2) = (n3 + r.below(2), n2 + r.below(2));
+        let (n3, n2) = (2 + r.index(9), 2 + r.index(9));
+        let (l3, l2) = (n3 + r.index(2), n2 + r.index(2));
         let zn2 = r.nodes(o, false, l2, 32.5, 72.5);
         let zn3 = r.nodes(o, false, l3, 0.0, 32.5);
         let tn2: Vec<f64> = (0..l2).map(|_| r.number(o, 180.0, 300.0)).collect();
@@ -199,11 +186,11 @@ fn profiles(r: &mut Random, rows: &mut Vec<Row>, count: u64) {
         let tgn2 = [r.number(o, -10.0, 10.0), r.number(o, -10.0, 10.0)];
         let tgn3 = [r.number(o, -10.0, 10.0), r.number(o, -10.0, 10.0)];
         let mut alt = r.number(o, 0.0, 80.0);
-        if r.below(16) == 0 {
-            alt = [zn2[0], zn3[0], zn2[n2 - 1]][r.below(3)];
+        if r.index(16) == 0 {
+            alt = [zn2[0], zn3[0], zn2[n2 - 1]][r.index(3)];
         }
         let (d0, tz) = (r.number(o, 1e10, 1e15), r.number(o, 180.0, 300.0));
-        let xm = if r.below(4) == 0 { 0.0 } else { r.number(o, 1.0, 40.0) };
+        let xm = if r.index(4) == 0 { 0.0 } else { r.number(o, 1.0, 40.0) };
         let mut theirs_tz = tz;
         let theirs = s.densm(alt, d0, xm, &mut theirs_tz, n3, &zn3, &tn3, &tgn3, n2, &zn2, &tn2, &tgn2);
         unsafe {
@@ -212,17 +199,17 @@ fn profiles(r: &mut Random, rows: &mut Vec<Row>, count: u64) {
             a.take(&[theirs, theirs_tz], &[mine, mine_tz], &((s.gsurf, s.re, alt, d0, xm, tz), (n3, &zn3, &tn3, &tgn3), (n2, &zn2, &tn2, &tgn2)));
         }
 
-        let n1 = 2 + r.below(4);
-        let l1 = n1 + r.below(2);
+        let n1 = 2 + r.index(4);
+        let l1 = n1 + r.index(2);
         let zn1 = r.nodes(o, false, l1, 72.5, 130.0);
         let tn1: Vec<f64> = (0..l1).map(|_| r.number(o, 150.0, 500.0)).collect();
         let tgn1 = vec![r.number(o, -10.0, 10.0), r.number(o, -10.0, 10.0)];
-        let mut alt = if r.below(2) == 0 { r.number(o, 60.0, 140.0) } else { r.number(o, 60.0, 2500.0) };
-        if r.below(16) == 0 {
-            alt = [zn1[0], zn1[n1 - 1], f64::NAN][r.below(3)];
+        let mut alt = if r.index(2) == 0 { r.number(o, 60.0, 140.0) } else { r.number(o, 60.0, 2500.0) };
+        if r.index(16) == 0 {
+            alt = [zn1[0], zn1[n1 - 1], f64::NAN][r.index(3)];
         }
         let (dlb, tinf, tlb) = (r.number(o, 1e5, 1e12), r.number(o, 300.0, 2000.0), r.number(o, 200.0, 500.0));
-        let xm = if r.below(4) == 0 { 0.0 } else { r.number(o, -28.0, 40.0) };
+        let xm = if r.index(4) == 0 { 0.0 } else { r.number(o, -28.0, 40.0) };
         let (alpha, zlb, s2) = (r.number(o, -1.0, 1.0), r.number(o, 110.0, 130.0), r.number(o, 0.005, 0.05));
         let (mut tn, mut tgn) = (tn1.clone(), tgn1.clone());
         let mut theirs_tz = tz;

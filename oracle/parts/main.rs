@@ -1,5 +1,6 @@
 // Compares the functions of libhost_parts.a with the Rust's.
 mod atmosphere;
+mod random;
 mod routed;
 
 fn main() {
