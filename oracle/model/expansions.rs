@@ -1,6 +1,6 @@
 // The public globe7 and glob7s against the routed Rust: the refusal, the value and all 78 numbers of State to the bit, from any State, row,
 // record and coefficients.
-use super::{record, row_of, same, spoiled, to_routed, Input, Random};
+use super::{numbers, record, row_of, same, set_field, spoiled, to_routed, Input, Random};
 use routed::astro::atmosphere::shim;
 
 type Code = unsafe extern "C" fn(
@@ -33,66 +33,44 @@ type Number = unsafe extern "C" fn(
     usize,
 ) -> f64;
 
-extern "C" {
-    fn globe7_code(
-        year: i32,
-        doy: i32,
-        fields: *const f64,
-        n_fields: usize,
-        ap_array: *const f64,
-        n_ap: usize,
-        switches: *const i32,
-        n_switches: usize,
-        p: *const f64,
-        n_p: usize,
-        state: *const f64,
-        n_state: usize,
-    ) -> u64;
-    fn globe7_number(
-        year: i32,
-        doy: i32,
-        fields: *const f64,
-        n_fields: usize,
-        ap_array: *const f64,
-        n_ap: usize,
-        switches: *const i32,
-        n_switches: usize,
-        p: *const f64,
-        n_p: usize,
-        state: *const f64,
-        n_state: usize,
-        k: usize,
-    ) -> f64;
-    fn glob7s_code(
-        year: i32,
-        doy: i32,
-        fields: *const f64,
-        n_fields: usize,
-        ap_array: *const f64,
-        n_ap: usize,
-        switches: *const i32,
-        n_switches: usize,
-        p: *const f64,
-        n_p: usize,
-        state: *const f64,
-        n_state: usize,
-    ) -> u64;
-    fn glob7s_number(
-        year: i32,
-        doy: i32,
-        fields: *const f64,
-        n_fields: usize,
-        ap_array: *const f64,
-        n_ap: usize,
-        switches: *const i32,
-        n_switches: usize,
-        p: *const f64,
-        n_p: usize,
-        state: *const f64,
-        n_state: usize,
-        k: usize,
-    ) -> f64;
+// A call's refusal, packed, and its numbers one by one.
+macro_rules! exported {
+    ($code:ident, $number:ident) => {
+        extern "C" {
+            fn $code(
+                year: i32,
+                doy: i32,
+                fields: *const f64,
+                n_fields: usize,
+                ap_array: *const f64,
+                n_ap: usize,
+                switches: *const i32,
+                n_switches: usize,
+                p: *const f64,
+                n_p: usize,
+                state: *const f64,
+                n_state: usize,
+            ) -> u64;
+            fn $number(
+                year: i32,
+                doy: i32,
+                fields: *const f64,
+                n_fields: usize,
+                ap_array: *const f64,
+                n_ap: usize,
+                switches: *const i32,
+                n_switches: usize,
+                p: *const f64,
+                n_p: usize,
+                state: *const f64,
+                n_state: usize,
+                k: usize,
+            ) -> f64;
+        }
+    };
 }
+exported!(globe7_code, globe7_number);
+exported!(glob7s_code, glob7s_number);
 
 type State = [f64; shim::STATE];
 
@@ -103,9 +81,7 @@ struct Given {
 }
 
 fn ours(code: Code, number: Number, r: &Input, w: &[i32; 24], p: &[f64], s: &State) -> Given {
-    let f = [r.sec, r.alt, r.g_lat, r.g_long, r.lst, r.f107a, r.f107, r.ap];
-    let ap = r.ap_array.unwrap_or([0.0; 7]);
-    let n_ap = if r.ap_array.is_some() { 7 } else { 0 };
+    let (f, ap, n_ap) = numbers(r);
     let c = unsafe { code(r.year, r.doy, f.as_ptr(), 8, ap.as_ptr(), n_ap, w.as_ptr(), 24, p.as_ptr(), p.len(), s.as_ptr(), s.len()) };
     let at = |k| unsafe {
         number(r.year, r.doy, f.as_ptr(), 8, ap.as_ptr(), n_ap, w.as_ptr(), 24, p.as_ptr(), p.len(), s.as_ptr(), s.len(), k)
@@ -200,15 +176,8 @@ fn far(g: &mut Random, mut r: Input) -> Input {
     for _ in 0..1 + g.below(4) {
         let x = number(g) * [1.0, 1e3, 1e6][g.below(3) as usize];
         match g.below(9) {
-            0 => r.sec = x,
-            1 => r.alt = x,
-            2 => r.g_lat = x,
-            3 => r.g_long = x,
-            4 => r.lst = x,
-            5 => r.f107a = x,
-            6 => r.f107 = x,
-            7 => r.ap = x,
-            _ => r.doy = g.next() as i32,
+            8 => r.doy = g.next() as i32,
+            k => set_field(&mut r, k, x),
         }
     }
     r

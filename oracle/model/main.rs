@@ -122,6 +122,11 @@ fn record(g: &mut Random) -> Input {
     }
 }
 
+// One of the eight fields that are numbers, in their order.
+fn set_field(r: &mut Input, k: u64, x: f64) {
+    *[&mut r.sec, &mut r.alt, &mut r.g_lat, &mut r.g_long, &mut r.lst, &mut r.f107a, &mut r.f107, &mut r.ap][k as usize] = x;
+}
+
 // One to three fields replaced by any bit pattern, an infinity, a NaN, or a number just out of range.
 fn spoiled(g: &mut Random, mut r: Input) -> Input {
     for _ in 0..1 + g.below(3) {
@@ -134,14 +139,7 @@ fn spoiled(g: &mut Random, mut r: Input) -> Input {
             _ => g.between(-3000.0, 90000.0),
         };
         match g.below(11) {
-            0 => r.sec = x,
-            1 => r.alt = x,
-            2 => r.g_lat = x,
-            3 => r.g_long = x,
-            4 => r.lst = x,
-            5 => r.f107a = x,
-            6 => r.f107 = x,
-            7 => r.ap = x,
+            k @ 0..=7 => set_field(&mut r, k, x),
             8 => r.doy = [0, 367, -1, i32::MIN, i32::MAX, 366, 1][g.below(7) as usize],
             _ => {
                 let mut a = r.ap_array.unwrap_or([4.0; 7]);
