@@ -1,7 +1,7 @@
 -- The altitudes met one by one, the rows written one by one, and the column call's outcomes.
 use mathlib.Core.Path.{_≡_, refl, sym, ap, ap₂, _∙_}
 use mathlib.Core.Bool.{Bool, true, false, cond, not, _||_, false≢true}
-use mathlib.Core.List.{List, [], _∷_, _++_, append-assoc}
+use mathlib.Core.List.{List, [], _∷_, _++_, append-assoc, append-nil}
 use Prim.Native.Nat.{ℕ, suc, _+_, _*_, _-_, _<_, _≤_}
 use native.Mathlib.Numerals.{add-one}
 use native.Mathlib.Omega.{arith}
@@ -112,13 +112,9 @@ module _ (sw : List Float) (x : Site) (l : Levels) where
   rows-append [] ys = refl
   rows-append (z ∷ zs) ys = ap (λ (r : List Float). elevenFrom sw x l z ++ r) (rows-append zs ys) ∙ sym (append-assoc (elevenFrom sw x l z) (rowsAt sw x l zs) (rowsAt sw x l ys))
 
-  append-none : (r : List Float) → r ++ [] ≡ r
-  append-none [] = refl
-  append-none (z ∷ zs) = ap (λ (r : List Float). z ∷ r) (append-none zs)
-
   rows-one : (z : Float) → rowsAt sw x l (z ∷ []) ≡ elevenFrom sw x l z
   unfolding rowsAt
-  rows-one z = append-none (elevenFrom sw x l z)
+  rows-one z = append-nil (elevenFrom sw x l z)
 
   rows-more : (alts row : List Float) (k : ℕ) → k < length alts → row ≡ elevenFrom sw x l (getD alts k nan)
       → rowsAt sw x l (take (k + 1) alts) ≡ rowsAt sw x l (take k alts) ++ row
@@ -165,10 +161,6 @@ pub rows-are : (w : List ℤ) (n : Input) (alts : List Float)
 rows-are w n alts = rows-covered w n noneOf alts
 
 -- ---- the call
-
--- the verdict that the code computed is the definition's
-pub verdict : {a d : Answer} {v b : Bool} → a ≡ d → v ≡ acceptedOf a → v ≡ b → acceptedOf d ≡ b
-verdict e f g = sym (ap acceptedOf e) ∙ sym f ∙ g
 
 second-passed : (b : Bool) (c : Bool) (n : ℕ) (a : Answer) → acceptedOf (cond b (Refused 5 512) (cond c (Refused 4 n) a)) ≡ true → c ≡ false
 second-passed true c n a h = absurd (false≢true h)

@@ -1,7 +1,8 @@
 -- `gtd7_column` meets its contract.
 use mathlib.Core.Path.{_∙_}
 use borrow.Author.Tests.{ltb-false, not-true, not-false}
-use Rattle.column.proofs.Laws.{verdict, accepted-room, kept, written}
+use Rattle.atmosphere.proofs.Laws.{verdict}
+use Rattle.column.proofs.Laws.{accepted-room, kept, written}
 use borrow.Author.Needs.{needs}
 use Rattle.column.proofs.gtd7_column.Statement.{statement}
 use Rattle.column.proofs.gtd7_column.Tie as tie
