@@ -4,6 +4,7 @@ use circular_tables::cosine_at;
 use circular_tables::sine_at;
 use fixed_point::apart;
 use fixed_point::choose;
+use fixed_point::high;
 use fixed_point::offset;
 use fixed_point::scaled;
 ghost use mathlib.Core.Path.{_≡_};
@@ -37,9 +38,7 @@ pub fn scaling(a: u64, p: u64) -> u64
     requires { ⌜ (a ≤ 2 ^ 58) × (p ≤ 2 ^ 42) ⌝ }
     ensures { λ r. ⌜ (r ≡ scalingOf a p) × (r ≤ 2 ^ 51) ⌝ }
 {
-    let a1 = a / 274877906944;
-    let a0 = a / 65536 % 4194304;
-    (p * a1 + p * a0 / 4194304) / 4096
+    high(p * 1048576, a / 65536 * 1024)
 }
 
 // a * e in units of 2^-58, for a in units of 2^-58 and e in units of 2^-49.

@@ -148,9 +148,7 @@ pub fn compounded(c: u64, p: u64) -> u64
     requires { ⌜ (c ≤ 808000000000000000) × (p ≤ 2200097350000) ⌝ }
     ensures { λ r. ⌜ (r ≡ compoundedOf c p) × (r < 2 ^ 60) ⌝ }
 {
-    let c1 = c / 274877906944;
-    let c0 = c / 65536 % 4194304;
-    c + (p * c1 + p * c0 / 4194304) / 8192
+    c + high(p * 2097152, c / 65536 * 256)
 }
 
 // e^(t - 1) in units of 2^-58, for t in units of 2^-58, from 0 to 2.

@@ -3,6 +3,7 @@ ghost use mathlib.Core.Path.{_≡_};
 ghost use Prim.Native.Nat.{_≤_};
 ghost use lib.ListN.{length};
 ghost use Rattle.setting.specs.Phases.{annualCosOf, semiannualCosOf, localCosOf, utCosOf, utLongCosOf, longPhaseCosOf};
+ghost use Rattle.numbers.specs.Literals.{0·0};
 ghost use Rattle.setting.specs.Shared.{Shared};
 ghost use Rattle.parts.specs.Parts.{dayCosinesOf, hasLongitudeOf, t6Of, t7Of, t13Of, history8Of, daily8Of, t8Of, t10Of, t11Of, history12Of, daily12Of, t12Of, weightedOf, t8sOf, t10sOf, t6sOf, t7sOf, t13sOf};
 use numbers::abs;
@@ -42,6 +43,28 @@ pub struct Seasons {
     pub cd18: f64,
     pub cd14: f64,
     pub cd39: f64,
+}
+
+// The cosine over the year with phase x, where y is that of the phase 0.
+pub fn annual_at(doy: f64, y: f64, x: f64) -> f64
+    requires { ⌜ y ≡ annualCosOf doy 0·0 ⌝ }
+    ensures { λ r. ⌜ r ≡ annualCosOf doy x ⌝ }
+{
+    if plus_zero(x) {
+        return y;
+    }
+    annual_cos(doy, x)
+}
+
+// The cosine over half the year with phase x, where y is that of the phase 0.
+pub fn semiannual_at(doy: f64, y: f64, x: f64) -> f64
+    requires { ⌜ y ≡ semiannualCosOf doy 0·0 ⌝ }
+    ensures { λ r. ⌜ r ≡ semiannualCosOf doy x ⌝ }
+{
+    if plus_zero(x) {
+        return y;
+    }
+    semiannual_cos(doy, x)
 }
 
 // The cosine over the year with phase x.
@@ -111,14 +134,14 @@ pub fn long_phase(v: View, x: f64) -> f64
 }
 
 // The four cosines of the day.
-pub fn day_cosines(v: View, p: &[f64]) -> Seasons
-    requires { ⌜ (100 ≤ length (now p)) × Shared v ⌝ }
-    ensures { λ r. ⌜ r ≡ dayCosinesOf (v .doy) (now (p .entry)) ⌝ }
+pub fn day_cosines(doy: f64, year: f64, half: f64, p: &[f64]) -> Seasons
+    requires { ⌜ (100 ≤ length (now p)) × (year ≡ annualCosOf doy 0·0) × (half ≡ semiannualCosOf doy 0·0) ⌝ }
+    ensures { λ r. ⌜ r ≡ dayCosinesOf doy (now (p .entry)) ⌝ }
 {
-    let a = annual(v, p[31]);
-    let b = semiannual(v, p[17]);
-    let c = annual(v, p[13]);
-    let d = semiannual(v, p[38]);
+    let a = annual_at(doy, year, p[31]);
+    let b = semiannual_at(doy, half, p[17]);
+    let c = annual_at(doy, year, p[13]);
+    let d = semiannual_at(doy, half, p[38]);
     Seasons {
         cd32: a,
         cd18: b,
