@@ -2,3 +2,5 @@
 pub mod Walk
 pub mod Checked
 pub mod Theorems
+pub mod Order
+pub mod Placed

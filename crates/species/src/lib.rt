@@ -1,6 +1,13 @@
 // Each species of gts7 with the answer of its expansion given: its density at z, and the mixed density that the Rust keeps in State.
 ghost use mathlib.Core.Path.{_≡_};
-ghost use Rattle.species.specs.Species.{pointAt, Placed, densityOf, temperatureOf, mixedOf, heliumOf, oxygenOf, o2MixedOf, o2Of, argonOf, hydrogenOf, nitrogenOf, hotOf, n2Of};
+ghost use mathlib.Core.Bool.{_&&_};
+ghost use lib.Ieee.{lt, le, ne};
+ghost use Rattle.numbers.specs.Arithmetic.{_⊗_, _‼_};
+ghost use Rattle.numbers.specs.Literals.{0·0, 200·0, 320·0};
+ghost use Rattle.profile.specs.Thinning.{Logged, thinningOf};
+ghost use Rattle.tables.specs.Tables.{pdmT0, pdmT1, pdmT2, pdmT3, pdmT4, pdmT5, pdmT6};
+ghost use Rattle.species.specs.Places.{spineAt, placeAt, mixesAt, Turbopause, Mixes};
+ghost use Rattle.species.specs.Species.{densityOf, temperatureOf, mixedOf, heliumOf, oxygenOf, o2MixedOf, o2Of, argonOf, hydrogenOf, nitrogenOf, hotOf, n2Of};
 use elementary::exponential::exp;
 use elementary::logarithm::log;
 use elementary::root::sqrt;
@@ -8,13 +15,16 @@ use mixing::ccor;
 use mixing::ccor2;
 use mixing::dnet;
 use profile::gravity::scalh;
-use profile::point::Point;
-use profile::point::densu_at;
-use profile::point::point_of;
+use profile::place::Place;
+use profile::place::Spine;
+use profile::place::place_alone;
+use profile::place::place_of;
+use profile::place::spine_of;
+use profile::place::warmth_of;
+use profile::thinning::Thinning;
+use profile::thinning::thin;
+use profile::thinning::thinned;
 use profile::unchecked::Shape;
-use profile::unchecked::density_in;
-use profile::unchecked::densu5;
-use profile::unchecked::temperature_in;
 use tables::pdl0;
 use tables::pdl1;
 use tables::pdm0;
@@ -39,61 +49,119 @@ pub struct Mixture {
     pub dm: f64,
 }
 
-// What an altitude gives for every species, over gts7's nodes.
-pub fn point_at(h: Shape, z: f64) -> Point
-    ensures { λ r. ⌜ r ≡ pointAt h z ⌝ }
+// What a shape fixes for every altitude, over gts7's nodes.
+pub fn spine_at(h: Shape) -> Spine
+    ensures { λ r. ⌜ r ≡ spineAt h ⌝ }
 {
     let m = ptm();
     let l = pdl1();
-    point_of(h, z, m[5], [l[15], 110.0, 100.0, 90.0, 72.5])
+    spine_of(h, m[5], [l[15], 110.0, 100.0, 90.0, 72.5])
 }
 
-// densu over gts7's nodes: the density at the altitude of p from the density dlb at the lower boundary.
-pub fn density(h: Shape, p: Point, dlb: f64, xm: f64, alpha: f64) -> f64
-    requires { ⌜ Placed h p ⌝ }
-    ensures { λ r. ⌜ r ≡ densityOf h (p .z) dlb xm alpha ⌝ }
+// What an altitude gives for every species, over gts7's nodes.
+pub fn place_at(h: Shape, s: Spine, z: f64) -> Place
+    requires { ⌜ s ≡ spineAt h ⌝ }
+    ensures { λ r. ⌜ r ≡ placeAt h z ⌝ }
 {
     let m = ptm();
-    let a = densu_at(h, p, dlb, xm, alpha, m[5]);
-    density_in(a)
+    let l = pdl1();
+    place_of(h, s, z, m[5], [l[15], 110.0, 100.0, 90.0, 72.5])
+}
+
+// The same where no other altitude of the shape is read.
+pub fn place_alone_at(h: Shape, z: f64) -> Place
+    ensures { λ r. ⌜ r ≡ placeAt h z ⌝ }
+{
+    let m = ptm();
+    let l = pdl1();
+    place_alone(h, z, m[5], [l[15], 110.0, 100.0, 90.0, 72.5])
+}
+
+// The place of the turbopause zh where a species is mixed; elsewhere p, which nothing reads.
+pub fn turbopause(h: Shape, s: Spine, on: bool, zh: f64, p: Place) -> Place
+    requires { ⌜ s ≡ spineAt h ⌝ }
+    ensures { λ r. ⌜ Turbopause h on zh r ⌝ }
+{
+    if on {
+        return place_at(h, s, zh);
+    }
+    p
+}
+
+// What thins out every mixed density at p, where a species is mixed; elsewhere nothing reads it.
+pub fn mixing(on: bool, p: Place, xmm: f64) -> Thinning
+    requires { ⌜ Logged p ⌝ }
+    ensures { λ r. ⌜ Mixes on p xmm r ⌝ }
+{
+    if on {
+        return thin(p, xmm, 0.0);
+    }
+    Thinning {
+        none: true,
+        under: false,
+        tz: 0.0,
+        p: 0.0,
+        e: 0.0,
+        q: 0.0,
+        k: 0.0,
+    }
+}
+
+// densu over gts7's nodes: the density at z from the density dlb at the lower boundary.
+pub fn density(h: Shape, z: f64, p: Place, dlb: f64, xm: f64, alpha: f64) -> f64
+    requires { ⌜ p ≡ placeAt h z ⌝ }
+    ensures { λ r. ⌜ r ≡ densityOf h z dlb xm alpha ⌝ }
+{
+    let t = thin(p, xm, alpha);
+    thinned(t, dlb)
+}
+
+// The same of what is mixed, from the mixed density b.
+pub fn density_mixed(h: Shape, z: f64, p: Place, t: Thinning, b: f64, xmm: f64) -> f64
+    requires { ⌜ (p ≡ placeAt h z) × (t ≡ thinningOf p xmm 0·0) ⌝ }
+    ensures { λ r. ⌜ r ≡ densityOf h z b xmm 0·0 ⌝ }
+{
+    thinned(t, b)
 }
 
 // The same at an altitude that one species has.
 pub fn density_at(h: Shape, z: f64, dlb: f64, xm: f64, alpha: f64) -> f64
     ensures { λ r. ⌜ r ≡ densityOf h z dlb xm alpha ⌝ }
 {
-    let m = ptm();
-    let l = pdl1();
-    let a = densu5(
-        h,
-        z,
-        dlb,
-        xm,
-        alpha,
-        m[5],
-        [l[15], 110.0, 100.0, 90.0, 72.5],
-    );
-    density_in(a)
+    let p = place_alone_at(h, z);
+    density(h, z, p, dlb, xm, alpha)
 }
 
 // densu over gts7's nodes: the temperature at z.
-pub fn temperature(h: Shape, z: f64) -> f64
+pub fn temperature(h: Shape, s: Spine, z: f64) -> f64
+    requires { ⌜ s ≡ spineAt h ⌝ }
     ensures { λ r. ⌜ r ≡ temperatureOf h z ⌝ }
 {
     let m = ptm();
     let l = pdl1();
-    let a = densu5(h, z, 1.0, 0.0, 0.0, m[5], [l[15], 110.0, 100.0, 90.0, 72.5]);
-    temperature_in(a)
+    warmth_of(h, s, z, m[5], [l[15], 110.0, 100.0, 90.0, 72.5])
 }
 
-// A species above and below the turbopause, blended.
-pub fn mixed(h: Shape, p: Point, db: f64, zh: f64, xm: f64, alpha: f64, zhm: f64, xmm: f64) -> Blend
-    requires { ⌜ Placed h p ⌝ }
-    ensures { λ r. ⌜ r ≡ mixedOf h (p .z) db zh xm alpha zhm xmm ⌝ }
+// A species above and below the turbopause zh, blended; w is the place there.
+pub fn mixed(
+    h: Shape,
+    z: f64,
+    p: Place,
+    zh: f64,
+    w: Place,
+    t: Thinning,
+    db: f64,
+    xm: f64,
+    alpha: f64,
+    zhm: f64,
+    xmm: f64,
+) -> Blend
+    requires { ⌜ (p ≡ placeAt h z) × (w ≡ placeAt h zh) × (t ≡ thinningOf p xmm 0·0) ⌝ }
+    ensures { λ r. ⌜ r ≡ mixedOf h z db zh xm alpha zhm xmm ⌝ }
 {
-    let d0 = density(h, p, db, xm, alpha);
-    let b = density_at(h, zh, db, xm - xmm, alpha - 1.0);
-    let dm = density(h, p, b, xmm, 0.0);
+    let d0 = density(h, z, p, db, xm, alpha);
+    let b = density(h, zh, w, db, xm - xmm, alpha - 1.0);
+    let dm = density_mixed(h, z, p, t, b, xmm);
     let d = dnet(d0, dm, zhm, xmm, xm);
     Blend {
         dens: d,
@@ -103,22 +171,22 @@ pub fn mixed(h: Shape, p: Point, db: f64, zh: f64, xm: f64, alpha: f64, zhm: f64
 }
 
 // N2, mixed at or below 160 km; the mixed density at its turbopause serves the other species.
-pub fn n2(h: Shape, sw15: f64, p: Point, db: f64, zhf: f64) -> Blend
-    requires { ⌜ Placed h p ⌝ }
-    ensures { λ r. ⌜ r ≡ n2Of h sw15 (p .z) db zhf ⌝ }
+pub fn n2(h: Shape, sw15: f64, z: f64, p: Place, w: Place, t: Thinning, db: f64, zhf: f64) -> Blend
+    requires { ⌜ (p ≡ placeAt h z) × (w ≡ placeAt h (pdmT2 ‼ 2 ⊗ zhf)) × Mixes (mixesAt sw15 z) p (pdmT2 ‼ 4) t ⌝ }
+    ensures { λ r. ⌜ r ≡ n2Of h sw15 z db zhf ⌝ }
 {
     let m = pdm2();
     let l = pdl1();
-    let d0 = density(h, p, db, 28.0, 0.0);
-    let b = density_at(h, m[2] * zhf, db, 28.0 - m[4], 0.0 - 1.0);
-    if !((sw15 != 0.0) & (p.z <= 160.0)) {
+    let d0 = density(h, z, p, db, 28.0, 0.0);
+    let b = density(h, m[2] * zhf, w, db, 28.0 - m[4], 0.0 - 1.0);
+    if !((sw15 != 0.0) & (z <= 160.0)) {
         return Blend {
             dens: d0,
             b: b,
             dm: 0.0,
         };
     }
-    let dm = density(h, p, b, m[4], 0.0);
+    let dm = density_mixed(h, z, p, t, b, m[4]);
     let d = dnet(d0, dm, m[3] * l[5], m[4], 28.0);
     Blend {
         dens: d,
@@ -128,19 +196,30 @@ pub fn n2(h: Shape, sw15: f64, p: Point, db: f64, zhf: f64) -> Blend
 }
 
 // Helium, mixed strictly below 200 km.
-pub fn helium(h: Shape, sw15: f64, p: Point, b28: f64, db: f64, zhm: f64, xmm: f64) -> Mixture
-    requires { ⌜ Placed h p ⌝ }
-    ensures { λ r. ⌜ r ≡ heliumOf h sw15 (p .z) b28 db zhm xmm ⌝ }
+pub fn helium(
+    h: Shape,
+    sw15: f64,
+    z: f64,
+    p: Place,
+    w: Place,
+    t: Thinning,
+    b28: f64,
+    db: f64,
+    zhm: f64,
+    xmm: f64,
+) -> Mixture
+    requires { ⌜ (p ≡ placeAt h z) × Turbopause h (ne sw15 0·0 && lt z 200·0) (pdmT0 ‼ 2) w × Mixes (mixesAt sw15 z) p xmm t ⌝ }
+    ensures { λ r. ⌜ r ≡ heliumOf h sw15 z b28 db zhm xmm ⌝ }
 {
-    if !((sw15 != 0.0) & (p.z < 200.0)) {
-        let d = density(h, p, db, 4.0, -0.38);
+    if !((sw15 != 0.0) & (z < 200.0)) {
+        let d = density(h, z, p, db, 4.0, -0.38);
         return Mixture { dens: d, dm: 0.0 };
     }
     let m = pdm0();
     let l = pdl1();
-    let x = mixed(h, p, db, m[2], 4.0, -0.38, zhm, xmm);
+    let x = mixed(h, z, p, m[2], w, t, db, 4.0, -0.38, zhm, xmm);
     let r = log(b28 * m[1] / x.b);
-    let c = ccor(p.z, r, m[5] * l[1], m[4] * l[0]);
+    let c = ccor(z, r, m[5] * l[1], m[4] * l[0]);
     Mixture {
         dens: x.dens * c,
         dm: x.dm,
@@ -148,25 +227,36 @@ pub fn helium(h: Shape, sw15: f64, p: Point, b28: f64, db: f64, zhm: f64, xmm: f
 }
 
 // Atomic oxygen, mixed at or below 300 km.
-pub fn oxygen(h: Shape, sw15: f64, p: Point, db: f64, zhm: f64, xmm: f64, flux: f64) -> Mixture
-    requires { ⌜ Placed h p ⌝ }
-    ensures { λ r. ⌜ r ≡ oxygenOf h sw15 (p .z) db zhm xmm flux ⌝ }
+pub fn oxygen(
+    h: Shape,
+    sw15: f64,
+    z: f64,
+    p: Place,
+    w: Place,
+    t: Thinning,
+    db: f64,
+    zhm: f64,
+    xmm: f64,
+    flux: f64,
+) -> Mixture
+    requires { ⌜ (p ≡ placeAt h z) × Turbopause h (mixesAt sw15 z) (pdmT1 ‼ 2) w × Mixes (mixesAt sw15 z) p xmm t ⌝ }
+    ensures { λ r. ⌜ r ≡ oxygenOf h sw15 z db zhm xmm flux ⌝ }
 {
-    if !((sw15 != 0.0) & (p.z <= 300.0)) {
-        let d = density(h, p, db, 16.0, 0.0);
+    if !((sw15 != 0.0) & (z <= 300.0)) {
+        let d = density(h, z, p, db, 16.0, 0.0);
         return Mixture { dens: d, dm: 0.0 };
     }
     let m = pdm1();
     let l = pdl1();
-    let x = mixed(h, p, db, m[2], 16.0, 0.0, zhm, xmm);
+    let x = mixed(h, z, p, m[2], w, t, db, 16.0, 0.0, zhm, xmm);
     let c = ccor2(
-        p.z,
+        z,
         m[1] * l[16] * flux,
         m[5] * l[3],
         m[4] * l[2],
         m[5] * l[4],
     );
-    let e = ccor(p.z, m[3] * l[14], m[7] * l[13], m[6] * l[12]);
+    let e = ccor(z, m[3] * l[14], m[7] * l[13], m[6] * l[12]);
     Mixture {
         dens: x.dens * c * e,
         dm: x.dm,
@@ -174,19 +264,30 @@ pub fn oxygen(h: Shape, sw15: f64, p: Point, db: f64, zhm: f64, xmm: f64, flux: 
 }
 
 // Molecular oxygen without its second correction, mixed at or below 250 km.
-pub fn o2_mixed(h: Shape, sw15: f64, p: Point, b28: f64, db: f64, zhm: f64, xmm: f64) -> Mixture
-    requires { ⌜ Placed h p ⌝ }
-    ensures { λ r. ⌜ r ≡ o2MixedOf h sw15 (p .z) b28 db zhm xmm ⌝ }
+pub fn o2_mixed(
+    h: Shape,
+    sw15: f64,
+    z: f64,
+    p: Place,
+    w: Place,
+    t: Thinning,
+    b28: f64,
+    db: f64,
+    zhm: f64,
+    xmm: f64,
+) -> Mixture
+    requires { ⌜ (p ≡ placeAt h z) × Turbopause h (mixesAt sw15 z) (pdmT3 ‼ 2) w × Mixes (mixesAt sw15 z) p xmm t ⌝ }
+    ensures { λ r. ⌜ r ≡ o2MixedOf h sw15 z b28 db zhm xmm ⌝ }
 {
-    if !((sw15 != 0.0) & (p.z <= 250.0)) {
-        let d = density(h, p, db, 32.0, 0.0);
+    if !((sw15 != 0.0) & (z <= 250.0)) {
+        let d = density(h, z, p, db, 32.0, 0.0);
         return Mixture { dens: d, dm: 0.0 };
     }
     let m = pdm3();
     let l = pdl1();
-    let x = mixed(h, p, db, m[2], 32.0, 0.0, zhm, xmm);
+    let x = mixed(h, z, p, m[2], w, t, db, 32.0, 0.0, zhm, xmm);
     let r = log(b28 * m[1] / x.b);
-    let c = ccor(p.z, r, m[5] * l[7], m[4] * l[6]);
+    let c = ccor(z, r, m[5] * l[7], m[4] * l[6]);
     Mixture {
         dens: x.dens * c,
         dm: x.dm,
@@ -194,19 +295,30 @@ pub fn o2_mixed(h: Shape, sw15: f64, p: Point, b28: f64, db: f64, zhm: f64, xmm:
 }
 
 // Argon, mixed at or below 240 km.
-pub fn argon(h: Shape, sw15: f64, p: Point, b28: f64, db: f64, zhm: f64, xmm: f64) -> Mixture
-    requires { ⌜ Placed h p ⌝ }
-    ensures { λ r. ⌜ r ≡ argonOf h sw15 (p .z) b28 db zhm xmm ⌝ }
+pub fn argon(
+    h: Shape,
+    sw15: f64,
+    z: f64,
+    p: Place,
+    w: Place,
+    t: Thinning,
+    b28: f64,
+    db: f64,
+    zhm: f64,
+    xmm: f64,
+) -> Mixture
+    requires { ⌜ (p ≡ placeAt h z) × Turbopause h (mixesAt sw15 z) (pdmT4 ‼ 2) w × Mixes (mixesAt sw15 z) p xmm t ⌝ }
+    ensures { λ r. ⌜ r ≡ argonOf h sw15 z b28 db zhm xmm ⌝ }
 {
-    if !((sw15 != 0.0) & (p.z <= 240.0)) {
-        let d = density(h, p, db, 40.0, 0.17);
+    if !((sw15 != 0.0) & (z <= 240.0)) {
+        let d = density(h, z, p, db, 40.0, 0.17);
         return Mixture { dens: d, dm: 0.0 };
     }
     let m = pdm4();
     let l = pdl1();
-    let x = mixed(h, p, db, m[2], 40.0, 0.17, zhm, xmm);
+    let x = mixed(h, z, p, m[2], w, t, db, 40.0, 0.17, zhm, xmm);
     let r = log(b28 * m[1] / x.b);
-    let c = ccor(p.z, r, m[5] * l[9], m[4] * l[8]);
+    let c = ccor(z, r, m[5] * l[9], m[4] * l[8]);
     Mixture {
         dens: x.dens * c,
         dm: x.dm,
@@ -214,21 +326,32 @@ pub fn argon(h: Shape, sw15: f64, p: Point, b28: f64, db: f64, zhm: f64, xmm: f6
 }
 
 // Hydrogen, mixed at or below 320 km.
-pub fn hydrogen(h: Shape, sw15: f64, p: Point, b28: f64, db: f64, zhm: f64, xmm: f64) -> Mixture
-    requires { ⌜ Placed h p ⌝ }
-    ensures { λ r. ⌜ r ≡ hydrogenOf h sw15 (p .z) b28 db zhm xmm ⌝ }
+pub fn hydrogen(
+    h: Shape,
+    sw15: f64,
+    z: f64,
+    p: Place,
+    w: Place,
+    t: Thinning,
+    b28: f64,
+    db: f64,
+    zhm: f64,
+    xmm: f64,
+) -> Mixture
+    requires { ⌜ (p ≡ placeAt h z) × Turbopause h (ne sw15 0·0 && le z 320·0) (pdmT5 ‼ 2) w × Mixes (mixesAt sw15 z) p xmm t ⌝ }
+    ensures { λ r. ⌜ r ≡ hydrogenOf h sw15 z b28 db zhm xmm ⌝ }
 {
-    if !((sw15 != 0.0) & (p.z <= 320.0)) {
-        let d = density(h, p, db, 1.0, -0.38);
+    if !((sw15 != 0.0) & (z <= 320.0)) {
+        let d = density(h, z, p, db, 1.0, -0.38);
         return Mixture { dens: d, dm: 0.0 };
     }
     let m = pdm5();
     let l = pdl1();
-    let x = mixed(h, p, db, m[2], 1.0, -0.38, zhm, xmm);
+    let x = mixed(h, z, p, m[2], w, t, db, 1.0, -0.38, zhm, xmm);
     let q = sqrt(l[17] * l[17]);
     let r = log(b28 * m[1] * q / x.b);
-    let c = ccor(p.z, r, m[5] * l[11], m[4] * l[10]);
-    let e = ccor(p.z, m[3] * l[20], m[7] * l[19], m[6] * l[18]);
+    let c = ccor(z, r, m[5] * l[11], m[4] * l[10]);
+    let e = ccor(z, m[3] * l[20], m[7] * l[19], m[6] * l[18]);
     Mixture {
         dens: x.dens * c * e,
         dm: x.dm,
@@ -236,21 +359,32 @@ pub fn hydrogen(h: Shape, sw15: f64, p: Point, b28: f64, db: f64, zhm: f64, xmm:
 }
 
 // Atomic nitrogen, mixed at or below 450 km.
-pub fn nitrogen(h: Shape, sw15: f64, p: Point, b28: f64, db: f64, zhm: f64, xmm: f64) -> Mixture
-    requires { ⌜ Placed h p ⌝ }
-    ensures { λ r. ⌜ r ≡ nitrogenOf h sw15 (p .z) b28 db zhm xmm ⌝ }
+pub fn nitrogen(
+    h: Shape,
+    sw15: f64,
+    z: f64,
+    p: Place,
+    w: Place,
+    t: Thinning,
+    b28: f64,
+    db: f64,
+    zhm: f64,
+    xmm: f64,
+) -> Mixture
+    requires { ⌜ (p ≡ placeAt h z) × Turbopause h (mixesAt sw15 z) (pdmT6 ‼ 2) w × Mixes (mixesAt sw15 z) p xmm t ⌝ }
+    ensures { λ r. ⌜ r ≡ nitrogenOf h sw15 z b28 db zhm xmm ⌝ }
 {
-    if !((sw15 != 0.0) & (p.z <= 450.0)) {
-        let d = density(h, p, db, 14.0, 0.0);
+    if !((sw15 != 0.0) & (z <= 450.0)) {
+        let d = density(h, z, p, db, 14.0, 0.0);
         return Mixture { dens: d, dm: 0.0 };
     }
     let m = pdm6();
     let l = pdl0();
-    let x = mixed(h, p, db, m[2], 14.0, 0.0, zhm, xmm);
+    let x = mixed(h, z, p, m[2], w, t, db, 14.0, 0.0, zhm, xmm);
     let q = sqrt(l[2] * l[2]);
     let r = log(b28 * m[1] * q / x.b);
-    let c = ccor(p.z, r, m[5] * l[1], m[4] * l[0]);
-    let e = ccor(p.z, m[3] * l[5], m[7] * l[4], m[6] * l[3]);
+    let c = ccor(z, r, m[5] * l[1], m[4] * l[0]);
+    let e = ccor(z, m[3] * l[5], m[7] * l[4], m[6] * l[3]);
     Mixture {
         dens: x.dens * c * e,
         dm: x.dm,
@@ -261,17 +395,20 @@ pub fn nitrogen(h: Shape, sw15: f64, p: Point, b28: f64, db: f64, zhm: f64, xmm:
 pub fn o2(
     h: Shape,
     sw15: f64,
-    p: Point,
+    z: f64,
+    p: Place,
+    w: Place,
+    t: Thinning,
     b28: f64,
     db: f64,
     zhm: f64,
     xmm: f64,
     flux: f64,
 ) -> Mixture
-    requires { ⌜ Placed h p ⌝ }
-    ensures { λ r. ⌜ r ≡ o2Of h sw15 (p .z) b28 db zhm xmm flux ⌝ }
+    requires { ⌜ (p ≡ placeAt h z) × Turbopause h (mixesAt sw15 z) (pdmT3 ‼ 2) w × Mixes (mixesAt sw15 z) p xmm t ⌝ }
+    ensures { λ r. ⌜ r ≡ o2Of h sw15 z b28 db zhm xmm flux ⌝ }
 {
-    let x = o2_mixed(h, sw15, p, b28, db, zhm, xmm);
+    let x = o2_mixed(h, sw15, z, p, w, t, b28, db, zhm, xmm);
     if !(sw15 != 0.0) {
         return x;
     }
@@ -279,7 +416,7 @@ pub fn o2(
     let k = pdl0();
     let l = pdl1();
     let c = ccor2(
-        p.z,
+        z,
         m[3] * l[23] * flux,
         m[7] * l[22],
         m[6] * l[21],

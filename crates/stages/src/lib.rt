@@ -1,11 +1,17 @@
 // A function for each stage of gts7 that asks one expansion, proved against its plan.
 ghost use mathlib.Core.Path.{_≡_};
 ghost use Rattle.plan.specs.Plan.{told, given};
-ghost use Rattle.species.specs.Species.{Placed};
+ghost use mathlib.Core.Bool.{_&&_};
+ghost use lib.Ieee.{lt, le, ne};
+ghost use Rattle.numbers.specs.Arithmetic.{_⊗_, _‼_};
+ghost use Rattle.numbers.specs.Literals.{0·0, 200·0, 320·0};
+ghost use Rattle.species.specs.Places.{placeAt, mixesAt, Turbopause, Mixes};
+ghost use Rattle.tables.specs.Tables.{pdmT0, pdmT1, pdmT2, pdmT3, pdmT4, pdmT5, pdmT6};
 ghost use Rattle.stages.specs.Stages.{tinfPlan, gradientPlan, tlbPlan, n2Plan, heliumPlan, oxygenPlan, o2Plan, argonPlan, hydrogenPlan, nitrogenPlan, hotPlan};
 use elementary::exponential::exp;
 use plan::Levels;
-use profile::point::Point;
+use profile::place::Place;
+use profile::thinning::Thinning;
 use profile::unchecked::Shape;
 use species::Blend;
 use species::Mixture;
@@ -74,14 +80,23 @@ pub fn tlb_stage(sw: [f64; 24], l: Levels) -> f64
     m[1] * (1.0 + sw[17] * l.pd3) * p[0]
 }
 
-pub fn n2_stage(sw: [f64; 24], h: Shape, p: Point, zhf: f64, l: Levels) -> Blend
-    requires { ⌜ Placed h p ⌝ }
-    ensures { λ r. ⌜ r ≡ told (given l) (n2Plan sw h (p .z) zhf) ⌝ }
+pub fn n2_stage(
+    sw: [f64; 24],
+    h: Shape,
+    z: f64,
+    p: Place,
+    w: Place,
+    t: Thinning,
+    zhf: f64,
+    l: Levels,
+) -> Blend
+    requires { ⌜ (p ≡ placeAt h z) × (w ≡ placeAt h (pdmT2 ‼ 2 ⊗ zhf)) × Mixes (mixesAt (sw ‼ 15) z) p (pdmT2 ‼ 4) t ⌝ }
+    ensures { λ r. ⌜ r ≡ told (given l) (n2Plan sw h z zhf) ⌝ }
 {
     let c = pd2();
     let m = pdm2();
     let g = exp(sw[21] * l.pd2);
-    n2(h, sw[15], p, m[0] * g * c[0], zhf)
+    n2(h, sw[15], z, p, w, t, m[0] * g * c[0], zhf)
 }
 
 // Anomalous oxygen.
@@ -98,108 +113,126 @@ pub fn hot_stage(sw: [f64; 24], h: Shape, z: f64, l: Levels) -> f64
 pub fn helium_stage(
     sw: [f64; 24],
     h: Shape,
-    p: Point,
+    z: f64,
+    p: Place,
+    w: Place,
+    t: Thinning,
     b28: f64,
     zhm: f64,
     xmm: f64,
     l: Levels,
 ) -> Mixture
-    requires { ⌜ Placed h p ⌝ }
-    ensures { λ r. ⌜ r ≡ told (given l) (heliumPlan sw h (p .z) b28 zhm xmm) ⌝ }
+    requires { ⌜ (p ≡ placeAt h z) × Turbopause h (ne (sw ‼ 15) 0·0 && lt z 200·0) (pdmT0 ‼ 2) w × Mixes (mixesAt (sw ‼ 15) z) p xmm t ⌝ }
+    ensures { λ r. ⌜ r ≡ told (given l) (heliumPlan sw h z b28 zhm xmm) ⌝ }
 {
     let c = pd0();
     let m = pdm0();
     let g = exp(sw[21] * l.pd0);
-    helium(h, sw[15], p, b28, m[0] * g * c[0], zhm, xmm)
+    helium(h, sw[15], z, p, w, t, b28, m[0] * g * c[0], zhm, xmm)
 }
 
 pub fn oxygen_stage(
     sw: [f64; 24],
     h: Shape,
-    p: Point,
+    z: f64,
+    p: Place,
+    w: Place,
+    t: Thinning,
     zhm: f64,
     xmm: f64,
     flux: f64,
     l: Levels,
 ) -> Mixture
-    requires { ⌜ Placed h p ⌝ }
-    ensures { λ r. ⌜ r ≡ told (given l) (oxygenPlan sw h (p .z) zhm xmm flux) ⌝ }
+    requires { ⌜ (p ≡ placeAt h z) × Turbopause h (mixesAt (sw ‼ 15) z) (pdmT1 ‼ 2) w × Mixes (mixesAt (sw ‼ 15) z) p xmm t ⌝ }
+    ensures { λ r. ⌜ r ≡ told (given l) (oxygenPlan sw h z zhm xmm flux) ⌝ }
 {
     let c = pd1();
     let m = pdm1();
     let g = exp(sw[21] * l.pd1);
-    oxygen(h, sw[15], p, m[0] * g * c[0], zhm, xmm, flux)
+    oxygen(h, sw[15], z, p, w, t, m[0] * g * c[0], zhm, xmm, flux)
 }
 
 pub fn o2_stage(
     sw: [f64; 24],
     h: Shape,
-    p: Point,
+    z: f64,
+    p: Place,
+    w: Place,
+    t: Thinning,
     b28: f64,
     zhm: f64,
     xmm: f64,
     flux: f64,
     l: Levels,
 ) -> Mixture
-    requires { ⌜ Placed h p ⌝ }
-    ensures { λ r. ⌜ r ≡ told (given l) (o2Plan sw h (p .z) b28 zhm xmm flux) ⌝ }
+    requires { ⌜ (p ≡ placeAt h z) × Turbopause h (mixesAt (sw ‼ 15) z) (pdmT3 ‼ 2) w × Mixes (mixesAt (sw ‼ 15) z) p xmm t ⌝ }
+    ensures { λ r. ⌜ r ≡ told (given l) (o2Plan sw h z b28 zhm xmm flux) ⌝ }
 {
     let c = pd4();
     let m = pdm3();
     let g = exp(sw[21] * l.pd4);
-    o2(h, sw[15], p, b28, m[0] * g * c[0], zhm, xmm, flux)
+    o2(h, sw[15], z, p, w, t, b28, m[0] * g * c[0], zhm, xmm, flux)
 }
 
 pub fn argon_stage(
     sw: [f64; 24],
     h: Shape,
-    p: Point,
+    z: f64,
+    p: Place,
+    w: Place,
+    t: Thinning,
     b28: f64,
     zhm: f64,
     xmm: f64,
     l: Levels,
 ) -> Mixture
-    requires { ⌜ Placed h p ⌝ }
-    ensures { λ r. ⌜ r ≡ told (given l) (argonPlan sw h (p .z) b28 zhm xmm) ⌝ }
+    requires { ⌜ (p ≡ placeAt h z) × Turbopause h (mixesAt (sw ‼ 15) z) (pdmT4 ‼ 2) w × Mixes (mixesAt (sw ‼ 15) z) p xmm t ⌝ }
+    ensures { λ r. ⌜ r ≡ told (given l) (argonPlan sw h z b28 zhm xmm) ⌝ }
 {
     let c = pd5();
     let m = pdm4();
     let g = exp(sw[21] * l.pd5);
-    argon(h, sw[15], p, b28, m[0] * g * c[0], zhm, xmm)
+    argon(h, sw[15], z, p, w, t, b28, m[0] * g * c[0], zhm, xmm)
 }
 
 pub fn hydrogen_stage(
     sw: [f64; 24],
     h: Shape,
-    p: Point,
+    z: f64,
+    p: Place,
+    w: Place,
+    t: Thinning,
     b28: f64,
     zhm: f64,
     xmm: f64,
     l: Levels,
 ) -> Mixture
-    requires { ⌜ Placed h p ⌝ }
-    ensures { λ r. ⌜ r ≡ told (given l) (hydrogenPlan sw h (p .z) b28 zhm xmm) ⌝ }
+    requires { ⌜ (p ≡ placeAt h z) × Turbopause h (ne (sw ‼ 15) 0·0 && le z 320·0) (pdmT5 ‼ 2) w × Mixes (mixesAt (sw ‼ 15) z) p xmm t ⌝ }
+    ensures { λ r. ⌜ r ≡ told (given l) (hydrogenPlan sw h z b28 zhm xmm) ⌝ }
 {
     let c = pd6();
     let m = pdm5();
     let g = exp(sw[21] * l.pd6);
-    hydrogen(h, sw[15], p, b28, m[0] * g * c[0], zhm, xmm)
+    hydrogen(h, sw[15], z, p, w, t, b28, m[0] * g * c[0], zhm, xmm)
 }
 
 pub fn nitrogen_stage(
     sw: [f64; 24],
     h: Shape,
-    p: Point,
+    z: f64,
+    p: Place,
+    w: Place,
+    t: Thinning,
     b28: f64,
     zhm: f64,
     xmm: f64,
     l: Levels,
 ) -> Mixture
-    requires { ⌜ Placed h p ⌝ }
-    ensures { λ r. ⌜ r ≡ told (given l) (nitrogenPlan sw h (p .z) b28 zhm xmm) ⌝ }
+    requires { ⌜ (p ≡ placeAt h z) × Turbopause h (mixesAt (sw ‼ 15) z) (pdmT6 ‼ 2) w × Mixes (mixesAt (sw ‼ 15) z) p xmm t ⌝ }
+    ensures { λ r. ⌜ r ≡ told (given l) (nitrogenPlan sw h z b28 zhm xmm) ⌝ }
 {
     let c = pd7();
     let m = pdm6();
     let g = exp(sw[21] * l.pd7);
-    nitrogen(h, sw[15], p, b28, m[0] * g * c[0], zhm, xmm)
+    nitrogen(h, sw[15], z, p, w, t, b28, m[0] * g * c[0], zhm, xmm)
 }

@@ -1,20 +1,22 @@
 -- Plans of several stages, told their answers: from what each stage gives.
-use mathlib.Core.Path.{_≡_, sym, ap, _∙_}
-use mathlib.Core.Bool.{true, false}
+use mathlib.Core.Path.{_≡_, refl, sym, ap, _∙_}
+use mathlib.Core.Bool.{Bool, true, false}
 use mathlib.Core.List.{List}
 use lib.Ieee.{Float, lt}
 use Rattle.numbers.specs.Arithmetic.{_⊕_, _⊖_, _⊗_, _‼_}
-use Rattle.numbers.specs.Literals.{1·0, 2·0, 300·0}
+use Rattle.numbers.specs.Literals.{0·0, 1·0, 2·0, 300·0}
 use Rattle.elementary.specs.Pow.{powOf}
 use Rattle.profile.specs.declared.unchecked.Shape.{Shape}
-use Rattle.profile.specs.declared.point.Point.{Point}
-use Rattle.profile.specs.Point.{point-z}
-use Rattle.species.specs.Species.{nodes, pointAt, Placed}
+use Rattle.profile.specs.declared.place.Place.{Place}
+use Rattle.profile.specs.declared.thinning.Thinning.{Thinning}
+use Rattle.profile.specs.Thinning.{Logged, thinningOf, logged}
+use Rattle.species.specs.Species.{nodes}
+use Rattle.species.specs.Places.{placeAt, Turbopause, Mixes}
 use Rattle.species.specs.declared.Blend.{Blend}
 use Rattle.species.specs.declared.Mixture.{Mixture}
 use Rattle.plan.specs.declared.Levels.{Levels}
 use Rattle.plan.specs.Plan.{_>>=_, told, given, then, last}
-use Rattle.tables.specs.Tables.{ptmT, ptlT0, ptlT1, ptlT2, ptlT3, pmaT8, pdmT2, pdlT1}
+use Rattle.tables.specs.Tables.{ptmT, ptlT0, ptlT1, ptlT2, ptlT3, pmaT8, pdmT1, pdmT2, pdmT3, pdmT4, pdmT6, pdlT1}
 use Rattle.upper.specs.declared.Site.{Site}
 use Rattle.upper.specs.declared.Nodes.{Nodes}
 use Rattle.upper.specs.declared.Six.{Six}
@@ -89,29 +91,52 @@ species-law sw h z b28 flux l n hy ar o2 o he d m e1 e2 e3 e4 e5 e6 e7 e8 =
     ∙ then (given l) (nitrogenPlan sw h z b28 (pdmT2 ‼ 3 ⊗ pdlT1 ‼ 5) (pdmT2 ‼ 4)) _ n (rw (e8, e7) at e1)
     ∙ last (given l) _)
 
-at-z : (h : Shape) (z : Float) (p : Point) → p ≡ pointAt h z → p .z ≡ z
-at-z h z p e = ap (λ (q : Point). q .z) e ∙ point-z h z (ptmT ‼ 5) nodes
+-- what a stage asks, from the shared places: m is the row of PDM that has xmm
+pub stage-ready : (h : Shape) (z : Float) (p w : Place) (t : Thinning) (on mix : Bool) (zh zh' : Float) (m : List Float)
+    → p ≡ placeAt h z
+    → Turbopause h on zh w
+    → zh ≡ zh'
+    → Mixes mix p (pdmT2 ‼ 4) t
+    → m ≡ pdmT2
+    → (p ≡ placeAt h z) × Turbopause h on zh' w × Mixes mix p (m ‼ 4) t
+stage-ready h z p w t on mix zh zh' m e f q g k =
+    (e, λ o. f o ∙ ap (placeAt h) q, λ o. g o ∙ ap (λ (x : List Float). thinningOf p (x ‼ 4) 0·0) (sym k))
 
--- a point that was worked out for its altitude
-pub placed : (h : Shape) (z : Float) (p : Point) → p ≡ pointAt h z → Placed h p
-placed h z p e = e ∙ ap (pointAt h) (sym (at-z h z p e))
+pub o2-too : pdmT1 ‼ 2 ≡ pdmT3 ‼ 2
+unfolding pdmT1 pdmT3
+o2-too = refl
 
-pub gts7-law : (sw : List Float) (x : Site) (z : Float) (l : Levels) (u : Upper) (o : Float) (k : Shape) (y : Six) (b : Blend) (p : Point) (h : Shape)
+pub argon-too : pdmT1 ‼ 2 ≡ pdmT4 ‼ 2
+unfolding pdmT1 pdmT4
+argon-too = refl
+
+pub nitrogen-too : pdmT1 ‼ 2 ≡ pdmT6 ‼ 2
+unfolding pdmT1 pdmT6
+nitrogen-too = refl
+
+pub in-row : (h : Shape) (on : Bool) (w : Place) (m row : List Float) → Turbopause h on (m ‼ 2) w → m ≡ row → Turbopause h on (row ‼ 2) w
+in-row h on w m row f e = λ o. f o ∙ ap (λ (x : List Float). placeAt h (x ‼ 2)) e
+
+pub mixes-row : (mix : Bool) (p : Place) (t : Thinning) (m : List Float) → Mixes mix p (m ‼ 4) t → m ≡ pdmT2 → Mixes mix p (pdmT2 ‼ 4) t
+mixes-row mix p t m f e = λ o. f o ∙ ap (λ (x : List Float). thinningOf p (x ‼ 4) 0·0) e
+
+pub logged-at : (h : Shape) (z : Float) (p : Place) → p ≡ placeAt h z → Logged p
+logged-at h z p e = logged h z (ptmT ‼ 5) nodes p e
+
+pub gts7-law : (sw : List Float) (x : Site) (z : Float) (l : Levels) (u : Upper) (o : Float) (k : Shape) (y : Six) (b : Blend) (h : Shape)
     → u ≡ gatherOf (sw ‼ 0) h z b y o
     → o ≡ told (given l) (hotPlan sw k z)
     → k ≡ anomalousOf h
-    → y ≡ told (given l) (speciesPlan sw h (p .z) (b .b) (x .flux))
-    → b ≡ told (given l) (n2Plan sw h (p .z) (x .zhf))
-    → p ≡ pointAt h z
+    → y ≡ told (given l) (speciesPlan sw h z (b .b) (x .flux))
+    → b ≡ told (given l) (n2Plan sw h z (x .zhf))
     → h ≡ told (given l) (shapePlan sw x z)
     → u ≡ told (given l) (gts7Plan sw x z)
 unfolding gts7Plan
-gts7-law sw x z l u o k y b p h e0 e1 e2 e3 e4 e5 e6 =
-    let e : p .z ≡ z = at-z h z p e5 in
+gts7-law sw x z l u o k y b h e0 e1 e2 e3 e4 e6 =
     e0
     ∙ sym
     (then (given l) (shapePlan sw x z) _ h e6
-    ∙ then (given l) (n2Plan sw h z (x .zhf)) _ b (rw e at e4)
-    ∙ then (given l) (speciesPlan sw h z (b .b) (x .flux)) _ y (rw e at e3)
+    ∙ then (given l) (n2Plan sw h z (x .zhf)) _ b e4
+    ∙ then (given l) (speciesPlan sw h z (b .b) (x .flux)) _ y e3
     ∙ then (given l) (hotPlan sw (anomalousOf h) z) _ o (rw e2 at e1)
     ∙ last (given l) _)

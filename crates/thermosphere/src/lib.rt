@@ -1,13 +1,21 @@
 // gts7: its stages in order, proved against its plan.
 ghost use mathlib.Core.Path.{_≡_};
 ghost use Rattle.plan.specs.Plan.{told, given};
-ghost use Rattle.species.specs.Species.{Placed};
+ghost use Rattle.numbers.specs.Arithmetic.{_‼_};
+ghost use Rattle.species.specs.Places.{spineAt, placeAt, mixesAt, Mixes};
+ghost use Rattle.tables.specs.Tables.{pdmT2};
+ghost use Rattle.thermosphere.specs.Turbopauses.{Apart};
 ghost use Rattle.stages.specs.Stages.{nodesPlan, shapePlan, speciesPlan, gts7Plan};
 use elementary::power::pow;
 use plan::Levels;
-use profile::point::Point;
+use profile::place::Place;
+use profile::place::Spine;
+use profile::thinning::Thinning;
 use profile::unchecked::Shape;
-use species::point_at;
+use species::mixing;
+use species::place_at;
+use species::spine_at;
+use species::turbopause;
 use stages::argon_stage;
 use stages::gradient_stage;
 use stages::helium_stage;
@@ -20,7 +28,10 @@ use stages::oxygen_stage;
 use stages::tinf_stage;
 use stages::tlb_stage;
 use tables::pdl1;
+use tables::pdm0;
+use tables::pdm1;
 use tables::pdm2;
+use tables::pdm5;
 use tables::pma8;
 use tables::ptl0;
 use tables::ptl1;
@@ -70,21 +81,61 @@ pub fn shape_stage(sw: [f64; 24], x: Site, z: f64, l: Levels) -> Shape
     shape_of(x, tinf, tlb, g, n)
 }
 
-// The six species that blend with N2.
-pub fn species_stage(sw: [f64; 24], h: Shape, p: Point, b28: f64, flux: f64, l: Levels) -> Six
-    requires { ⌜ Placed h p ⌝ }
-    ensures { λ r. ⌜ r ≡ told (given l) (speciesPlan sw h (p .z) b28 flux) ⌝ }
+// The turbopauses of helium, of hydrogen, and of the four species that have it where O has.
+pub struct Turbopauses {
+    pub he: Place,
+    pub o: Place,
+    pub h: Place,
+}
+
+// The places of the turbopauses where a species is mixed at z, the place of z.
+pub fn turbopauses_of(sw: [f64; 24], h: Shape, s: Spine, z: f64, p: Place) -> Turbopauses
+    requires { ⌜ s ≡ spineAt h ⌝ }
+    ensures { λ r. ⌜ Apart sw h z r ⌝ }
+{
+    let m0 = pdm0();
+    let m1 = pdm1();
+    let m5 = pdm5();
+    let on = sw[15] != 0.0;
+    let he = turbopause(h, s, on & (z < 200.0), m0[2], p);
+    let o = turbopause(h, s, on & (z <= 450.0), m1[2], p);
+    let hy = turbopause(h, s, on & (z <= 320.0), m5[2], p);
+    Turbopauses {
+        he: he,
+        o: o,
+        h: hy,
+    }
+}
+
+// The six species that blend with N2; s is the spine of h, p the place of z, t thins out what is mixed there.
+pub fn species_stage(
+    sw: [f64; 24],
+    h: Shape,
+    s: Spine,
+    z: f64,
+    p: Place,
+    t: Thinning,
+    b28: f64,
+    flux: f64,
+    l: Levels,
+) -> Six
+    requires { ⌜ (s ≡ spineAt h) × (p ≡ placeAt h z) × Mixes (mixesAt (sw ‼ 15) z) p (pdmT2 ‼ 4) t ⌝ }
+    ensures { λ r. ⌜ r ≡ told (given l) (speciesPlan sw h z b28 flux) ⌝ }
 {
     let m = pdm2();
     let d = pdl1();
     let zhm = m[3] * d[5];
     let xmm = m[4];
-    let he = helium_stage(sw, h, p, b28, zhm, xmm, l);
-    let o = oxygen_stage(sw, h, p, zhm, xmm, flux, l);
-    let o2 = o2_stage(sw, h, p, b28, zhm, xmm, flux, l);
-    let ar = argon_stage(sw, h, p, b28, zhm, xmm, l);
-    let hy = hydrogen_stage(sw, h, p, b28, zhm, xmm, l);
-    let n = nitrogen_stage(sw, h, p, b28, zhm, xmm, l);
+    let w = turbopauses_of(sw, h, s, z, p);
+    let whe = w.he;
+    let wo = w.o;
+    let wh = w.h;
+    let he = helium_stage(sw, h, z, p, whe, t, b28, zhm, xmm, l);
+    let o = oxygen_stage(sw, h, z, p, wo, t, zhm, xmm, flux, l);
+    let o2 = o2_stage(sw, h, z, p, wo, t, b28, zhm, xmm, flux, l);
+    let ar = argon_stage(sw, h, z, p, wo, t, b28, zhm, xmm, l);
+    let hy = hydrogen_stage(sw, h, z, p, wh, t, b28, zhm, xmm, l);
+    let n = nitrogen_stage(sw, h, z, p, wo, t, b28, zhm, xmm, l);
     Six {
         he: he,
         o: o,
@@ -99,10 +150,14 @@ pub fn gts7(sw: [f64; 24], x: Site, z: f64, l: Levels) -> Upper
     ensures { λ r. ⌜ r ≡ told (given l) (gts7Plan sw x z) ⌝ }
 {
     let h = shape_stage(sw, x, z, l);
-    let p = point_at(h, z);
-    let b = n2_stage(sw, h, p, x.zhf, l);
-    let y = species_stage(sw, h, p, b.b, x.flux, l);
+    let s = spine_at(h);
+    let p = place_at(h, s, z);
+    let m = pdm2();
+    let w = place_at(h, s, m[2] * x.zhf);
+    let t = mixing((sw[15] != 0.0) & (z <= 450.0), p, m[4]);
+    let b = n2_stage(sw, h, z, p, w, t, x.zhf, l);
+    let y = species_stage(sw, h, s, z, p, t, b.b, x.flux, l);
     let k = anomalous(h);
     let o = hot_stage(sw, k, z, l);
-    gather(sw[0], h, z, b, y, o)
+    gather(sw[0], h, s, z, b, y, o)
 }

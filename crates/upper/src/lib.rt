@@ -1,5 +1,6 @@
 // The arithmetic of gts7 around its expansions and species: place, temperatures, nodes, totals.
 ghost use mathlib.Core.Path.{_≡_};
+ghost use Rattle.species.specs.Places.{spineAt};
 ghost use Rattle.upper.specs.Upper.{siteOf, variedOf, meanOf, shapeOf, anomalousOf, massOf, unitsOf, gatherOf};
 use elementary::root::sqrt;
 use elementary::trigonometry::cos;
@@ -8,6 +9,7 @@ use numbers::DGTR;
 use numbers::DR;
 use numbers::pick;
 use profile::gravity::glatf;
+use profile::place::Spine;
 use profile::unchecked::Shape;
 use species::Blend;
 use species::Mixture;
@@ -171,8 +173,9 @@ pub fn units(
     ]
 }
 
-// Totals, units and the temperature at altitude.
-pub fn gather(sw0: f64, h: Shape, z: f64, x: Blend, y: Six, oh: f64) -> Upper
+// Totals, units and the temperature at altitude; s is the spine of h.
+pub fn gather(sw0: f64, h: Shape, s: Spine, z: f64, x: Blend, y: Six, oh: f64) -> Upper
+    requires { ⌜ s ≡ spineAt h ⌝ }
     ensures { λ r. ⌜ r ≡ gatherOf sw0 h z x y oh ⌝ }
 {
     let all = mass(
@@ -197,7 +200,7 @@ pub fn gather(sw0: f64, h: Shape, z: f64, x: Blend, y: Six, oh: f64) -> Upper
         oh,
     );
     let r = sqrt(z * z);
-    let t = temperature(h, r);
+    let t = temperature(h, s, r);
     Upper {
         d: d,
         t1: t,

@@ -1,38 +1,18 @@
 -- `density` meets its contract.
-use Rattle.species.proofs.Laws.{density-law}
+use Rattle.species.proofs.Laws.{logged-at, density-law}
 use borrow.Author.Needs.{needs}
 use Rattle.species.proofs.density.Statement.{statement}
 use Rattle.species.proofs.density.Tie as tie
 
-ptm-requires : tie.Need-ptm-requires
-ptm-requires c κs = search needs
+thin-requires : tie.Need-thin-requires
+thin-requires c κs = logged-at (c .args .h) (c .args .z) (c .args .p) (c .pre)
 
-array-read-densu-at : tie.Need-array-read-densu-at
-array-read-densu-at c = search needs
-
-densu-at-requires : tie.Need-densu-at-requires
-densu-at-requires c κs = search needs
-
-density-in-requires : tie.Need-density-in-requires
-density-in-requires c κs = search needs
+thinned-requires : tie.Need-thinned-requires
+thinned-requires c κs = search needs
 
 returns : tie.Need-returns
-returns c = let A = (c .before .before .before .args) in
-    density-law (A .h) (A .p) (A .dlb) (A .xm) (A .alpha)
-    (c .density-in .result)
-    (c .before .densu-at .result)
-    (c .before .before .ptm .result)
-    (c .density-in .ensures)
-    (c .before .densu-at .ensures)
-    (c .before .before .ptm .ensures)
-    (c .before .before .before .pre)
+returns c = let A = (c .before .before .args) in
+    density-law (A .h) (A .z) (A .p) (A .dlb) (A .xm) (A .alpha) _ _ (c .thinned .ensures) (c .before .thin .ensures) (c .before .before .pre)
 
 pub density-spec : {M : Type 1} → statement M
-density-spec =
-    tie.close
-    (tie.spec
-    ptm-requires
-    array-read-densu-at
-    densu-at-requires
-    density-in-requires
-    returns)
+density-spec = tie.close (tie.spec thin-requires thinned-requires returns)

@@ -1,4 +1,13 @@
 -- `n2` meets its contract.
+use mathlib.Core.Path.{sym, ap, _∙_}
+use mathlib.Core.Bool.{_&&_}
+use mathlib.Core.List.{List}
+use lib.Ieee.{Float, le, ne}
+use Rattle.numbers.specs.Arithmetic.{_⊗_, _‼_}
+use Rattle.numbers.specs.Literals.{0·0, 160·0}
+use Rattle.profile.specs.Thinning.{thinningOf}
+use Rattle.species.specs.Places.{placeAt}
+use Rattle.species.proofs.Order.{holds, mixes-160}
 use Rattle.species.specs.Species.{n2Of}
 use borrow.Author.Needs.{needs}
 use Rattle.species.proofs.n2.Statement.{statement}
@@ -13,24 +22,26 @@ pdl1-requires c κs = search needs
 density-requires : tie.Need-density-requires
 density-requires c κs = search needs
 
-array-read-density-at : tie.Need-array-read-density-at
-array-read-density-at c = search needs
-
-array-read-density-at-2 : tie.Need-array-read-density-at-2
-array-read-density-at-2 c = search needs
-
-density-at-requires : tie.Need-density-at-requires
-density-at-requires c κs = search needs
-
-returns : tie.Need-returns
-unfolding n2Of
-returns c = simp (← (c .before .before .density-at .ensures), ← (c .before .before .before .density .ensures), ← (c .before .before .before .before .pdl1 .ensures), ← (c .before .before .before .before .before .pdm2 .ensures)) (simp ((c .if1 .taken)))
-
 array-read-density : tie.Need-array-read-density
 array-read-density c = search needs
 
+array-read-density-2 : tie.Need-array-read-density-2
+array-read-density-2 c = search needs
+
 density-requires-2 : tie.Need-density-requires-2
-density-requires-2 c κs = search needs
+density-requires-2 c κs = let A = (c .before .before .before .args) in
+    c .before .before .before .pre .1 ∙ ap (λ (x : List Float). placeAt (A .h) (x ‼ 2 ⊗ A .zhf)) (sym (c .before .before .pdm2 .ensures))
+
+returns : tie.Need-returns
+unfolding n2Of
+returns c = simp (← c .before .density2 .ensures, ← c .before .before .density .ensures, ← c .before .before .before .pdl1 .ensures, ← c .before .before .before .before .pdm2 .ensures) (simp (c .if1 .taken))
+
+array-read-density-mixed : tie.Need-array-read-density-mixed
+array-read-density-mixed c = search needs
+
+density-mixed-requires : tie.Need-density-mixed-requires
+density-mixed-requires c κs = let A = (c .before .before .before .before .before .args) in
+    (c .before .before .before .before .before .pre .0, c .before .before .before .before .before .pre .2 (mixes-160 (A .sw15) (A .z) (holds (ne (A .sw15) 0·0 && le (A .z) 160·0) (c .if1 .left))) ∙ ap (λ (x : List Float). thinningOf (A .p) (x ‼ 4) 0·0) (sym (c .before .before .before .before .pdm2 .ensures)))
 
 array-read-dnet : tie.Need-array-read-dnet
 array-read-dnet c = search needs
@@ -46,7 +57,7 @@ dnet-requires c κs = search needs
 
 returns-2 : tie.Need-returns-2
 unfolding n2Of
-returns-2 c = simp (← (c .dnet .ensures), ← (c .before .density2 .ensures), ← (c .before .before .before .before .density-at .ensures), ← (c .before .before .before .before .before .density .ensures), ← (c .before .before .before .before .before .before .pdl1 .ensures), ← (c .before .before .before .before .before .before .before .pdm2 .ensures)) (simp ((c .before .before .if1 .left)))
+returns-2 c = simp (← c .dnet .ensures, ← c .before .density-mixed .ensures, ← c .before .before .before .density2 .ensures, ← c .before .before .before .before .density .ensures, ← c .before .before .before .before .before .pdl1 .ensures, ← c .before .before .before .before .before .before .pdm2 .ensures) (simp (c .before .before .if1 .left))
 
 pub n2-spec : {M : Type 1} → statement M
 n2-spec =
@@ -55,12 +66,12 @@ n2-spec =
     pdm2-requires
     pdl1-requires
     density-requires
-    array-read-density-at
-    array-read-density-at-2
-    density-at-requires
-    returns
     array-read-density
+    array-read-density-2
     density-requires-2
+    returns
+    array-read-density-mixed
+    density-mixed-requires
     array-read-dnet
     array-read-dnet-2
     array-read-dnet-3

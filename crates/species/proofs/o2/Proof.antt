@@ -9,7 +9,7 @@ o2-mixed-requires c κs = search needs
 
 returns : tie.Need-returns
 unfolding o2Of
-returns c = simp (← (c .before .o2-mixed .ensures)) (simp ((c .if1 .taken)))
+returns c = simp (← c .before .o2-mixed .ensures) (simp (c .if1 .taken))
 
 pdm3-requires : tie.Need-pdm3-requires
 pdm3-requires c κs = search needs
@@ -49,7 +49,7 @@ ccor2-requires c κs = search needs
 
 returns-2 : tie.Need-returns-2
 unfolding o2Of
-returns-2 c = simp (← (c .before .ccor2 .ensures), ← (c .before .before .pdl1 .ensures), ← (c .before .before .before .pdl0 .ensures), ← (c .before .before .before .before .pdm3 .ensures), ← (c .before .before .before .before .before .before .o2-mixed .ensures)) (simp ((c .before .before .before .before .before .if1 .left)))
+returns-2 c = simp (← c .before .ccor2 .ensures, ← c .before .before .pdl1 .ensures, ← c .before .before .before .pdl0 .ensures, ← c .before .before .before .before .pdm3 .ensures, ← c .before .before .before .before .before .before .o2-mixed .ensures) (simp (c .before .before .before .before .before .if1 .left))
 
 pub o2-spec : {M : Type 1} → statement M
 o2-spec =

@@ -1,4 +1,11 @@
 -- `oxygen` meets its contract.
+use mathlib.Core.Bool.{_&&_}
+use lib.Ieee.{lt, le, ne}
+use Rattle.numbers.specs.Literals.{0·0, 300·0}
+use Rattle.tables.specs.Tables.{pdmT1}
+use Rattle.species.specs.Places.{mixesAt}
+use Rattle.species.proofs.Laws.{ready}
+use Rattle.species.proofs.Order.{mixes-300}
 use Rattle.species.specs.Species.{oxygenOf}
 use borrow.Author.Needs.{needs}
 use Rattle.species.proofs.oxygen.Statement.{statement}
@@ -9,7 +16,7 @@ density-requires c κs = search needs
 
 returns : tie.Need-returns
 unfolding oxygenOf
-returns c = simp (← (c .density .ensures)) (simp ((c .before .if1 .taken)))
+returns c = simp (← c .density .ensures) (simp (c .before .if1 .taken))
 
 pdm1-requires : tie.Need-pdm1-requires
 pdm1-requires c κs = search needs
@@ -21,7 +28,9 @@ array-read-mixed : tie.Need-array-read-mixed
 array-read-mixed c = search needs
 
 mixed-requires : tie.Need-mixed-requires
-mixed-requires c κs = search needs
+mixed-requires c κs = let A = (c .before .before .before .args) in
+    ready (A .h) (A .z) (A .p) (A .w) (A .t) (A .xmm) (ne (A .sw15) 0·0 && le (A .z) 300·0) (mixesAt (A .sw15) (A .z)) (mixesAt (A .sw15) (A .z)) _ pdmT1
+    (c .before .before .before .pre) (c .before .before .if1 .left) (mixes-300 (A .sw15) (A .z)) (mixes-300 (A .sw15) (A .z)) (c .before .pdm1 .ensures)
 
 array-read-ccor2 : tie.Need-array-read-ccor2
 array-read-ccor2 c = search needs
@@ -73,7 +82,7 @@ ccor-requires c κs = search needs
 
 returns-2 : tie.Need-returns-2
 unfolding oxygenOf
-returns-2 c = simp (← (c .before .ccor .ensures), ← (c .before .before .ccor2 .ensures), ← (c .before .before .before .mixed .ensures), ← (c .before .before .before .before .pdl1 .ensures), ← (c .before .before .before .before .before .pdm1 .ensures)) (simp ((c .before .before .before .before .before .before .if1 .left)))
+returns-2 c = simp (← c .before .ccor .ensures, ← c .before .before .ccor2 .ensures, ← c .before .before .before .mixed .ensures, ← c .before .before .before .before .pdl1 .ensures, ← c .before .before .before .before .before .pdm1 .ensures) (simp (c .before .before .before .before .before .before .if1 .left))
 
 pub oxygen-spec : {M : Type 1} → statement M
 oxygen-spec =

@@ -1,5 +1,5 @@
 -- `temperature` meets its contract.
-use Rattle.species.specs.Species.{temperatureOf}
+use Rattle.species.proofs.Laws.{spine-needs, temperature-law}
 use borrow.Author.Needs.{needs}
 use Rattle.species.proofs.temperature.Statement.{statement}
 use Rattle.species.proofs.temperature.Tie as tie
@@ -10,21 +10,18 @@ ptm-requires c κs = search needs
 pdl1-requires : tie.Need-pdl1-requires
 pdl1-requires c κs = search needs
 
-array-read-densu5 : tie.Need-array-read-densu5
-array-read-densu5 c = search needs
+array-read-warmth-of : tie.Need-array-read-warmth-of
+array-read-warmth-of c = search needs
 
 array-read-t13 : tie.Need-array-read-t13
 array-read-t13 c = search needs
 
-densu5-requires : tie.Need-densu5-requires
-densu5-requires c κs = search needs
-
-temperature-in-requires : tie.Need-temperature-in-requires
-temperature-in-requires c κs = search needs
+warmth-of-requires : tie.Need-warmth-of-requires
+warmth-of-requires c κs = spine-needs (c .before .before .args .h) (c .before .before .args .s) _ _ (c .before .before .pre) (c .before .ptm .ensures) (c .pdl1 .ensures)
 
 returns : tie.Need-returns
-unfolding temperatureOf
-returns c = simp (← (c .temperature-in .ensures), ← (c .before .densu5 .ensures), ← (c .before .before .pdl1 .ensures), ← (c .before .before .before .ptm .ensures))
+returns c = let A = (c .before .before .before .args) in
+    temperature-law (A .h) (A .z) _ _ _ (c .warmth-of .ensures) (c .before .before .ptm .ensures) (c .before .pdl1 .ensures)
 
 pub temperature-spec : {M : Type 1} → statement M
 temperature-spec =
@@ -32,8 +29,7 @@ temperature-spec =
     (tie.spec
     ptm-requires
     pdl1-requires
-    array-read-densu5
+    array-read-warmth-of
     array-read-t13
-    densu5-requires
-    temperature-in-requires
+    warmth-of-requires
     returns)

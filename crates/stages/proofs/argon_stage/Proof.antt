@@ -32,12 +32,12 @@ array-read-argon-3 : tie.Need-array-read-argon-3
 array-read-argon-3 c = search needs
 
 argon-requires : tie.Need-argon-requires
-argon-requires c κs = search needs
+argon-requires c κs = c .before .before .before .before .pre
 
 returns : tie.Need-returns
 unfolding argonPlan
 returns c = let A = (c .before .before .before .before .before .args) in
-    species-law (A .l) (λ (x : Float). argonOf (A .h) (A .t1 ‼ 15) (A .p .z) (A .b28) x (A .zhm) (A .xmm)) (A .t1 ‼ 21) PD5 pdmT4
+    species-law (A .l) (λ (x : Float). argonOf (A .h) (A .t1 ‼ 15) (A .z) (A .b28) x (A .zhm) (A .xmm)) (A .t1 ‼ 21) PD5 pdmT4
     (c .argon .result)
     (c .before .exp .result)
     (c .before .before .before .pdm4 .result)

@@ -32,12 +32,12 @@ array-read-helium-3 : tie.Need-array-read-helium-3
 array-read-helium-3 c = search needs
 
 helium-requires : tie.Need-helium-requires
-helium-requires c κs = search needs
+helium-requires c κs = c .before .before .before .before .pre
 
 returns : tie.Need-returns
 unfolding heliumPlan
 returns c = let A = (c .before .before .before .before .before .args) in
-    species-law (A .l) (λ (x : Float). heliumOf (A .h) (A .t1 ‼ 15) (A .p .z) (A .b28) x (A .zhm) (A .xmm)) (A .t1 ‼ 21) PD0 pdmT0
+    species-law (A .l) (λ (x : Float). heliumOf (A .h) (A .t1 ‼ 15) (A .z) (A .b28) x (A .zhm) (A .xmm)) (A .t1 ‼ 21) PD0 pdmT0
     (c .helium .result)
     (c .before .exp .result)
     (c .before .before .before .pdm0 .result)

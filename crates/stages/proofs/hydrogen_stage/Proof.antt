@@ -32,12 +32,12 @@ array-read-hydrogen-3 : tie.Need-array-read-hydrogen-3
 array-read-hydrogen-3 c = search needs
 
 hydrogen-requires : tie.Need-hydrogen-requires
-hydrogen-requires c κs = search needs
+hydrogen-requires c κs = c .before .before .before .before .pre
 
 returns : tie.Need-returns
 unfolding hydrogenPlan
 returns c = let A = (c .before .before .before .before .before .args) in
-    species-law (A .l) (λ (x : Float). hydrogenOf (A .h) (A .t1 ‼ 15) (A .p .z) (A .b28) x (A .zhm) (A .xmm)) (A .t1 ‼ 21) PD6 pdmT5
+    species-law (A .l) (λ (x : Float). hydrogenOf (A .h) (A .t1 ‼ 15) (A .z) (A .b28) x (A .zhm) (A .xmm)) (A .t1 ‼ 21) PD6 pdmT5
     (c .hydrogen .result)
     (c .before .exp .result)
     (c .before .before .before .pdm5 .result)

@@ -32,12 +32,12 @@ array-read-n2-3 : tie.Need-array-read-n2-3
 array-read-n2-3 c = search needs
 
 n2-requires : tie.Need-n2-requires
-n2-requires c κs = search needs
+n2-requires c κs = c .before .before .before .before .pre
 
 returns : tie.Need-returns
 unfolding n2Plan
 returns c = let A = (c .before .before .before .before .before .args) in
-    species-law (A .l) (λ (x : Float). n2Of (A .h) (A .t1 ‼ 15) (A .p .z) x (A .zhf)) (A .t1 ‼ 21) PD2 pdmT2
+    species-law (A .l) (λ (x : Float). n2Of (A .h) (A .t1 ‼ 15) (A .z) x (A .zhf)) (A .t1 ‼ 21) PD2 pdmT2
     (c .n2 .result)
     (c .before .exp .result)
     (c .before .before .before .pdm2 .result)

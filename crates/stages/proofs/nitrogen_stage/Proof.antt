@@ -32,12 +32,12 @@ array-read-nitrogen-3 : tie.Need-array-read-nitrogen-3
 array-read-nitrogen-3 c = search needs
 
 nitrogen-requires : tie.Need-nitrogen-requires
-nitrogen-requires c κs = search needs
+nitrogen-requires c κs = c .before .before .before .before .pre
 
 returns : tie.Need-returns
 unfolding nitrogenPlan
 returns c = let A = (c .before .before .before .before .before .args) in
-    species-law (A .l) (λ (x : Float). nitrogenOf (A .h) (A .t1 ‼ 15) (A .p .z) (A .b28) x (A .zhm) (A .xmm)) (A .t1 ‼ 21) PD7 pdmT6
+    species-law (A .l) (λ (x : Float). nitrogenOf (A .h) (A .t1 ‼ 15) (A .z) (A .b28) x (A .zhm) (A .xmm)) (A .t1 ‼ 21) PD7 pdmT6
     (c .nitrogen .result)
     (c .before .exp .result)
     (c .before .before .before .pdm6 .result)

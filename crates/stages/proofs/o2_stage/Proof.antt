@@ -32,12 +32,12 @@ array-read-o2-3 : tie.Need-array-read-o2-3
 array-read-o2-3 c = search needs
 
 o2-requires : tie.Need-o2-requires
-o2-requires c κs = search needs
+o2-requires c κs = c .before .before .before .before .pre
 
 returns : tie.Need-returns
 unfolding o2Plan
 returns c = let A = (c .before .before .before .before .before .args) in
-    species-law (A .l) (λ (x : Float). o2Of (A .h) (A .t1 ‼ 15) (A .p .z) (A .b28) x (A .zhm) (A .xmm) (A .flux)) (A .t1 ‼ 21) PD4 pdmT3
+    species-law (A .l) (λ (x : Float). o2Of (A .h) (A .t1 ‼ 15) (A .z) (A .b28) x (A .zhm) (A .xmm) (A .flux)) (A .t1 ‼ 21) PD4 pdmT3
     (c .o2 .result)
     (c .before .exp .result)
     (c .before .before .before .pdm3 .result)

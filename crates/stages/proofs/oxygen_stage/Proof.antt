@@ -32,12 +32,12 @@ array-read-oxygen-3 : tie.Need-array-read-oxygen-3
 array-read-oxygen-3 c = search needs
 
 oxygen-requires : tie.Need-oxygen-requires
-oxygen-requires c κs = search needs
+oxygen-requires c κs = c .before .before .before .before .pre
 
 returns : tie.Need-returns
 unfolding oxygenPlan
 returns c = let A = (c .before .before .before .before .before .args) in
-    species-law (A .l) (λ (x : Float). oxygenOf (A .h) (A .t1 ‼ 15) (A .p .z) x (A .zhm) (A .xmm) (A .flux)) (A .t1 ‼ 21) PD1 pdmT1
+    species-law (A .l) (λ (x : Float). oxygenOf (A .h) (A .t1 ‼ 15) (A .z) x (A .zhm) (A .xmm) (A .flux)) (A .t1 ‼ 21) PD1 pdmT1
     (c .oxygen .result)
     (c .before .exp .result)
     (c .before .before .before .pdm1 .result)
