@@ -1,36 +1,37 @@
 -- The Levels from the values of the calls.
-use mathlib.Core.Path.{_≡_}
+use mathlib.Core.Path.{_≡_, _∙_}
 use mathlib.Core.List.{List}
 use lib.ListN.{replicate}
 use lib.Ieee.{Float}
 use Rattle.numbers.specs.Arithmetic.{_‼_}
 use Rattle.numbers.specs.Literals.{0·0}
 use Rattle.setting.specs.declared.View.{View}
-use Rattle.tables.specs.Tables.{pdT3, pdT7, pdT8}
+use Rattle.tables.specs.Tables.{ptT, pdT3, pdT7, pdT8}
 use Rattle.legendre.specs.Legendre.{legendreOf}
 use Rattle.expansion.specs.declared.Carried.{Carried}
-use Rattle.expansion.specs.Expansion.{level7Of}
 use Rattle.plan.specs.declared.Levels.{Levels}
 use Rattle.levels.specs.declared.Need.{Need}
-use Rattle.levels.specs.Levels.{legendreIn, quietOf, activeOf, warmOf, lightOf, heavyOf, nodesOf, mesoOf, tropoOf, levelsOf}
+use Rattle.levels.specs.Levels.{legendreIn, quietOf, activeOf, warmOf, lightOf, heavyOf, lastOf, nodesOf, mesoOf, tropoOf, levelsOf}
+use Rattle.levels.specs.Activities.{activityIn, activeFrom, active-from, over, in-pd3, in-pd7, in-pd8}
+use Rattle.levels.specs.declared.Activity.{Activity}
 
 pub levels-law : (v : View) (n : Need)
-    (t m a : List Float) (a8 a7 : Float) (h l w : List Float) (c8 : Carried) (p8 : List Float) (c7 : Carried) (p7 : List Float) (c3 : Carried) (p3 : List Float)
-    (c : Carried) (g : List (List Float))
+    (t m a b h l w : List Float) (c8 : Carried) (p8 : List Float) (c7 : Carried) (p7 : List Float) (c3 : Carried) (p3 : List Float)
+    (k : Activity) (c : Carried) (g : List (List Float))
     → t ≡ tropoOf v g c8 (n .tropo)
     → m ≡ mesoOf v g c8 (n .meso)
     → a ≡ nodesOf v g c3 (n .nodes)
-    → a8 ≡ level7Of v p8 g c8
-    → a7 ≡ level7Of v p7 g c7
+    → b ≡ lastOf v g c7 c8
     → h ≡ heavyOf v g c
     → l ≡ lightOf v g c
     → w ≡ warmOf v g c c3 n
-    → c8 ≡ activeOf v p8 c7
+    → c8 ≡ activeFrom v k (p8 ‼ 51) (p8 ‼ 138) c7
     → p8 ≡ pdT8
-    → c7 ≡ activeOf v p7 c
+    → c7 ≡ activeFrom v k (p7 ‼ 51) (p7 ‼ 138) c
     → p7 ≡ pdT7
-    → c3 ≡ activeOf v p3 c
+    → c3 ≡ activeFrom v k (p3 ‼ 51) (p3 ‼ 138) c
     → p3 ≡ pdT3
+    → k ≡ activityIn v ptT
     → c ≡ quietOf v
     → g ≡ legendreOf (v .slat) (v .clat) (replicate 36 0·0)
     → _≡_ {A = Levels}
@@ -44,8 +45,8 @@ pub levels-law : (v : View) (n : Need)
       pd4 = h ‼ 0;
       pd5 = h ‼ 1;
       pd6 = h ‼ 2;
-      pd7 = a7;
-      pd8 = a8;
+      pd7 = b ‼ 0;
+      pd8 = b ‼ 1;
       ptl0 = a ‼ 0;
       ptl1 = a ‼ 1;
       ptl2 = a ‼ 2;
@@ -62,6 +63,9 @@ pub levels-law : (v : View) (n : Need)
       pma9 = m ‼ 3;
     })
     (levelsOf v n)
-unfolding levelsOf legendreIn
-levels-law v n t m a a8 a7 h l w c8 p8 c7 p7 c3 p3 c g e0 e1 e2 e3 e4 e5 e6 e7 e8 e9 e10 e11 e12 e13 e14 e15 =
-    rw (e0, e1, e2, e3, e4, e5, e6, e7, e8, e9, e10, e11, e12, e13, e14, e15)
+unfolding levelsOf legendreIn lastOf
+levels-law v n t m a b h l w c8 p8 c7 p7 c3 p3 k c g e0 e1 e2 e3 e4 e5 e6 f8 e9 f7 e11 f3 f3p ek e12 e13 =
+    let e8 : c8 ≡ activeOf v p8 c7 = f8 ∙ active-from v p8 c7 k (over v k pdT8 p8 (ek ∙ in-pd8 v) e9) in
+    let e10 : c7 ≡ activeOf v p7 c = f7 ∙ active-from v p7 c k (over v k pdT7 p7 (ek ∙ in-pd7 v) e11) in
+    let e14 : c3 ≡ activeOf v p3 c = f3 ∙ active-from v p3 c k (over v k pdT3 p3 (ek ∙ in-pd3 v) f3p) in
+    rw (e0, e1, e2, e3, e4, e5, e6, e8, e9, e10, e11, e14, f3p, e12, e13)

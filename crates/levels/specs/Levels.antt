@@ -66,6 +66,10 @@ lightOf v g c = wideOf v g c pdT0 ∷ wideOf v g c pdT1 ∷ wideOf v g c pdT2 �
 unfoldable pub heavyOf : View → List (List Float) → Carried → List Float
 heavyOf v g c = wideOf v g c pdT4 ∷ wideOf v g c pdT5 ∷ wideOf v g c pdT6 ∷ []
 
+-- PD[7] and PD[8], whose activities are c7 and c8
+unfoldable pub lastOf : View → List (List Float) → Carried → Carried → List Float
+lastOf v g c7 c8 = level7Of v pdT7 g c7 ∷ level7Of v pdT8 g c8 ∷ []
+
 -- PTL and PMA[8]
 abbrev pub nodesIn : View → List (List Float) → Carried → List Float
 nodesIn v g c = glob7sFrom v ptlT0 g c ∷ glob7sFrom v ptlT1 g c ∷ glob7sFrom v ptlT2 g c ∷ glob7sFrom v ptlT3 g c ∷ glob7sFrom v pmaT8 g c ∷ []

@@ -4,11 +4,14 @@ ghost use Prim.Native.Nat.{_≤_};
 ghost use mathlib.Core.Bool.{cond};
 ghost use lib.ListN.{length};
 ghost use Rattle.numbers.specs.Literals.{0·0};
-ghost use Rattle.tables.specs.Tables.{ptT, psT};
+ghost use Rattle.tables.specs.Tables.{ptT, psT, pdT0, pdT1};
 ghost use Rattle.setting.specs.Shared.{Shared};
-ghost use Rattle.levels.specs.Levels.{legendreIn, quietOf, activeOf, wideOf, warmOf, lightOf, heavyOf, nodesOf, mesoOf, tropoOf, needAt, bothOf, levelsOf};
-use activity::apdf_next;
-use activity::apt_next;
+ghost use Rattle.levels.specs.Activities.{activityOf, activityIn, activeFrom};
+ghost use Rattle.levels.specs.Levels.{quietOf, wideOf, warmOf, lightOf, heavyOf, lastOf, nodesOf, mesoOf, tropoOf, needAt, bothOf, levelsOf};
+use activity::Responses;
+use activity::apdf_from;
+use activity::apt_from;
+use activity::responses_to;
 use expansion::Carried;
 use expansion::glob7s_from;
 use expansion::level7;
@@ -101,89 +104,168 @@ pub fn quiet(v: View) -> Carried
     }
 }
 
-// What State carries after globe7 over a set.
-pub fn active(v: View, p: &[f64], c: Carried) -> Carried
-    requires { ⌜ length (now p) ≡ 150 ⌝ }
-    ensures { λ r. ⌜ r ≡ activeOf v (now (p .entry)) c ⌝ }
+// Magnetic activity by the coefficients that most sets share: apdf of the daily ap, or the responses to the history.
+pub struct Activity {
+    pub apdf: f64,
+    pub g: Responses,
+}
+
+// The one that switch 9 asks for; the other is 0.
+pub fn activity_of(
+    sw9: f64,
+    ap: f64,
+    history: [f64; 7],
+    p43: f64,
+    p44: f64,
+    p24: f64,
+    p25: f64,
+) -> Activity
+    ensures { λ r. ⌜ r ≡ activityOf sw9 ap history p43 p44 p24 p25 ⌝ }
 {
-    let apdf = apdf_next(v.sw[9], p[43], p[44], v.ap, c.apdf);
+    if sw9 == -1.0 {
+        let g = responses_to(p24, p25, history);
+        return Activity { apdf: 0.0, g: g };
+    }
+    let apdf = apdf_from(p43, p44, ap);
+    let none = Responses {
+        g1: 0.0,
+        g2: 0.0,
+        g3: 0.0,
+        g4: 0.0,
+        g5: 0.0,
+        g6: 0.0,
+    };
+    Activity {
+        apdf: apdf,
+        g: none,
+    }
+}
+
+// The activity of PT, which every set but PD[0] and PD[1] has.
+pub fn common(v: View) -> Activity
+    ensures { λ r. ⌜ r ≡ activityIn v ptT ⌝ }
+{
+    let p = pt();
     let h = v.ap_array;
-    let apt = apt_next(v.sw[9], p[51], p[138], p[24], p[25], v.g_lat, h, c.apt);
+    activity_of(v.sw[9], v.ap, h, p[43], p[44], p[24], p[25])
+}
+
+// The activity of PD[0].
+pub fn activity0(v: View) -> Activity
+    ensures { λ r. ⌜ r ≡ activityIn v pdT0 ⌝ }
+{
+    let p = pd0();
+    let h = v.ap_array;
+    activity_of(v.sw[9], v.ap, h, p[43], p[44], p[24], p[25])
+}
+
+// The activity of PD[1].
+pub fn activity1(v: View) -> Activity
+    ensures { λ r. ⌜ r ≡ activityIn v pdT1 ⌝ }
+{
+    let p = pd1();
+    let h = v.ap_array;
+    activity_of(v.sw[9], v.ap, h, p[43], p[44], p[24], p[25])
+}
+
+// What State carries after globe7 over a set of the activity a.
+pub fn active(v: View, a: Activity, p51: f64, p138: f64, c: Carried) -> Carried
+    ensures { λ r. ⌜ r ≡ activeFrom v a p51 p138 c ⌝ }
+{
+    let apdf = pick(v.sw[9] == -1.0, c.apdf, a.apdf);
+    let g = a.g;
+    let apt = apt_from(v.sw[9], p51, p138, v.g_lat, g, c.apt);
     let mut out = c;
     out.apdf = apdf;
     out.apt = apt;
     out
 }
 
-// globe7 over a set.
-pub fn wide(v: View, g: [[f64; 9]; 4], c: Carried, p: &[f64]) -> f64
-    requires { ⌜ (length (now p) ≡ 150) × Shared v ⌝ }
+// globe7 over a set of the activity a.
+pub fn wide(v: View, g: [[f64; 9]; 4], c: Carried, a: Activity, p: &[f64]) -> f64
+    requires { ⌜ (length (now p) ≡ 150) × Shared v × (a ≡ activityIn v (now p)) ⌝ }
     ensures { λ r. ⌜ r ≡ wideOf v g c (now (p .entry)) ⌝ }
 {
-    let a = active(v, p, c);
-    level7(v, p, g, a)
+    let b = active(v, a, p[51], p[138], c);
+    level7(v, p, g, b)
 }
 
-pub fn pt_level(v: View, g: [[f64; 9]; 4], c: Carried, on: bool) -> f64
-    requires { ⌜ Shared v ⌝ }
+pub fn pt_level(v: View, g: [[f64; 9]; 4], c: Carried, a: Activity, on: bool) -> f64
+    requires { ⌜ Shared v × (a ≡ activityIn v ptT) ⌝ }
     ensures { λ r. ⌜ r ≡ cond on (wideOf v g c ptT) 0·0 ⌝ }
 {
     if on {
         let p = pt();
-        return wide(v, g, c, &p);
+        return wide(v, g, c, a, &p);
     }
     0.0
 }
 
-pub fn ps_level(v: View, g: [[f64; 9]; 4], c: Carried, on: bool) -> f64
-    requires { ⌜ Shared v ⌝ }
+pub fn ps_level(v: View, g: [[f64; 9]; 4], c: Carried, a: Activity, on: bool) -> f64
+    requires { ⌜ Shared v × (a ≡ activityIn v ptT) ⌝ }
     ensures { λ r. ⌜ r ≡ cond on (wideOf v g c psT) 0·0 ⌝ }
 {
     if on {
         let p = ps();
-        return wide(v, g, c, &p);
+        return wide(v, g, c, a, &p);
     }
     0.0
 }
 
 // PT and PS where they count, and PD[3], whose activity is c3.
-pub fn warm(v: View, g: [[f64; 9]; 4], c: Carried, c3: Carried, n: Need) -> [f64; 3]
-    requires { ⌜ Shared v ⌝ }
+pub fn warm(v: View, g: [[f64; 9]; 4], c: Carried, a: Activity, c3: Carried, n: Need) -> [f64; 3]
+    requires { ⌜ Shared v × (a ≡ activityIn v ptT) ⌝ }
     ensures { λ r. ⌜ r ≡ warmOf v g c c3 n ⌝ }
 {
-    let a = pt_level(v, g, c, n.pt);
-    let b = ps_level(v, g, c, n.ps);
+    let x = pt_level(v, g, c, a, n.pt);
+    let y = ps_level(v, g, c, a, n.ps);
     let p = pd3();
-    let d = level7(v, &p, g, c3);
-    [a, b, d]
+    let z = level7(v, &p, g, c3);
+    [x, y, z]
 }
 
+// A local for all sets of a function: one table at a time lies on the stack.
+
 // PD[0], PD[1], PD[2].
-pub fn light(v: View, g: [[f64; 9]; 4], c: Carried) -> [f64; 3]
-    requires { ⌜ Shared v ⌝ }
+pub fn light(v: View, g: [[f64; 9]; 4], c: Carried, a: Activity) -> [f64; 3]
+    requires { ⌜ Shared v × (a ≡ activityIn v ptT) ⌝ }
     ensures { λ r. ⌜ r ≡ lightOf v g c ⌝ }
 {
-    let p0 = pd0();
-    let a = wide(v, g, c, &p0);
-    let p1 = pd1();
-    let b = wide(v, g, c, &p1);
-    let p2 = pd2();
-    let d = wide(v, g, c, &p2);
-    [a, b, d]
+    let a0 = activity0(v);
+    let a1 = activity1(v);
+    let mut p = pd0();
+    let x = wide(v, g, c, a0, &p);
+    p = pd1();
+    let y = wide(v, g, c, a1, &p);
+    p = pd2();
+    let z = wide(v, g, c, a, &p);
+    [x, y, z]
 }
 
 // PD[4], PD[5], PD[6].
-pub fn heavy(v: View, g: [[f64; 9]; 4], c: Carried) -> [f64; 3]
-    requires { ⌜ Shared v ⌝ }
+pub fn heavy(v: View, g: [[f64; 9]; 4], c: Carried, a: Activity) -> [f64; 3]
+    requires { ⌜ Shared v × (a ≡ activityIn v ptT) ⌝ }
     ensures { λ r. ⌜ r ≡ heavyOf v g c ⌝ }
 {
-    let p4 = pd4();
-    let a = wide(v, g, c, &p4);
-    let p5 = pd5();
-    let b = wide(v, g, c, &p5);
-    let p6 = pd6();
-    let d = wide(v, g, c, &p6);
-    [a, b, d]
+    let mut p = pd4();
+    let x = wide(v, g, c, a, &p);
+    p = pd5();
+    let y = wide(v, g, c, a, &p);
+    p = pd6();
+    let z = wide(v, g, c, a, &p);
+    [x, y, z]
+}
+
+// PD[7] and PD[8], whose activities are c7 and c8.
+pub fn last(v: View, g: [[f64; 9]; 4], c7: Carried, c8: Carried) -> [f64; 2]
+    requires { ⌜ Shared v ⌝ }
+    ensures { λ r. ⌜ r ≡ lastOf v g c7 c8 ⌝ }
+{
+    let mut p = pd7();
+    let x = level7(v, &p, g, c7);
+    p = pd8();
+    let y = level7(v, &p, g, c8);
+    [x, y]
 }
 
 // PTL and PMA[8], where the nodes of the lower thermosphere count.
@@ -194,16 +276,16 @@ pub fn nodes(v: View, g: [[f64; 9]; 4], c: Carried, on: bool) -> [f64; 5]
     if !on {
         return [0.0; 5];
     }
-    let p0 = ptl0();
-    let a = glob7s_from(v, &p0, g, c);
-    let p1 = ptl1();
-    let b = glob7s_from(v, &p1, g, c);
-    let p2 = ptl2();
-    let d = glob7s_from(v, &p2, g, c);
-    let p3 = ptl3();
-    let e = glob7s_from(v, &p3, g, c);
-    let p8 = pma8();
-    let f = glob7s_from(v, &p8, g, c);
+    let mut p = ptl0();
+    let a = glob7s_from(v, &p, g, c);
+    p = ptl1();
+    let b = glob7s_from(v, &p, g, c);
+    p = ptl2();
+    let d = glob7s_from(v, &p, g, c);
+    p = ptl3();
+    let e = glob7s_from(v, &p, g, c);
+    p = pma8();
+    let f = glob7s_from(v, &p, g, c);
     [a, b, d, e, f]
 }
 
@@ -215,14 +297,14 @@ pub fn meso(v: View, g: [[f64; 9]; 4], c: Carried, on: bool) -> [f64; 4]
     if !on {
         return [0.0; 4];
     }
-    let p0 = pma0();
-    let a = glob7s_from(v, &p0, g, c);
-    let p1 = pma1();
-    let b = glob7s_from(v, &p1, g, c);
-    let p2 = pma2();
-    let d = glob7s_from(v, &p2, g, c);
-    let p9 = pma9();
-    let e = glob7s_from(v, &p9, g, c);
+    let mut p = pma0();
+    let a = glob7s_from(v, &p, g, c);
+    p = pma1();
+    let b = glob7s_from(v, &p, g, c);
+    p = pma2();
+    let d = glob7s_from(v, &p, g, c);
+    p = pma9();
+    let e = glob7s_from(v, &p, g, c);
     [a, b, d, e]
 }
 
@@ -234,16 +316,16 @@ pub fn tropo(v: View, g: [[f64; 9]; 4], c: Carried, on: bool) -> [f64; 5]
     if !on {
         return [0.0; 5];
     }
-    let p3 = pma3();
-    let a = glob7s_from(v, &p3, g, c);
-    let p4 = pma4();
-    let b = glob7s_from(v, &p4, g, c);
-    let p5 = pma5();
-    let d = glob7s_from(v, &p5, g, c);
-    let p6 = pma6();
-    let e = glob7s_from(v, &p6, g, c);
-    let p7 = pma7();
-    let f = glob7s_from(v, &p7, g, c);
+    let mut p = pma3();
+    let a = glob7s_from(v, &p, g, c);
+    p = pma4();
+    let b = glob7s_from(v, &p, g, c);
+    p = pma5();
+    let d = glob7s_from(v, &p, g, c);
+    p = pma6();
+    let e = glob7s_from(v, &p, g, c);
+    p = pma7();
+    let f = glob7s_from(v, &p, g, c);
     [a, b, d, e, f]
 }
 
@@ -254,17 +336,17 @@ pub fn levels_of(v: View, n: Need) -> Levels
 {
     let g = legendre(v.slat, v.clat, [0.0; 36]);
     let c = quiet(v);
+    let k = common(v);
     let p3 = pd3();
-    let c3 = active(v, &p3, c);
+    let c3 = active(v, k, p3[51], p3[138], c);
     let p7 = pd7();
-    let c7 = active(v, &p7, c);
+    let c7 = active(v, k, p7[51], p7[138], c);
     let p8 = pd8();
-    let c8 = active(v, &p8, c7);
-    let w = warm(v, g, c, c3, n);
-    let l = light(v, g, c);
-    let h = heavy(v, g, c);
-    let a7 = level7(v, &p7, g, c7);
-    let a8 = level7(v, &p8, g, c8);
+    let c8 = active(v, k, p8[51], p8[138], c7);
+    let w = warm(v, g, c, k, c3, n);
+    let l = light(v, g, c, k);
+    let h = heavy(v, g, c, k);
+    let b = last(v, g, c7, c8);
     let a = nodes(v, g, c3, n.nodes);
     let m = meso(v, g, c8, n.meso);
     let t = tropo(v, g, c8, n.tropo);
@@ -278,8 +360,8 @@ pub fn levels_of(v: View, n: Need) -> Levels
         pd4: h[0],
         pd5: h[1],
         pd6: h[2],
-        pd7: a7,
-        pd8: a8,
+        pd7: b[0],
+        pd8: b[1],
         ptl0: a[0],
         ptl1: a[1],
         ptl2: a[2],

@@ -4,7 +4,7 @@ ghost use Prim.Native.Nat.{_≤_};
 ghost use lib.ListN.{length};
 ghost use Rattle.setting.specs.Phases.{annualCosOf, semiannualCosOf, localCosOf, utCosOf, utLongCosOf, longPhaseCosOf};
 ghost use Rattle.numbers.specs.Literals.{0·0};
-ghost use Rattle.setting.specs.Shared.{Shared};
+ghost use Rattle.setting.specs.Shared.{OwnSize, Shared};
 ghost use Rattle.parts.specs.Parts.{dayCosinesOf, hasLongitudeOf, t6Of, t7Of, t13Of, history8Of, daily8Of, t8Of, t10Of, t11Of, history12Of, daily12Of, t12Of, weightedOf, t8sOf, t10sOf, t6sOf, t7sOf, t13sOf};
 use numbers::abs;
 use numbers::plus_zero;
@@ -386,17 +386,15 @@ pub fn t12(v: View, p: &[f64], g: [[f64; 9]; 4], cd14: f64, apdf: f64, apt: f64)
     daily12(v, p, g, cd14, apdf)
 }
 
-// first + |sw[1]| * t[0] + .. + |sw[14]| * t[13], from the left.
+// first + |sw[1]| * t[0] + .. + |sw[14]| * t[13], from the left; a main effect other than entry 9 is its own size.
 pub fn weighted(first: f64, sw: [f64; 24], t: [f64; 14]) -> f64
+    requires { ⌜ OwnSize sw ⌝ }
     ensures { λ r. ⌜ r ≡ weightedOf first sw t ⌝ }
 {
-    let mut tinf = first;
-    let mut i: usize = 0;
-    while i < 14 {
-        tinf = tinf + abs(sw[i + 1]) * t[i];
-        i += 1;
-    }
-    tinf
+    let nine = abs(sw[9]);
+    let a = first + sw[1] * t[0] + sw[2] * t[1] + sw[3] * t[2] + sw[4] * t[3] + sw[5] * t[4];
+    let b = a + sw[6] * t[5] + sw[7] * t[6] + sw[8] * t[7] + nine * t[8] + sw[10] * t[9];
+    b + sw[11] * t[10] + sw[12] * t[11] + sw[13] * t[12] + sw[14] * t[13]
 }
 
 // t[8] of glob7s.

@@ -1,43 +1,43 @@
 // The switch row as numbers: the Rust's tselec.
 ghost use mathlib.Core.Path.{_≡_};
 ghost use Prim.Native.Nat.{_<_};
-ghost use Rattle.setting.specs.Switches.{swAt, swcAt, flagsOf};
+ghost use lib.Ieee.{binary64, ofInt};
+ghost use Rattle.setting.specs.Switches.{given, isOne, aboveZero, onOff, flagsOf};
 use super::Flags;
 
-// The entry whose number goes to sw and swc as it is.
-const COPIED: usize = 9;
-
-// sw[i].
-pub fn sw_at(w: [i32; 24], i: usize) -> f64
+// The main effect of an entry other than 9: on only for the value 1.
+pub fn main_at(w: [i32; 24], i: usize) -> f64
     requires { ⌜ i < 24 ⌝ }
-    ensures { λ r. ⌜ r ≡ swAt w i ⌝ }
+    ensures { λ r. ⌜ r ≡ onOff (isOne (given w i)) ⌝ }
 {
     let x = w[i];
-    if i == COPIED {
-        return x as f64;
-    }
     if x == 1 {
         return 1.0;
     }
     0.0
 }
 
-// swc[i].
-pub fn swc_at(w: [i32; 24], i: usize) -> f64
+// The cross effect of an entry other than 9: on for any value above 0.
+pub fn cross_at(w: [i32; 24], i: usize) -> f64
     requires { ⌜ i < 24 ⌝ }
-    ensures { λ r. ⌜ r ≡ swcAt w i ⌝ }
+    ensures { λ r. ⌜ r ≡ onOff (aboveZero (given w i)) ⌝ }
 {
     let x = w[i];
-    if i == COPIED {
-        return x as f64;
-    }
     if x > 0 {
         return 1.0;
     }
     0.0
 }
 
-// The row as the main effects and the cross effects.
+// Entry 9, whose number goes to both as it is.
+pub fn nine_of(w: [i32; 24]) -> f64
+    ensures { λ r. ⌜ r ≡ ofInt binary64 (given w 9) ⌝ }
+{
+    let x = w[9];
+    x as f64
+}
+
+// The row as the main effects and the cross effects. The loop has no test on the entry, so that it runs on several entries at once.
 pub fn tselec(w: [i32; 24]) -> Flags
     ensures { λ r. ⌜ r ≡ flagsOf w ⌝ }
 {
@@ -45,9 +45,12 @@ pub fn tselec(w: [i32; 24]) -> Flags
     let mut swc = [0.0; 24];
     let mut i = 0;
     while i < 24 {
-        sw[i] = sw_at(w, i);
-        swc[i] = swc_at(w, i);
+        sw[i] = main_at(w, i);
+        swc[i] = cross_at(w, i);
         i += 1;
     }
+    let nine = nine_of(w);
+    sw[9] = nine;
+    swc[9] = nine;
     Flags { sw: sw, swc: swc }
 }

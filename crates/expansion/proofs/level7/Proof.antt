@@ -60,7 +60,7 @@ shared-slice-read-weighted : tie.Need-shared-slice-read-weighted
 shared-slice-read-weighted c = omega (arith, (c .before .before .before .before .before .before .before .before .before .before .before .before .before .before .before .before .before .before .before .before .pre .0))
 
 weighted-requires : tie.Need-weighted-requires
-weighted-requires c κs = search needs
+weighted-requires c κs = c .before .before .before .before .before .before .before .before .before .before .before .before .before .before .before .before .before .before .before .before .pre .1 .weights
 
 returns : tie.Need-returns
 returns c = let A = (c .before .before .before .before .before .before .before .before .before .before .before .before .before .before .before .before .before .before .before .before .before .args) in

@@ -56,7 +56,7 @@ t13s-requires : tie.Need-t13s-requires
 t13s-requires c κs = (c .before .before .before .before .before .before .before .before .before .before .before .before .before .before .before .before .before .before .pre .0)
 
 weighted-requires : tie.Need-weighted-requires
-weighted-requires c κs = search needs
+weighted-requires c κs = c .before .before .before .before .before .before .before .before .before .before .before .before .before .before .before .before .before .before .before .before .pre .1 .weights
 
 returns : tie.Need-returns
 returns c = let A = (c .before .before .before .before .before .before .before .before .before .before .before .before .before .before .before .before .before .before .before .before .before .args) in

@@ -1,29 +1,21 @@
 -- `pt_level` meets its contract.
+use Rattle.tables.specs.Tables.{ptT}
+use Rattle.levels.specs.Activities.{over}
 use borrow.Author.Needs.{needs}
 use Rattle.levels.proofs.pt_level.Statement.{statement}
 use Rattle.levels.proofs.pt_level.Tie as tie
 
-pt-requires : tie.Need-pt-requires
-pt-requires c κs = search needs
-
-slice-aggregate-wide : tie.Need-slice-aggregate-wide
-slice-aggregate-wide c = search needs
-
 wide-requires : tie.Need-wide-requires
-wide-requires c κs = search needs
+wide-requires c κs = (search needs, c .before .before .before .pre .0, over (c .before .before .before .args .v) _ ptT _ (c .before .before .before .pre .1) (c .before .pt .ensures))
 
 returns : tie.Need-returns
-returns c = simp ((c .before .before .before .if1 .taken)) (simp ((c .wide .ensures), (c .before .before .pt .ensures)))
+returns c = simp (c .before .before .before .if1 .taken) (simp (c .wide .ensures, c .before .before .pt .ensures))
 
 returns-2 : tie.Need-returns-2
-returns-2 c = simp ((c .if1 .left))
+returns-2 c = simp (c .if1 .left)
 
 pub pt-level-spec : {M : Type 1} → statement M
 pt-level-spec =
     tie.close
     (tie.spec
-    pt-requires
-    slice-aggregate-wide
-    wide-requires
-    returns
-    returns-2)
+    (λ c κs. search needs) (λ c. search needs) wide-requires returns returns-2)

@@ -1,23 +1,22 @@
 -- `wide` meets its contract.
+use mathlib.Core.Path.{_∙_, ap}
 use Rattle.levels.specs.Levels.{wideOf}
+use Rattle.levels.specs.Activities.{active-from}
+use Rattle.expansion.specs.Expansion.{level7Of}
+use Rattle.expansion.specs.declared.Carried.{Carried}
 use borrow.Author.Needs.{needs}
 use Rattle.levels.proofs.wide.Statement.{statement}
 use Rattle.levels.proofs.wide.Tie as tie
 
-active-requires : tie.Need-active-requires
-active-requires c κs = search needs
-
-level7-requires : tie.Need-level7-requires
-level7-requires c κs = search needs
-
 returns : tie.Need-returns
 unfolding wideOf
-returns c = simp (← (c .level7 .ensures), ← (c .before .active .ensures))
+returns c =
+    let A = c .before .before .before .before .before .args in
+    let k = c .before .before .before .before .before .pre in
+    c .level7 .ensures ∙ ap (level7Of (A .v) (A .p .now) (A .g)) (c .before .active .ensures ∙ active-from (A .v) (A .p .now) (A .c) (A .a) (k .2))
 
 pub wide-spec : {M : Type 1} → statement M
 wide-spec =
     tie.close
     (tie.spec
-    active-requires
-    level7-requires
-    returns)
+    (λ c. search needs) (λ c. search needs) (λ c κs. search needs) (λ c κs. search needs) returns)

@@ -3,25 +3,24 @@ use Prim.Native.Nat.{_+_, _-_, _≤_}
 use mathlib.Core.Path.{_≡_, refl, _∙_, sym}
 use borrow.Author.Needs.{needs}
 use lib.ListN.{length}
-use Rattle.setting.specs.Switches.{swAt, swcAt, swOf, swcOf, filled}
-use Rattle.setting.proofs.Fill.{filled-more, filled-done, flags-of}
+use Rattle.setting.specs.Switches.{filled}
+use Rattle.setting.proofs.Fill.{filled-more, filled-done, mainAt, crossAt, zeros, flags-of}
 use Rattle.setting.proofs.switches.tselec.Statement.{statement}
 use Rattle.setting.proofs.switches.tselec.Tie as tie
 
 abbrev Inv-loop : tie.InvT-loop
 Inv-loop w sw₀ swc₀ i₀ sw swc i =
     (i ≤ 24) × (length sw ≡ 24) × (length swc ≡ 24) ×
-    (filled (24 - i) (swAt w) i sw ≡ swOf w) × (filled (24 - i) (swcAt w) i swc ≡ swcOf w)
+    (filled (24 - i) (mainAt w) i sw ≡ filled 24 (mainAt w) 0 zeros) × (filled (24 - i) (crossAt w) i swc ≡ filled 24 (crossAt w) 0 zeros)
 
 abbrev μ-loop : tie.MeasureT-loop
 μ-loop w sw₀ swc₀ i₀ sw swc i = 24 - i
 
 loop-holds : tie.Need-loop-holds Inv-loop μ-loop
-unfolding swOf swcOf
 loop-holds c = (search needs, refl, refl, refl, refl)
 
-sw-at-requires : tie.Need-sw-at-requires Inv-loop μ-loop
-sw-at-requires c κs = search needs
+main-at-requires : tie.Need-main-at-requires Inv-loop μ-loop
+main-at-requires c κs = search needs
 
 mul-sw : tie.Need-mul-sw Inv-loop μ-loop
 mul-sw c = search needs
@@ -29,8 +28,8 @@ mul-sw c = search needs
 array-write-sw : tie.Need-array-write-sw Inv-loop μ-loop
 array-write-sw c = search needs
 
-swc-at-requires : tie.Need-swc-at-requires Inv-loop μ-loop
-swc-at-requires c κs = search needs
+cross-at-requires : tie.Need-cross-at-requires Inv-loop μ-loop
+cross-at-requires c κs = search needs
 
 mul-swc : tie.Need-mul-swc Inv-loop μ-loop
 mul-swc c = search needs
@@ -51,17 +50,27 @@ loop-again c =
       search needs,
       search needs,
       search needs,
-      rw (c .before .sw-at .ensures) (filled-more 24 (swAt w) (l .i) (l .sw) (search needs) ∙ l .inv .3),
-      rw (c .swc-at .ensures) (filled-more 24 (swcAt w) (l .i) (l .swc) (search needs) ∙ l .inv .4),
+      rw (c .before .main-at .ensures) (filled-more 24 (mainAt w) (l .i) (l .sw) (search needs) ∙ l .inv .3),
+      rw (c .cross-at .ensures) (filled-more 24 (crossAt w) (l .i) (l .swc) (search needs) ∙ l .inv .4),
     )
+
+nine-of-requires : tie.Need-nine-of-requires Inv-loop μ-loop
+nine-of-requires c κs = search needs
+
+array-write-sw-2 : tie.Need-array-write-sw-2 Inv-loop μ-loop
+array-write-sw-2 c = search needs
+
+array-write-swc-2 : tie.Need-array-write-swc-2 Inv-loop μ-loop
+array-write-swc-2 c = search needs
 
 returns : tie.Need-returns Inv-loop μ-loop
 returns c =
-    let l = c .before .loop in
-    let w = c .before .before .args .w in
-    flags-of w (l .sw) (l .swc)
-    (sym (filled-done 24 (swAt w) (l .i) (l .sw) (search needs)) ∙ l .inv .3)
-    (sym (filled-done 24 (swcAt w) (l .i) (l .swc) (search needs)) ∙ l .inv .4)
+    let l = c .before .before .loop in
+    let w = c .before .before .before .args .w in
+    flags-of w (l .sw) (l .swc) (c .nine-of .result)
+    (sym (filled-done 24 (mainAt w) (l .i) (l .sw) (search needs)) ∙ l .inv .3)
+    (sym (filled-done 24 (crossAt w) (l .i) (l .swc) (search needs)) ∙ l .inv .4)
+    (c .nine-of .ensures)
 
 pub tselec-spec : {M : Type 1} → statement M
 tselec-spec =
@@ -70,13 +79,16 @@ tselec-spec =
     Inv-loop
     μ-loop
     loop-holds
-    sw-at-requires
+    main-at-requires
     mul-sw
     array-write-sw
-    swc-at-requires
+    cross-at-requires
     mul-swc
     array-write-swc
     add-i
     loop-less
     loop-again
+    nine-of-requires
+    array-write-sw-2
+    array-write-swc-2
     returns)
