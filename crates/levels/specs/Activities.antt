@@ -12,7 +12,8 @@ use Rattle.activity.specs.Activity.{apdfFromOf, apdfNextOf, aptNextOf, exp1Of}
 use Rattle.activity.specs.Responses.{responsesOf, sg0From, aptFrom, apt-from}
 use Rattle.expansion.specs.declared.Carried.{Carried}
 use Rattle.levels.specs.declared.Activity.{Activity}
-use Rattle.levels.specs.Levels.{activeOf}
+use Rattle.expansion.specs.Expansion.{level7Of}
+use Rattle.levels.specs.Levels.{activeOf, wideOf}
 
 abbrev pub noResponses : Responses
 noResponses = record { g1 = 0·0; g2 = 0·0; g3 = 0·0; g4 = 0·0; g5 = 0·0; g6 = 0·0 }
@@ -67,6 +68,13 @@ active-from v p c a e =
 -- an activity is that of a set which is this table
 pub over : (v : View) (a : Activity) (t p : List Float) → a ≡ activityIn v t → p ≡ t → a ≡ activityIn v p
 over v a t p e f = e ∙ ap (λ (q : List Float). activityIn v q) (sym f)
+
+-- globe7 over a set t, from an activity that is its own: p and q are t, lent and read
+pub wide-from : (v : View) (g : List (List Float)) (c b : Carried) (a : Activity) (t p q : List Float)
+    → b ≡ activeFrom v a (q ‼ 51) (q ‼ 138) c → p ≡ t → q ≡ t → a ≡ activityIn v t → level7Of v p g b ≡ wideOf v g c t
+unfolding wideOf
+wide-from v g c b a t p q e f h k =
+    ap₂ (λ (r : List Float) (x : Carried). level7Of v r g x) f (e ∙ ap (λ (r : List Float). activeFrom v a (r ‼ 51) (r ‼ 138) c) h ∙ active-from v t c a k)
 
 -- ---- the sets that have PT's
 

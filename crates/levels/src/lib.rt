@@ -181,22 +181,14 @@ pub fn active(v: View, a: Activity, p51: f64, p138: f64, c: Carried) -> Carried
     out
 }
 
-// globe7 over a set of the activity a.
-pub fn wide(v: View, g: [[f64; 9]; 4], c: Carried, a: Activity, p: &[f64]) -> f64
-    requires { ⌜ (length (now p) ≡ 150) × Shared v × (a ≡ activityIn v (now p)) ⌝ }
-    ensures { λ r. ⌜ r ≡ wideOf v g c (now (p .entry)) ⌝ }
-{
-    let b = active(v, a, p[51], p[138], c);
-    level7(v, p, g, b)
-}
-
 pub fn pt_level(v: View, g: [[f64; 9]; 4], c: Carried, a: Activity, on: bool) -> f64
     requires { ⌜ Shared v × (a ≡ activityIn v ptT) ⌝ }
     ensures { λ r. ⌜ r ≡ cond on (wideOf v g c ptT) 0·0 ⌝ }
 {
     if on {
         let p = pt();
-        return wide(v, g, c, a, &p);
+        let b = active(v, a, p[51], p[138], c);
+        return level7(v, &p, g, b);
     }
     0.0
 }
@@ -207,7 +199,8 @@ pub fn ps_level(v: View, g: [[f64; 9]; 4], c: Carried, a: Activity, on: bool) ->
 {
     if on {
         let p = ps();
-        return wide(v, g, c, a, &p);
+        let b = active(v, a, p[51], p[138], c);
+        return level7(v, &p, g, b);
     }
     0.0
 }
@@ -233,12 +226,18 @@ pub fn light(v: View, g: [[f64; 9]; 4], c: Carried, a: Activity) -> [f64; 3]
 {
     let a0 = activity0(v);
     let a1 = activity1(v);
+    let q0 = pd0();
+    let c0 = active(v, a0, q0[51], q0[138], c);
+    let q1 = pd1();
+    let c1 = active(v, a1, q1[51], q1[138], c);
+    let q2 = pd2();
+    let c2 = active(v, a, q2[51], q2[138], c);
     let mut p = pd0();
-    let x = wide(v, g, c, a0, &p);
+    let x = level7(v, &p, g, c0);
     p = pd1();
-    let y = wide(v, g, c, a1, &p);
+    let y = level7(v, &p, g, c1);
     p = pd2();
-    let z = wide(v, g, c, a, &p);
+    let z = level7(v, &p, g, c2);
     [x, y, z]
 }
 
@@ -247,12 +246,18 @@ pub fn heavy(v: View, g: [[f64; 9]; 4], c: Carried, a: Activity) -> [f64; 3]
     requires { ⌜ Shared v × (a ≡ activityIn v ptT) ⌝ }
     ensures { λ r. ⌜ r ≡ heavyOf v g c ⌝ }
 {
+    let q4 = pd4();
+    let c4 = active(v, a, q4[51], q4[138], c);
+    let q5 = pd5();
+    let c5 = active(v, a, q5[51], q5[138], c);
+    let q6 = pd6();
+    let c6 = active(v, a, q6[51], q6[138], c);
     let mut p = pd4();
-    let x = wide(v, g, c, a, &p);
+    let x = level7(v, &p, g, c4);
     p = pd5();
-    let y = wide(v, g, c, a, &p);
+    let y = level7(v, &p, g, c5);
     p = pd6();
-    let z = wide(v, g, c, a, &p);
+    let z = level7(v, &p, g, c6);
     [x, y, z]
 }
 
