@@ -21,11 +21,16 @@ struct Case {
     column: [f64; COLUMN],
 }
 
-// One record with all switches on or with a random row, and a column within 10 km of its altitude.
-fn case(g: &mut Random, alt: f64, all_on: bool) -> Case {
+// The kinds of switch rows: all on with the daily ap, all on with the history, random entries from -2 to 3.
+const KINDS: [&str; 3] = ["all on", "all on, 9 at -1", "random"];
+
+// One record with a row of a kind, and a column within 10 km of its altitude.
+fn case(g: &mut Random, alt: f64, kind: usize) -> Case {
     let mut row = [1; 24];
-    if !all_on {
-        row.iter_mut().for_each(|x| *x = g.below(6) as i32 - 2);
+    match kind {
+        0 => (),
+        1 => row[9] = -1,
+        _ => row.iter_mut().for_each(|x| *x = g.below(6) as i32 - 2),
     }
     let history = std::array::from_fn(|_| g.between(0.0, 200.0));
     let input = Input {
@@ -47,9 +52,9 @@ fn case(g: &mut Random, alt: f64, all_on: bool) -> Case {
 }
 
 // The cases of one altitude and one kind of row.
-fn cases(alt: usize, all_on: bool, records: usize) -> Vec<Case> {
-    let mut g = Random(2 * alt as u64 + all_on as u64);
-    (0..records).map(|_| case(&mut g, ALTITUDES[alt], all_on)).collect()
+fn cases(alt: usize, kind: usize, records: usize) -> Vec<Case> {
+    let mut g = Random((KINDS.len() * alt + kind) as u64);
+    (0..records).map(|_| case(&mut g, ALTITUDES[alt], kind)).collect()
 }
 
 fn rust(input: &Input, flags: &Flags) -> f64 {
@@ -78,8 +83,8 @@ fn counted(f: impl FnOnce() -> f64) {
 fn count(records: usize) {
     counted(|| black_box(0.0));
     for alt in 0..ALTITUDES.len() {
-        for all_on in [true, false] {
-            for c in cases(alt, all_on, records) {
+        for kind in 0..KINDS.len() {
+            for c in cases(alt, kind, records) {
                 let mut row = [0.0; 11];
                 counted(|| {
                     assert_eq!(ours(&c.input, &c.row, &mut row), (0, 0));
@@ -132,7 +137,7 @@ fn table(records: usize, path: &str) {
     };
     let mut lines = [String::new(), String::new()];
     for alt in ALTITUDES {
-        for rows in ["all on", "random"] {
+        for rows in KINDS {
             let mut counts = [Vec::new(), Vec::new(), Vec::new(), Vec::new()];
             for _ in 0..records {
                 for (k, xs) in counts.iter_mut().enumerate() {
@@ -207,8 +212,8 @@ fn stack(records: usize) {
     for (name, f) in calls {
         let mut most = 0;
         for alt in 0..ALTITUDES.len() {
-            for all_on in [true, false] {
-                for c in cases(alt, all_on, records) {
+            for kind in 0..KINDS.len() {
+                for c in cases(alt, kind, records) {
                     let mut h = Held { case: &c, row: [0.0; 11], rows: [0.0; 11 * COLUMN], value: 0.0 };
                     most = most.max(depth(f, &mut h as *mut Held as *mut u8));
                 }

@@ -1,4 +1,5 @@
-/* What libhost.a offers: NRLMSISE-00 at one altitude and at a column of them, and the elementary functions it is built on. */
+/* What libhost.a offers: NRLMSISE-00 at one altitude and at a column of them, and the elementary functions it is built on.
+   Nothing is kept between calls; only memcpy and memset are needed from outside. docs/RULES.md has every rule. */
 #ifndef POTIREHU_H
 #define POTIREHU_H
 
@@ -9,15 +10,30 @@
 extern "C" {
 #endif
 
-/* The air at one altitude. fields: sec, alt (km), g_lat, g_long (degrees), lst (hours), f107a, f107, ap; ap_array: none or seven;
-   switches: 24. Answers 0 and writes d[0] to d[8], t[0], t[1] into row, or answers a refusal's number times 2^32 plus its place and leaves
-   row as it was. A row, fields, ap_array or switches of another length is refused with 4 and the length needed, in this order. */
+/* The air at one altitude.
+     year      read by nothing
+     doy       day of the year, 1 to 366
+     fields    8: sec (UT, 0 to 86400), alt (km, 0 to 2500), g_lat (degrees, -90 to 90), g_long (degrees east, -1000 to 1000),
+               lst (hours, -24 to 48; sec / 3600 + g_long / 15 where nothing else is known), f107a (81-day mean) and f107 (day before),
+               0 to 1000, ap (daily, 0 to 400)
+     ap_array  0 values, or the magnetic history of 7 (daily ap; 3-hour ap now, 3, 6, 9 hours before; means of 12 to 33 and 36 to 57 hours
+               before), 0 to 400 each; NULL will do for 0 values
+     switches  24: 1 on, 0 off, 2 main effect off and cross effect on; entry 0: m and kg; entry 9: 1 daily ap, -1 history, 0 neither
+     row       11: He, O, N2, O2, Ar, mass density, H, N, anomalous O, exospheric temperature, temperature
+   Answers 0 and writes the row, or answers a refusal's number times 2^32 plus its place and leaves row as it was:
+     4 at the length needed, a row, fields, ap_array or switches of another length, in this order;
+     2 at the lowest field that is NaN or infinite (0 year, 1 doy, 2 sec, 3 alt, 4 g_lat, 5 g_long, 6 lst, 7 f107a, 8 f107, 9 ap, 10 to 16
+       the history);
+     1 at 10, switch 9 is -1 and the history is absent;
+     3 at the lowest field that is out of range.
+   A field that the switches shut off must still be finite and in range: write 0. An accepted row can hold NaN: below 72.5 km where switch 15
+   is not 1, and at exactly 32.5 km. */
 uint64_t potirehu_gtd7(int32_t year, int32_t doy, const double *fields, size_t n_fields, const double *ap_array, size_t n_ap,
                        const int32_t *switches, size_t n_switches, double *row, size_t n_row);
 
-/* The same at n altitudes, 0 to 512, the record's own altitude not looked at: each altitude's eleven numbers go into their own part of rows,
-   and what lies behind them stays. More than 512 altitudes are refused with 5 at 512, a buffer shorter than 11 n with 4 and that length, an
-   altitude with 2 or 3 at 17 plus its index. */
+/* The same at n altitudes (km), 0 to 512 of them, the record's own altitude not looked at: each altitude's eleven numbers go into their own
+   part of rows, and what lies behind them stays. After the lengths of fields, ap_array and switches: 5 at 512 for more than 512 altitudes;
+   4 at 11 n for a shorter buffer; the record as above; each altitude 2, else 3, at 17 plus its index. */
 uint64_t potirehu_gtd7_column(int32_t year, int32_t doy, const double *fields, size_t n_fields, const double *ap_array, size_t n_ap,
                               const int32_t *switches, size_t n_switches, const double *altitudes, size_t n, double *rows, size_t n_rows);
 

@@ -60,13 +60,13 @@ impl Random {
     }
 }
 
-const EDGES: [f64; 20] =
-    [0.0, 10.0, 15.0, 20.0, 32.5, 45.0, 55.0, 62.5, 72.5, 90.0, 100.0, 110.0, 120.0, 123.435, 160.0, 200.0, 240.0, 250.0, 300.0, 450.0];
+const EDGES: [f64; 21] =
+    [0.0, 10.0, 15.0, 20.0, 32.5, 45.0, 55.0, 62.5, 72.5, 90.0, 100.0, 110.0, 120.0, 123.435, 160.0, 200.0, 240.0, 250.0, 300.0, 320.0, 450.0];
 
 fn altitude(g: &mut Random) -> f64 {
     match g.below(6) {
         0 => {
-            let z = EDGES[g.below(20) as usize];
+            let z = EDGES[g.below(EDGES.len() as u64) as usize];
             match g.below(3) {
                 0 => z,
                 1 => f64::from_bits(z.to_bits() + 1),
