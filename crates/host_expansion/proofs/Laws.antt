@@ -2,7 +2,7 @@
 use Prim.Native.Nat.{ℕ, zero, suc, _+_, _<_}
 use mathlib.Core.Path.{_≡_, refl, sym, ap, _∙_}
 use mathlib.Core.List.{List}
-use native.Mathlib.Nat.{not-lt-zero, lt-of-suc-lt-suc}
+use native.Mathlib.Nat.{suc-add, not-suc-le-zero, le-of-suc-le-suc}
 use borrow.Author.Tests.{eq-eqb, ne-eqb}
 use lib.ListN.{length, getD}
 use lib.Ieee.{Float, nan}
@@ -19,11 +19,11 @@ unfolding entriesOf
 entries-length zero e k = refl
 entries-length (suc m) e k = ap suc (entries-length m e (suc k))
 
-entries-at : (m : ℕ) (e : Expanded) (k i : ℕ) → i < m → getD (entriesOf m e k) i nan ≡ entryOf e (k + i)
+pub entries-at : (m : ℕ) (e : Expanded) (k i : ℕ) → i < m → getD (entriesOf m e k) i nan ≡ entryOf e (k + i)
 unfolding entriesOf
-entries-at zero e k i h = absurd (not-lt-zero h)
+entries-at zero e k i h = absurd (not-suc-le-zero h)
 entries-at (suc m) e k zero h = refl
-entries-at (suc m) e k (suc i) h = entries-at m e (suc k) i (lt-of-suc-lt-suc h)
+entries-at (suc m) e k (suc i) h = entries-at m e (suc k) i (le-of-suc-le-suc h) ∙ ap (entryOf e) (suc-add k i)
 
 -- ---- the answer
 

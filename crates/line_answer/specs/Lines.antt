@@ -37,10 +37,6 @@ pub record Progress : Type 0 where
   pub number : ℕ
   pub printed : List ℕ
 
--- before the input
-abbrev pub startOf : Place
-startOf = record { len = 0; number = 1; used = 0 }
-
 -- where it stands before a chunk: nothing printed yet
 abbrev pub begin : List ℕ → ℕ → Progress
 begin kept number = record { kept = kept; number = number; printed = [] }

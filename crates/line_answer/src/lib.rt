@@ -4,7 +4,7 @@ ghost use Prim.Native.Nat.{_+_, _*_, _≤_};
 ghost use lib.ListN.{length, take};
 ghost use Rattle.line_text.specs.Text.{Writes};
 ghost use Rattle.line_answer.specs.Answer.{dnetValue, ccorValue, outcomeText, runAnswer, answerText};
-ghost use Rattle.line_answer.specs.Lines.{afterOf, startOf, progressOf, stepOf, fedOf, lenAfter, lineStep, lineAfter, KeptBehind, lastOf, begin};
+ghost use Rattle.line_answer.specs.Lines.{afterOf, progressOf, stepOf, fedOf, lenAfter, lineStep, lineAfter, KeptBehind, lastOf, begin};
 use acceptance::Answer;
 use atmosphere::gtd7;
 use line_form::Reading;
@@ -135,7 +135,7 @@ pub fn take_byte(b: u8, line: &mut [u8], out: &mut [u8], p: Place) -> Place
 
 // Before the input.
 pub fn start() -> Place
-    ensures { λ r. ⌜ r ≡ startOf ⌝ }
+    ensures { λ r. ⌜ (r .len ≡ 0) × (r .number ≡ 1) × (r .used ≡ 0) ⌝ }
 {
     Place {
         len: 0,

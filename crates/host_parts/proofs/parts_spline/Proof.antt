@@ -1,0 +1,38 @@
+-- `parts_spline` meets its contract.
+use mathlib.Core.Path.{ap, _∙_}
+use Rattle.host_parts.specs.Parts.{codeOf}
+use Rattle.host_parts.proofs.Told.{write-code}
+use borrow.Author.Needs.{needs}
+use Rattle.host_parts.proofs.parts_spline.Statement.{statement}
+use Rattle.host_parts.proofs.parts_spline.Tie as tie
+
+spline-requires : tie.Need-spline-requires
+spline-requires c κs = search needs
+
+write-refusal-requires : tie.Need-write-refusal-requires
+write-refusal-requires c κs = search needs
+
+write-place-requires : tie.Need-write-place-requires
+write-place-requires c κs = search needs
+
+packed-requires : tie.Need-packed-requires
+packed-requires c κs = search needs
+
+same-length : tie.Need-same-length
+same-length c = search needs
+
+returns : tie.Need-returns
+returns c =
+    let s = c .before .before .before .before .before .spline in
+    (c .packed .ensures ∙ write-code (s .result) _ _ _ (c .before .before .write-refusal .ensures) (c .before .write-place .ensures) ∙ ap codeOf (s .ensures .0), s .ensures .1)
+
+pub parts-spline-spec : {M : Type 1} → statement M
+parts-spline-spec =
+    tie.close
+    (tie.spec
+    spline-requires
+    write-refusal-requires
+    write-place-requires
+    packed-requires
+    same-length
+    returns)
