@@ -64,8 +64,7 @@ module _ (d F : ℕ) (A O : List ℕ) (lA : length A ≡ suc d) (lO : length O �
       let lowA = moved-low D E m n r (pow-pos 58) p e l h A d lA in
       let lowO = moved-low D E m n r (pow-pos 58) p e l h O d lO in
       let topA = subst (λ (z : ℕ). D * (D ^ d * ZA) ≤ D * (E ^ d * zA) + rank A * z) c (moved-high D E m n r (pow-pos 58) p e l h A d lA) in
-      let topO = subst (λ (z : ℕ). D * (D ^ d * ZO) ≤ D * (E ^ d * zO) + rank O * z) c (moved-high D E m n r (pow-pos 58) p e l h O d lO) in
-      (
+      let topO = subst (λ (z : ℕ). D * (D ^ d * ZO) ≤ D * (E ^ d * zO) + rank O * z) c (moved-high D E m n r (pow-pos 58) p e l h O d lO) in (
         divide-up ZA ZO q (F * E ^ d) (le-of-mul-le-mul-left (finish-up D F (D ^ d) (E ^ d) K q B zA zO ZA ZO (rank A) (k .0) topA lowO rA (omega arith) w) (pow-positive D d (pow-pos 58))),
         divide-low ZA ZO q (F * E ^ d) (le-of-mul-le-mul-left (finish-low D F (D ^ d) (E ^ d) K q B zA zO ZA ZO (rank O) (k .1) topO lowA rO (omega arith) w) (pow-positive D d (pow-pos 58))),
       )

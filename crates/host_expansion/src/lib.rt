@@ -101,9 +101,15 @@ pub fn state_of(x: &[f64]) -> State
 }
 
 // The length that the first slice without its length needs, 0 where all have theirs.
-pub fn misfit(numbers: usize, fields: usize, ap_array: usize, switches: usize, state: usize) -> usize
+pub fn misfit(
+    numbers: usize,
+    fields: usize,
+    ap_array: usize,
+    switches: usize,
+    state: usize,
+) -> usize
     ensures { λ r. ⌜ r ≡ misfitOf numbers fields «ap_array» switches state ⌝ }
-    ensures { λ r. ⌜ r ≡ 0 → (numbers ≡ 79) × (fields ≡ 8) × (switches ≡ 24) × (state ≡ 78) ⌝ }
+    ensures { λ r. ⌜ (r ≡ 0 → (numbers ≡ 79) × (fields ≡ 8) × (switches ≡ 24) × (state ≡ 78)) ⌝ }
 {
     if numbers != 79 {
         return 79;

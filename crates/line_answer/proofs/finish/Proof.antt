@@ -23,8 +23,7 @@ same-length c = search needs
 returns-2 : tie.Need-returns-2
 returns-2 c =
     let call = c .before .before in
-    let test = call .before .before .before in
-    (
+    let test = call .before .before .before in (
       last-line _ _ _ (test .if1 .left) (search needs) _ _ _ (call .answer .ensures .0),
       omega (arith, call .answer .ensures .0 .1, call .answer .ensures .1),
       behind-written _ _ _ _ _ zero-le (call .answer .ensures .0),
