@@ -8,8 +8,6 @@ use lib.ListN.{length, getD}
 use lib.Ieee.{Float, nan}
 use Rattle.host.specs.Host.{packedOf}
 use Rattle.calls.specs.declared.Expanded.{Expanded}
-use Rattle.calls.specs.Calls.{refusedAt}
-use Rattle.setting.specs.State.{freshOf}
 use Rattle.host_expansion.specs.HostExpansion.{fittedOf, entryOf, entriesOf, numbersAfter, codeOf}
 
 -- ---- the numbers

@@ -6,25 +6,12 @@ use borrow.Author.Needs.{needs}
 use Rattle.host_parts.proofs.parts_densm.Statement.{statement}
 use Rattle.host_parts.proofs.parts_densm.Tie as tie
 
-packed-requires : tie.Need-packed-requires
-packed-requires c κs = search needs
-
 returns : tie.Need-returns
 returns c = no-room 2 (c .before .before .before .before .before .before .before .before .before .args .out .now) _ _ (c .before .if1 .taken) (c .packed .ensures)
-
-densm-requires : tie.Need-densm-requires
-densm-requires c κs = search needs
-
-tell-profile-requires : tie.Need-tell-profile-requires
-tell-profile-requires c κs = search needs
-
-same-length : tie.Need-same-length
-same-length c = search needs
 
 returns-2 : tie.Need-returns-2
 returns-2 c = room 2 (c .before .before .before .before .before .before .before .before .before .before .before .before .before .args .out .now) _ _ _ _ (c .before .before .before .before .before .if1 .left) (ap two (c .before .before .before .before .densm .ensures)) (c .before .before .tell-profile .ensures)
 
 pub parts-densm-spec : {M : Type 1} → statement M
 parts-densm-spec =
-    tie.close
-    (tie.spec packed-requires returns densm-requires tell-profile-requires same-length returns-2)
+    tie.close (tie.spec (λ c κs. search needs) returns (λ c κs. search needs) (λ c κs. search needs) (λ c. search needs) returns-2)

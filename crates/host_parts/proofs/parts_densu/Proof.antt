@@ -6,29 +6,11 @@ use borrow.Author.Needs.{needs}
 use Rattle.host_parts.proofs.parts_densu.Statement.{statement}
 use Rattle.host_parts.proofs.parts_densu.Tie as tie
 
-packed-requires : tie.Need-packed-requires
-packed-requires c κs = search needs
-
 returns : tie.Need-returns
 returns c =
     let A = c .before .before .before .before .before .before .args in
     let told = no-room 2 (A .out .now) _ _ (c .before .if1 .taken) (c .packed .ensures) in
     (told .0, (told .1, (kept-as-lent 2 (A .out .now) _ _ (c .before .if1 .taken), kept-as-lent 2 (A .out .now) _ _ (c .before .if1 .taken))))
-
-densu-requires : tie.Need-densu-requires
-densu-requires c κs = search needs
-
-tell-profile-requires : tie.Need-tell-profile-requires
-tell-profile-requires c κs = search needs
-
-same-length : tie.Need-same-length
-same-length c = search needs
-
-same-length-2 : tie.Need-same-length-2
-same-length-2 c = search needs
-
-same-length-3 : tie.Need-same-length-3
-same-length-3 c = search needs
 
 returns-2 : tie.Need-returns-2
 returns-2 c =
@@ -42,11 +24,11 @@ pub parts-densu-spec : {M : Type 1} → statement M
 parts-densu-spec =
     tie.close
     (tie.spec
-    packed-requires
+    (λ c κs. search needs)
     returns
-    densu-requires
-    tell-profile-requires
-    same-length
-    same-length-2
-    same-length-3
+    (λ c κs. search needs)
+    (λ c κs. search needs)
+    (λ c. search needs)
+    (λ c. search needs)
+    (λ c. search needs)
     returns-2)

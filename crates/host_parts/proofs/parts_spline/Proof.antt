@@ -6,21 +6,6 @@ use borrow.Author.Needs.{needs}
 use Rattle.host_parts.proofs.parts_spline.Statement.{statement}
 use Rattle.host_parts.proofs.parts_spline.Tie as tie
 
-spline-requires : tie.Need-spline-requires
-spline-requires c κs = search needs
-
-write-refusal-requires : tie.Need-write-refusal-requires
-write-refusal-requires c κs = search needs
-
-write-place-requires : tie.Need-write-place-requires
-write-place-requires c κs = search needs
-
-packed-requires : tie.Need-packed-requires
-packed-requires c κs = search needs
-
-same-length : tie.Need-same-length
-same-length c = search needs
-
 returns : tie.Need-returns
 returns c =
     let s = c .before .before .before .before .before .spline in
@@ -28,11 +13,4 @@ returns c =
 
 pub parts-spline-spec : {M : Type 1} → statement M
 parts-spline-spec =
-    tie.close
-    (tie.spec
-    spline-requires
-    write-refusal-requires
-    write-place-requires
-    packed-requires
-    same-length
-    returns)
+    tie.close (tie.spec (λ c κs. search needs) (λ c κs. search needs) (λ c κs. search needs) (λ c κs. search needs) (λ c. search needs) returns)
