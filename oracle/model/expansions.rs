@@ -3,7 +3,7 @@
 use super::{numbers, record, row_of, same, set_field, spoiled, to_routed, Input, Random};
 use routed::astro::atmosphere::shim;
 
-type Code = unsafe extern "C" fn(
+type Call = unsafe extern "C" fn(
     i32,
     i32,
     *const f64,
@@ -15,29 +15,16 @@ type Code = unsafe extern "C" fn(
     *const f64,
     usize,
     *const f64,
+    usize,
+    *mut f64,
     usize,
 ) -> u64;
-type Number = unsafe extern "C" fn(
-    i32,
-    i32,
-    *const f64,
-    usize,
-    *const f64,
-    usize,
-    *const i32,
-    usize,
-    *const f64,
-    usize,
-    *const f64,
-    usize,
-    usize,
-) -> f64;
 
-// A call's refusal, packed, and its numbers one by one.
+// A call: its value and the State after it go into numbers, the refusal comes back packed.
 macro_rules! exported {
-    ($code:ident, $number:ident) => {
+    ($call:ident) => {
         extern "C" {
-            fn $code(
+            fn $call(
                 year: i32,
                 doy: i32,
                 fields: *const f64,
@@ -50,67 +37,60 @@ macro_rules! exported {
                 n_p: usize,
                 state: *const f64,
                 n_state: usize,
+                numbers: *mut f64,
+                n_numbers: usize,
             ) -> u64;
-            fn $number(
-                year: i32,
-                doy: i32,
-                fields: *const f64,
-                n_fields: usize,
-                ap_array: *const f64,
-                n_ap: usize,
-                switches: *const i32,
-                n_switches: usize,
-                p: *const f64,
-                n_p: usize,
-                state: *const f64,
-                n_state: usize,
-                k: usize,
-            ) -> f64;
         }
     };
 }
-exported!(globe7_code, globe7_number);
-exported!(glob7s_code, glob7s_number);
+exported!(expansion_globe7);
+exported!(expansion_glob7s);
 
 type State = [f64; shim::STATE];
 
-// What a call gives: the refusal with its place, the value, the State.
+// What a call gives: the refusal with its place, the value, the State; after a refusal what the lent slice held.
 struct Given {
     answer: (u64, u64),
     numbers: [f64; 1 + shim::STATE],
 }
 
-fn ours(code: Code, number: Number, r: &Input, w: &[i32; 24], p: &[f64], s: &State) -> Given {
+const LENT: [f64; 1 + shim::STATE] = [7.5; 1 + shim::STATE];
+
+fn ours(call: Call, r: &Input, w: &[i32; 24], p: &[f64], s: &State) -> Given {
     let (f, ap, n_ap) = numbers(r);
-    let c = unsafe { code(r.year, r.doy, f.as_ptr(), 8, ap.as_ptr(), n_ap, w.as_ptr(), 24, p.as_ptr(), p.len(), s.as_ptr(), s.len()) };
-    let at = |k| unsafe {
-        number(r.year, r.doy, f.as_ptr(), 8, ap.as_ptr(), n_ap, w.as_ptr(), 24, p.as_ptr(), p.len(), s.as_ptr(), s.len(), k)
+    let mut out = LENT;
+    let c = unsafe {
+        call(r.year, r.doy, f.as_ptr(), 8, ap.as_ptr(), n_ap, w.as_ptr(), 24, p.as_ptr(), p.len(), s.as_ptr(), s.len(), out.as_mut_ptr(), out.len())
     };
-    Given { answer: (c >> 32, c & 0xffff_ffff), numbers: std::array::from_fn(at) }
+    Given { answer: (c >> 32, c & 0xffff_ffff), numbers: out }
 }
 
-fn given(answer: (u64, u64), value: f64, s: &State) -> Given {
+fn refused(answer: (u64, u64)) -> Given {
+    Given { answer, numbers: LENT }
+}
+
+fn given(value: f64, s: &State) -> Given {
     let mut numbers = [value; 1 + shim::STATE];
     numbers[1..].copy_from_slice(s);
-    Given { answer, numbers }
+    Given { answer: (0, 0), numbers }
 }
 
 fn want_globe7(r: &Input, w: &[i32; 24], p: &[f64], s: &State) -> Given {
     if p.len() != 150 {
-        given((6, 150), 0.0, s)
+        refused((6, 150))
     } else if w[9] == -1 && r.ap_array.is_none() {
-        given((1, 10), 0.0, s)
+        refused((1, 10))
     } else {
         let (value, after) = shim::globe7(s, p, &to_routed(r), *w);
-        given((0, 0), value, &after)
+        given(value, &after)
     }
 }
 
 fn want_glob7s(r: &Input, w: &[i32; 24], p: &[f64], s: &State) -> Given {
     if p.len() < 100 || 150 < p.len() {
-        given((6, 100), 0.0, s)
+        refused((6, 100))
     } else {
-        given((0, 0), shim::glob7s(s, p, &to_routed(r), *w), s)
+        given(shim::glob7s(s, p, &to_routed(r), *w), s)
     }
 }
 
@@ -188,7 +168,7 @@ fn compare(
     g: &mut Random,
     count: u64,
     length: u64,
-    calls: (Code, Number),
+    call: Call,
     want: fn(&Input, &[i32; 24], &[f64], &State) -> Given,
 ) -> u64 {
     let sets = shim::sets();
@@ -205,7 +185,7 @@ fn compare(
         let p = coefficients(g, &sets, length);
         // a State of any kind, or the one that the call before left
         let s = if g.below(3) == 0 { last } else { state(g) };
-        let have = ours(calls.0, calls.1, &r, &w, &p, &s);
+        let have = ours(call, &r, &w, &p, &s);
         let want = want(&r, &w, &p, &s);
         match want.answer.0 {
             0 => accepted += 1,
@@ -213,7 +193,9 @@ fn compare(
             _ => six += 1,
         }
         nan += want.numbers[0].is_nan() as u64;
-        last.copy_from_slice(&want.numbers[1..]);
+        if want.answer == (0, 0) {
+            last.copy_from_slice(&want.numbers[1..]);
+        }
         if have.answer != want.answer || !have.numbers.iter().zip(&want.numbers).all(|(a, b)| same(*a, *b)) {
             bad += 1;
             if bad <= 3 {
@@ -226,6 +208,38 @@ fn compare(
     bad
 }
 
+// A slice that has not its length is refused with 4 and the length needed: the lent one, the fields, the array, the switches, the State.
+fn lengths(g: &mut Random, count: u64) -> u64 {
+    let (f, w) = ([1.0; 100], [1; 30]);
+    let mut bad = 0;
+    for i in 0..count {
+        let mut n = |right: usize, most: u64| if g.below(3) > 0 { right } else { g.below(most) as usize };
+        let (n_numbers, n_fields, n_ap, n_switches, n_state) = (n(79, 100), n(8, 10), n(7, 10), n(24, 30), n(78, 100));
+        let want = if n_numbers != 79 {
+            79
+        } else if n_fields != 8 {
+            8
+        } else if n_ap != 0 && n_ap != 7 {
+            7
+        } else if n_switches != 24 {
+            24
+        } else if n_state != 78 {
+            78
+        } else {
+            0
+        };
+        let mut out = [7.5; 100];
+        let call = if i % 2 == 0 { expansion_globe7 } else { expansion_glob7s };
+        let p = f.as_ptr();
+        let have = unsafe { call(1, 1, p, n_fields, p, n_ap, w.as_ptr(), n_switches, p, 0, p, n_state, out.as_mut_ptr(), n_numbers) };
+        // with lengths that fit, no coefficients are refused with 6
+        let want = if want == 0 { 6 << 32 | (if i % 2 == 0 { 150 } else { 100 }) } else { 4 << 32 | want };
+        bad += (have != want || out != [7.5; 100]) as u64;
+    }
+    println!("lengths of slices: {count} calls, {bad} differences");
+    bad
+}
+
 pub fn expansions(g: &mut Random, count: u64) -> u64 {
-    compare("globe7", g, count, 150, (globe7_code, globe7_number), want_globe7) + compare("glob7s", g, count, 100, (glob7s_code, glob7s_number), want_glob7s)
+    lengths(g, count) + compare("globe7", g, count, 150, expansion_globe7, want_globe7) + compare("glob7s", g, count, 100, expansion_glob7s, want_glob7s)
 }

@@ -9,13 +9,11 @@ mod ours {
         pub fn parts_re(lat: f64) -> f64;
         pub fn parts_zeta(re: f64, zz: f64, zl: f64) -> f64;
         pub fn parts_scalh(gsurf: f64, re: f64, alt: f64, xm: f64, temp: f64) -> f64;
-        pub fn parts_splini(xa: *const f64, nxa: usize, ya: *const f64, nya: usize, y2a: *const f64, ny2a: usize, n: usize, x: f64) -> f64;
-        pub fn parts_splint(xa: *const f64, nxa: usize, ya: *const f64, nya: usize, y2a: *const f64, ny2a: usize, n: usize, x: f64) -> f64;
+        pub fn parts_splini(xa: *const f64, nxa: usize, ya: *const f64, nya: usize, y2a: *const f64, ny2a: usize, n: usize, x: f64, out: *mut f64, n_out: usize) -> u64;
+        pub fn parts_splint(xa: *const f64, nxa: usize, ya: *const f64, nya: usize, y2a: *const f64, ny2a: usize, n: usize, x: f64, out: *mut f64, n_out: usize) -> u64;
         pub fn parts_spline(x: *const f64, nx: usize, y: *const f64, ny: usize, n: usize, yp1: f64, ypn: f64, y2: *mut f64, ny2: usize) -> u64;
-        pub fn parts_densm(gsurf: f64, re: f64, alt: f64, d0: f64, xm: f64, tz: f64, mn3: usize, zn3: *const f64, nzn3: usize, tn3: *const f64, ntn3: usize, tgn3: *const f64, ntgn3: usize, mn2: usize, zn2: *const f64, nzn2: usize, tn2: *const f64, ntn2: usize, tgn2: *const f64, ntgn2: usize) -> f64;
-        pub fn parts_densm_tz(gsurf: f64, re: f64, alt: f64, d0: f64, xm: f64, tz: f64, mn3: usize, zn3: *const f64, nzn3: usize, tn3: *const f64, ntn3: usize, tgn3: *const f64, ntgn3: usize, mn2: usize, zn2: *const f64, nzn2: usize, tn2: *const f64, ntn2: usize, tgn2: *const f64, ntgn2: usize) -> f64;
-        pub fn parts_densu(gsurf: f64, re: f64, alt: f64, dlb: f64, tinf: f64, tlb: f64, xm: f64, alpha: f64, tz: f64, zlb: f64, s2: f64, mn1: usize, zn1: *const f64, nzn1: usize, tn1: *mut f64, ntn1: usize, tgn1: *mut f64, ntgn1: usize) -> f64;
-        pub fn parts_densu_tz(gsurf: f64, re: f64, alt: f64, dlb: f64, tinf: f64, tlb: f64, xm: f64, alpha: f64, tz: f64, zlb: f64, s2: f64, mn1: usize, zn1: *const f64, nzn1: usize, tn1: *mut f64, ntn1: usize, tgn1: *mut f64, ntgn1: usize) -> f64;
+        pub fn parts_densm(gsurf: f64, re: f64, alt: f64, d0: f64, xm: f64, tz: f64, mn3: usize, zn3: *const f64, nzn3: usize, tn3: *const f64, ntn3: usize, tgn3: *const f64, ntgn3: usize, mn2: usize, zn2: *const f64, nzn2: usize, tn2: *const f64, ntn2: usize, tgn2: *const f64, ntgn2: usize, out: *mut f64, n_out: usize) -> u64;
+        pub fn parts_densu(gsurf: f64, re: f64, alt: f64, dlb: f64, tinf: f64, tlb: f64, xm: f64, alpha: f64, tz: f64, zlb: f64, s2: f64, mn1: usize, zn1: *const f64, nzn1: usize, tn1: *mut f64, ntn1: usize, tgn1: *mut f64, ntgn1: usize, out: *mut f64, n_out: usize) -> u64;
     }
 }
 
@@ -94,6 +92,54 @@ fn row(name: &'static str) -> Row {
     Row { name, cases: 0, nan: 0, differences: 0 }
 }
 
+// A refused call answers with document 01's number and place, and leaves what was lent as it was.
+fn refusals(r: &mut Random, rows: &mut Vec<Row>, count: u64) {
+    let mut a = row("refusals");
+    for _ in 0..count {
+        // any counts and lengths: three slices of n nodes, two gradients, the slice for the values
+        let (n, m) = (r.index(13), r.index(13));
+        let l: [usize; 6] = [r.index(13), r.index(13), r.index(13), r.index(13), r.index(13), r.index(13)];
+        let (g, h, k) = (r.index(4), r.index(4), r.index(4));
+        let xs = [1.0; 13];
+        let mut wanted: (u64, u64) = (0, 0);
+        let mut set = |top: usize, n: usize, a: usize, b: usize, c: usize| {
+            if wanted != (0, 0) {
+            } else if n < 2 || n > top {
+                wanted = (5, top as u64);
+            } else if a < n || b < n {
+                wanted = (4, n as u64);
+            } else if c < 2 {
+                wanted = (4, 2);
+            }
+        };
+        let which = r.index(4);
+        let (p, mut out, mut tn, mut tgn) = (xs.as_ptr(), [7.5; 13], [2.5; 13], [3.5; 13]);
+        let code = unsafe {
+            match which {
+                0 => {
+                    if k != 1 { wanted = (4, 1) } else if n < 2 || n > 10 { wanted = (5, 10) } else if l[..3].iter().any(|x| *x < n) { wanted = (4, n as u64) }
+                    ours::parts_splini(p, l[0], p, l[1], p, l[2], n, 1.0, out.as_mut_ptr(), k)
+                }
+                1 => {
+                    if k != 1 { wanted = (4, 1) } else if n < 2 || n > 10 { wanted = (5, 10) } else if l[..3].iter().any(|x| *x < n) { wanted = (4, n as u64) }
+                    ours::parts_splint(p, l[0], p, l[1], p, l[2], n, 1.0, out.as_mut_ptr(), k)
+                }
+                2 => {
+                    if k != 2 { wanted = (4, 2) } else { set(10, m, l[2], l[3], h); set(10, n, l[0], l[1], g) }
+                    ours::parts_densm(980.0, 6356.0, 50.0, 1.0, 28.0, 200.0, n, p, l[0], p, l[1], p, g, m, p, l[2], p, l[3], p, h, out.as_mut_ptr(), k)
+                }
+                _ => {
+                    if k != 2 { wanted = (4, 2) } else { set(5, n, l[0], l[1], g) }
+                    ours::parts_densu(980.0, 6356.0, 0.5, 1.0, 1000.0, 400.0, 28.0, 0.0, 0.0, 120.0, 0.02, n, p, l[0], tn.as_mut_ptr(), l[1], tgn.as_mut_ptr(), g, out.as_mut_ptr(), k)
+                }
+            }
+        };
+        let kept = wanted == (0, 0) || (out == [7.5; 13] && tn == [2.5; 13] && tgn == [3.5; 13]);
+        a.take(&[wanted.0 as f64, wanted.1 as f64, 1.0], &[(code >> 32) as f64, (code & 0xffff_ffff) as f64, kept as u64 as f64], &(which, n, m, l, g, h, k));
+    }
+    rows.push(a);
+}
+
 fn ground(r: &mut Random, ordinary: bool) -> State {
     let mut s = State::new();
     s.gsurf = r.number(ordinary, 970.0, 990.0);
@@ -138,8 +184,11 @@ fn splines(r: &mut Random, rows: &mut Vec<Row>, count: u64) {
         let (yp1, ypn) = (r.number(o, -1.0, 1.0), if r.index(4) == 0 { 1e30 } else { r.number(o, -1.0, 1.0) });
         unsafe {
             let (p, q, s) = (xa.as_ptr(), ya.as_ptr(), y2a.as_ptr());
-            a.take(&[splini(&xa, &ya, &y2a, n, x)], &[ours::parts_splini(p, longer, q, longer, s, longer, n, x)], &(&xa, &ya, &y2a, n, x));
-            b.take(&[splint(&xa, &ya, &y2a, n, x)], &[ours::parts_splint(p, longer, q, longer, s, longer, n, x)], &(&xa, &ya, &y2a, n, x));
+            let mut out = [0.0];
+            let c1 = ours::parts_splini(p, longer, q, longer, s, longer, n, x, out.as_mut_ptr(), 1);
+            a.take(&[splini(&xa, &ya, &y2a, n, x), 0.0], &[out[0], c1 as f64], &(&xa, &ya, &y2a, n, x));
+            let c2 = ours::parts_splint(p, longer, q, longer, s, longer, n, x, out.as_mut_ptr(), 1);
+            b.take(&[splint(&xa, &ya, &y2a, n, x), 0.0], &[out[0], c2 as f64], &(&xa, &ya, &y2a, n, x));
             let (mut theirs, mut mine) = (y2a.clone(), y2a.clone());
             spline(&xa, &ya, n, yp1, ypn, &mut theirs);
             let refusal = ours::parts_spline(p, longer, q, longer, n, yp1, ypn, mine.as_mut_ptr(), longer);
@@ -194,9 +243,9 @@ fn profiles(r: &mut Random, rows: &mut Vec<Row>, count: u64) {
         let mut theirs_tz = tz;
         let theirs = s.densm(alt, d0, xm, &mut theirs_tz, n3, &zn3, &tn3, &tgn3, n2, &zn2, &tn2, &tgn2);
         unsafe {
-            let mine = ours::parts_densm(s.gsurf, s.re, alt, d0, xm, tz, n3, zn3.as_ptr(), l3, tn3.as_ptr(), l3, tgn3.as_ptr(), 2, n2, zn2.as_ptr(), l2, tn2.as_ptr(), l2, tgn2.as_ptr(), 2);
-            let mine_tz = ours::parts_densm_tz(s.gsurf, s.re, alt, d0, xm, tz, n3, zn3.as_ptr(), l3, tn3.as_ptr(), l3, tgn3.as_ptr(), 2, n2, zn2.as_ptr(), l2, tn2.as_ptr(), l2, tgn2.as_ptr(), 2);
-            a.take(&[theirs, theirs_tz], &[mine, mine_tz], &((s.gsurf, s.re, alt, d0, xm, tz), (n3, &zn3, &tn3, &tgn3), (n2, &zn2, &tn2, &tgn2)));
+            let mut out = [0.0; 2];
+            let code = ours::parts_densm(s.gsurf, s.re, alt, d0, xm, tz, n3, zn3.as_ptr(), l3, tn3.as_ptr(), l3, tgn3.as_ptr(), 2, n2, zn2.as_ptr(), l2, tn2.as_ptr(), l2, tgn2.as_ptr(), 2, out.as_mut_ptr(), 2);
+            a.take(&[theirs, theirs_tz, 0.0], &[out[0], out[1], code as f64], &((s.gsurf, s.re, alt, d0, xm, tz), (n3, &zn3, &tn3, &tgn3), (n2, &zn2, &tn2, &tgn2)));
         }
 
         let n1 = 2 + r.index(4);
@@ -215,18 +264,16 @@ fn profiles(r: &mut Random, rows: &mut Vec<Row>, count: u64) {
         let mut theirs_tz = tz;
         let mut theirs = vec![s.densu(alt, dlb, tinf, tlb, xm, alpha, &mut theirs_tz, zlb, s2, n1, &zn1, &mut tn, &mut tgn)];
         theirs.push(theirs_tz);
-        for _ in 0..2 {
-            theirs.extend(&tn);
-            theirs.extend(&tgn);
-        }
-        let (mut tn_a, mut tgn_a, mut tn_b, mut tgn_b) = (tn1.clone(), tgn1.clone(), tn1.clone(), tgn1.clone());
+        theirs.extend(&tn);
+        theirs.extend(&tgn);
+        theirs.push(0.0);
+        let (mut tn_a, mut tgn_a, mut out) = (tn1.clone(), tgn1.clone(), [0.0; 2]);
         unsafe {
-            let mine = ours::parts_densu(s.gsurf, s.re, alt, dlb, tinf, tlb, xm, alpha, tz, zlb, s2, n1, zn1.as_ptr(), l1, tn_a.as_mut_ptr(), l1, tgn_a.as_mut_ptr(), 2);
-            let mine_tz = ours::parts_densu_tz(s.gsurf, s.re, alt, dlb, tinf, tlb, xm, alpha, tz, zlb, s2, n1, zn1.as_ptr(), l1, tn_b.as_mut_ptr(), l1, tgn_b.as_mut_ptr(), 2);
-            let mut all = vec![mine, mine_tz];
-            for part in [&tn_a, &tgn_a, &tn_b, &tgn_b] {
-                all.extend(part);
-            }
+            let code = ours::parts_densu(s.gsurf, s.re, alt, dlb, tinf, tlb, xm, alpha, tz, zlb, s2, n1, zn1.as_ptr(), l1, tn_a.as_mut_ptr(), l1, tgn_a.as_mut_ptr(), 2, out.as_mut_ptr(), 2);
+            let mut all = out.to_vec();
+            all.extend(&tn_a);
+            all.extend(&tgn_a);
+            all.push(code as f64);
             b.take(&theirs, &all, &((s.gsurf, s.re, alt, dlb, tinf, tlb, xm, alpha, tz, zlb, s2), (n1, &zn1, &tn1, &tgn1)));
         }
     }
@@ -240,6 +287,7 @@ pub fn compare(seed: u64, count: u64) -> u64 {
     splines(&mut r, &mut rows, count);
     gravity(&mut r, &mut rows, count);
     profiles(&mut r, &mut rows, count);
+    refusals(&mut r, &mut rows, count);
     println!("{:<8} {:>10} {:>10} {:>12}", "function", "cases", "NaN", "differences");
     for w in &rows {
         println!("{:<8} {:>10} {:>10} {:>12}", w.name, w.cases, w.nan, w.differences);

@@ -4,6 +4,7 @@ use mathlib.Core.List.{List, [], _∷_}
 use Prim.Native.Nat.{ℕ, zero, suc, _+_, _-_, _*_, _/_, _%_, _^_, _≤_, _<_, zero-le}
 use native.Mathlib.Omega.{arith}
 use native.Mathlib.Nat.{mul-le-mul-left, mul-le-mul-right, pow-zero, pow-succ', le-trans, le-of-eq, le-of-mul-le-mul-left, eq-of-mul-eq-mul-right, mul-comm, mul-pos}
+use lib.Dec.{lit<}
 use lib.ListN.{length}
 use Rattle.elementary_bounds.proofs.Series.{slope, nearby, upward}
 use Rattle.elementary_bounds.specs.Series.{ev, homogeneous}
@@ -14,6 +15,10 @@ mul-pow D k (suc l) = step D k (D ^ l) (k ^ l) ((D * k) ^ l) ((D * k) ^ suc l) (
   where
     step : (D k A K B B' A' K' : ℕ) → B' ≡ D * k * B → A' ≡ D * A → K' ≡ k * K → B ≡ A * K → B' ≡ A' * K'
     step D k A K B B' A' K' e f g h = omega (arith, ap (λ (z : ℕ). D * k * z) h, ap (λ (z : ℕ). z * K') f, ap (λ (z : ℕ). D * A * z) g)
+
+pub pow-positive : (m k : ℕ) → 0 < m → 0 < m ^ k
+pow-positive m zero h = subst (λ (z : ℕ). 0 < z) (sym (pow-zero m)) (lit< {m = 0} {n = 1} tt)
+pow-positive m (suc k) h = subst (λ (z : ℕ). 0 < z) (sym (pow-succ' m k)) (mul-pos h (pow-positive m k h))
 
 -- both parts of the fraction times k
 pub scale-is : (D k : ℕ) (p : List ℕ) (u : ℕ) → ev (homogeneous (D * k) p) (u * k) * k ≡ k ^ length p * ev (homogeneous D p) u
@@ -47,34 +52,34 @@ slope-is w (a ∷ p) = step w (ev (homogeneous w p) w) (slope (homogeneous w p) 
     step : (w x s t r K C : ℕ) → C ≡ w * K → x * w ≡ t * K → s * (w * w) ≡ r * K → (x + w * s) * (w * w) ≡ (t + r) * C
     step w x s t r K C e f g = omega (arith, ap (λ (z : ℕ). (t + r) * z) e, ap (λ (z : ℕ). w * z) f, ap (λ (z : ℕ). w * z) g)
 
--- ---- from m / D to n / E, where m is n / E in units of 1 / D, cut down: both by the common denominator w = D * E
+-- ---- from m / D to n / E, where m is n / E in units of 1 / D, cut down: both by the common denominator w = D * E; for a series through the power d
 
-module _ (D E m n r : ℕ) (Dp : 0 < D) (Ep : 0 < E) (e : m * E + r ≡ n * D) (l : r ≤ E) (h : n ≤ E) (A : List ℕ) (k : length A ≡ 21) where
-  lift : (D E u : ℕ) → 0 < E → ev (homogeneous (D * E) A) (u * E) ≡ E ^ 20 * ev (homogeneous D A) u
+module _ (D E m n r : ℕ) (Dp : 0 < D) (Ep : 0 < E) (e : m * E + r ≡ n * D) (l : r ≤ E) (h : n ≤ E) (A : List ℕ) (d : ℕ) (k : length A ≡ suc d) where
+  lift : (D E u : ℕ) → 0 < E → ev (homogeneous (D * E) A) (u * E) ≡ E ^ d * ev (homogeneous D A) u
   lift D E u p =
-      eq-of-mul-eq-mul-right E p (ev (homogeneous (D * E) A) (u * E)) (E ^ 20 * ev (homogeneous D A) u)
-      (scale-is D E A u ∙ ap (λ (z : ℕ). E ^ z * ev (homogeneous D A) u) k ∙ ap (λ (z : ℕ). z * ev (homogeneous D A) u) (pow-succ' E 20) ∙ regroup E (E ^ 20) (ev (homogeneous D A) u))
+      eq-of-mul-eq-mul-right E p (ev (homogeneous (D * E) A) (u * E)) (E ^ d * ev (homogeneous D A) u)
+      (scale-is D E A u ∙ ap (λ (z : ℕ). E ^ z * ev (homogeneous D A) u) k ∙ ap (λ (z : ℕ). z * ev (homogeneous D A) u) (pow-succ' E d) ∙ regroup E (E ^ d) (ev (homogeneous D A) u))
     where
       regroup : (a b c : ℕ) → a * b * c ≡ b * c * a
       regroup a b c = omega arith
 
-  low-end : ev (homogeneous (D * E) A) (m * E) ≡ E ^ 20 * ev (homogeneous D A) m
+  low-end : ev (homogeneous (D * E) A) (m * E) ≡ E ^ d * ev (homogeneous D A) m
   low-end = lift D E m Ep
 
-  high-end : ev (homogeneous (D * E) A) (m * E + r) ≡ D ^ 20 * ev (homogeneous E A) n
+  high-end : ev (homogeneous (D * E) A) (m * E + r) ≡ D ^ d * ev (homogeneous E A) n
   high-end = ap (λ (z : ℕ). ev (homogeneous (D * E) A) z) e ∙ ap (λ (z : ℕ). ev (homogeneous z A) (n * D)) (mul-comm D E) ∙ lift E D n Dp
 
-  pub moved-low : E ^ 20 * ev (homogeneous D A) m ≤ D ^ 20 * ev (homogeneous E A) n
-  moved-low = subst (λ (z : ℕ). z ≤ D ^ 20 * ev (homogeneous E A) n) low-end (subst (λ (z : ℕ). ev (homogeneous (D * E) A) (m * E) ≤ z) high-end (upward (homogeneous (D * E) A) (m * E) r))
+  pub moved-low : E ^ d * ev (homogeneous D A) m ≤ D ^ d * ev (homogeneous E A) n
+  moved-low = subst (λ (z : ℕ). z ≤ D ^ d * ev (homogeneous E A) n) low-end (subst (λ (z : ℕ). ev (homogeneous (D * E) A) (m * E) ≤ z) high-end (upward (homogeneous (D * E) A) (m * E) r))
 
   -- the slope at w, times D * E
-  steep : D * (r * slope (homogeneous (D * E) A) (D * E)) ≤ rank A * (D * E) ^ 20
+  steep : D * (r * slope (homogeneous (D * E) A) (D * E)) ≤ rank A * (D * E) ^ d
   steep =
       let w = D * E in
       let s = slope (homogeneous w A) w in
       let wp : 0 < w = mul-pos Dp Ep in
-      let q : s * (w * w) ≡ rank A * w ^ 21 = slope-is w A ∙ ap (λ (z : ℕ). rank A * w ^ z) k in
-      le-of-mul-le-mul-left (bound D E r s w (rank A) (w ^ 20) (w ^ 21) refl (pow-succ' w 20) l q) wp
+      let q : s * (w * w) ≡ rank A * w ^ suc d = slope-is w A ∙ ap (λ (z : ℕ). rank A * w ^ z) k in
+      le-of-mul-le-mul-left (bound D E r s w (rank A) (w ^ d) (w ^ suc d) refl (pow-succ' w d) l q) wp
     where
       bound : (D E r s w R p p' : ℕ) → w ≡ D * E → p' ≡ w * p → r ≤ E → s * (w * w) ≡ R * p' → w * (D * (r * s)) ≤ w * (R * p)
       bound D E r s w R p p' a b l q =
@@ -86,14 +91,14 @@ module _ (D E m n r : ℕ) (Dp : 0 < D) (Ep : 0 < E) (e : m * E + r ≡ n * D) (
           second : (s w R p p' : ℕ) → p' ≡ w * p → s * (w * w) ≡ R * p' → s * (w * w) ≡ w * (R * p)
           second s w R p p' b q = omega (arith, ap (λ (z : ℕ). R * z) b)
 
-  pub moved-high : D * (D ^ 20 * ev (homogeneous E A) n) ≤ D * (E ^ 20 * ev (homogeneous D A) m) + rank A * (D * E) ^ 20
+  pub moved-high : D * (D ^ d * ev (homogeneous E A) n) ≤ D * (E ^ d * ev (homogeneous D A) m) + rank A * (D * E) ^ d
   moved-high =
       let w = D * E in
       let b : m * E + r ≤ w = subst (λ (z : ℕ). z ≤ w) (sym e) (subst (λ (z : ℕ). n * D ≤ z) (mul-comm E D) (mul-le-mul-right D h)) in
-      let y : D ^ 20 * ev (homogeneous E A) n ≤ E ^ 20 * ev (homogeneous D A) m + r * slope (homogeneous w A) w =
-      subst (λ (z : ℕ). z ≤ E ^ 20 * ev (homogeneous D A) m + r * slope (homogeneous w A) w) high-end
+      let y : D ^ d * ev (homogeneous E A) n ≤ E ^ d * ev (homogeneous D A) m + r * slope (homogeneous w A) w =
+      subst (λ (z : ℕ). z ≤ E ^ d * ev (homogeneous D A) m + r * slope (homogeneous w A) w) high-end
       (subst (λ (z : ℕ). ev (homogeneous w A) (m * E + r) ≤ z + r * slope (homogeneous w A) w) low-end (nearby (homogeneous w A) (m * E) r w b)) in
-      last D (D ^ 20 * ev (homogeneous E A) n) (E ^ 20 * ev (homogeneous D A) m) (r * slope (homogeneous w A) w) (rank A * w ^ 20) y steep
+      last D (D ^ d * ev (homogeneous E A) n) (E ^ d * ev (homogeneous D A) m) (r * slope (homogeneous w A) w) (rank A * w ^ d) y steep
     where
-      last : (D a b c d : ℕ) → a ≤ b + c → D * c ≤ d → D * a ≤ D * b + d
-      last D a b c d h k = omega (arith, mul-le-mul-left D h)
+      last : (D a b c f : ℕ) → a ≤ b + c → D * c ≤ f → D * a ≤ D * b + f
+      last D a b c f h k = omega (arith, mul-le-mul-left D h)

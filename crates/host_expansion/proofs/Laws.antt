@@ -1,24 +1,37 @@
--- The answer by the lengths of the slices.
-use mathlib.Core.Path.{_≡_}
+-- The numbers of an answer, and the answer by the lengths of the slices.
+use Prim.Native.Nat.{ℕ, zero, suc, _+_, _<_}
+use mathlib.Core.Path.{_≡_, refl, sym, ap, _∙_}
 use mathlib.Core.List.{List}
+use native.Mathlib.Nat.{add-zero, add-suc, suc-add, not-suc-le-zero, le-of-suc-le-suc}
 use borrow.Author.Tests.{eq-eqb, ne-eqb}
-use lib.IntN.{ℤ}
-use lib.ListN.{length}
-use lib.Ieee.{Float}
+use lib.ListN.{length, getD}
+use lib.Ieee.{Float, nan}
+use Rattle.host.specs.Host.{packedOf}
 use Rattle.calls.specs.declared.Expanded.{Expanded}
-use Rattle.host_expansion.specs.HostExpansion.{misfitOf, fittedOf}
+use Rattle.host_expansion.specs.HostExpansion.{fittedOf, entryOf, entriesOf, numbersAfter, codeOf}
 
-module _ (f : List Float) (w : List ℤ) (x : List Float) (r rest : Expanded) where
-  pub no-fields : (length f ≡ 8 → ⊥) → r ≡ misfitOf 8 → r ≡ fittedOf f w x rest
-  no-fields h e = simp (e, ne-eqb _ _ h)
+-- ---- the numbers
 
-  module _ (a : length f ≡ 8) where
-    pub no-switches : (length w ≡ 24 → ⊥) → r ≡ misfitOf 24 → r ≡ fittedOf f w x rest
-    no-switches h e = simp (e, eq-eqb _ _ a, ne-eqb _ _ h)
+pub entries-length : (m : ℕ) (e : Expanded) (k : ℕ) → length (entriesOf m e k) ≡ m
+unfolding entriesOf
+entries-length zero e k = refl
+entries-length (suc m) e k = ap suc (entries-length m e (suc k))
 
-    module _ (b : length w ≡ 24) where
-      pub no-state : (length x ≡ 78 → ⊥) → r ≡ misfitOf 78 → r ≡ fittedOf f w x rest
-      no-state h e = simp (e, eq-eqb _ _ a, eq-eqb _ _ b, ne-eqb _ _ h)
+pub entries-at : (m : ℕ) (e : Expanded) (k i : ℕ) → i < m → getD (entriesOf m e k) i nan ≡ entryOf e (k + i)
+unfolding entriesOf
+entries-at zero e k i h = absurd (not-suc-le-zero h)
+entries-at (suc m) e k zero h = ap (entryOf e) (sym (add-zero k))
+entries-at (suc m) e k (suc i) h = entries-at m e (suc k) i (le-of-suc-le-suc h) ∙ ap (entryOf e) (suc-add k i ∙ sym (add-suc k i))
 
-      pub fitted : length x ≡ 78 → r ≡ rest → r ≡ fittedOf f w x rest
-      fitted h e = simp (e, eq-eqb _ _ a, eq-eqb _ _ b, eq-eqb _ _ h)
+-- ---- the answer
+
+-- k is the length that the first slice without its length needs, which the code found to be q
+module _ (k q c : ℕ) (g : q ≡ k) (rest : Expanded) (xs : List Float) where
+  -- 4, the numbers as lent
+  pub misfit-told : (q ≡ 0 → ⊥) → c ≡ packedOf 4 q → (c ≡ codeOf (fittedOf k rest)) × (xs ≡ numbersAfter (fittedOf k rest) xs)
+  unfolding numbersAfter
+  misfit-told h e = rw (sym g) (simp (e, ne-eqb _ _ h), simp (ne-eqb _ _ h))
+
+  pub fit-told : (e : Expanded) (ys : List Float) → q ≡ 0 → e ≡ rest → (c ≡ codeOf e) × (ys ≡ numbersAfter e xs)
+      → (c ≡ codeOf (fittedOf k rest)) × (ys ≡ numbersAfter (fittedOf k rest) xs)
+  fit-told e ys h f w = rw (sym g, eq-eqb _ _ h, sym f) w

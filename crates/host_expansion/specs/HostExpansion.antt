@@ -1,18 +1,17 @@
 -- The calls of globe7 and glob7s on numbers and slices.
-use Prim.Native.Nat.{ℕ, _-_}
-use mathlib.Core.Bool.{cond, not}
+use Prim.Native.Nat.{ℕ, zero, suc, _-_}
+use mathlib.Core.Bool.{cond, not, _&&_}
 use mathlib.Core.List.{List, [], _∷_}
 use lib.Dec.{eqb}
 use lib.IntN.{ℤ}
 use lib.ListN.{length}
 use lib.Ieee.{Float}
 use Rattle.numbers.specs.Arithmetic.{_‼_}
-use Rattle.numbers.specs.Literals.{0·0}
 use Rattle.setting.specs.declared.State.{State}
 use Rattle.setting.specs.State.{freshOf}
 use Rattle.calls.specs.declared.Expanded.{Expanded}
 use Rattle.calls.specs.Calls.{refusedAt, globe7CallOf, glob7sCallOf}
-use Rattle.host.specs.Host.{recordOf}
+use Rattle.host.specs.Host.{packedOf, recordOf}
 use Rattle.host_state.specs.HostState.{numberOf}
 
 -- the Legendre values, numbers 31 to 66
@@ -58,23 +57,44 @@ stateWith x g =
 abbrev pub stateOf : List Float → State
 stateOf x = stateWith x (legendreOf x)
 
--- 4 with the length needed, and a fresh State
-abbrev pub misfitOf : ℕ → Expanded
-misfitOf k = refusedAt 4 k freshOf
+-- the length that the first slice without its length needs, 0 where all have theirs: the lent one for the numbers, the fields, the array, the
+-- switches, the State
+unfoldable pub misfitOf : ℕ → ℕ → ℕ → ℕ → ℕ → ℕ
+misfitOf numbers fields array switches state =
+    cond (not (eqb numbers 79)) 79
+    (cond (not (eqb fields 8)) 8
+    (cond (not (eqb array 0) && not (eqb array 7)) 7
+    (cond (not (eqb switches 24)) 24
+    (cond (not (eqb state 78)) 78 0))))
 
--- 4 for the fields, the switches, the State, in this order; then the rest
-abbrev pub fittedOf : List Float → List ℤ → List Float → Expanded → Expanded
-fittedOf f w x rest =
-    cond (not (eqb (length f) 8)) (misfitOf 8)
-    (cond (not (eqb (length w) 24)) (misfitOf 24)
-    (cond (not (eqb (length x) 78)) (misfitOf 78) rest))
+-- 4 with the length needed, and a fresh State; then the rest
+abbrev pub fittedOf : ℕ → Expanded → Expanded
+fittedOf k rest = cond (not (eqb k 0)) (refusedAt 4 k freshOf) rest
 
-unfoldable pub globe7From : ℤ → ℤ → List Float → List Float → List ℤ → List Float → List Float → Expanded
-globe7From year doy f l w p x = fittedOf f w x (globe7CallOf w (recordOf year doy f l) p (stateOf x))
+unfoldable pub globe7From : ℤ → ℤ → List Float → List Float → List ℤ → List Float → List Float → ℕ → Expanded
+globe7From year doy f l w p x numbers =
+    fittedOf (misfitOf numbers (length f) (length l) (length w) (length x)) (globe7CallOf w (recordOf year doy f l) p (stateOf x))
 
-unfoldable pub glob7sFrom : ℤ → ℤ → List Float → List Float → List ℤ → List Float → List Float → Expanded
-glob7sFrom year doy f l w p x = fittedOf f w x (glob7sCallOf w (recordOf year doy f l) p (stateOf x))
+unfoldable pub glob7sFrom : ℤ → ℤ → List Float → List Float → List ℤ → List Float → List Float → ℕ → Expanded
+glob7sFrom year doy f l w p x numbers =
+    fittedOf (misfitOf numbers (length f) (length l) (length w) (length x)) (glob7sCallOf w (recordOf year doy f l) p (stateOf x))
 
 -- the value, then the State's numbers
 unfoldable pub entryOf : Expanded → ℕ → Float
 entryOf e k = cond (eqb k 0) (e .value) (numberOf (e .state) (k - 1))
+
+-- m of these numbers from number k on, and all of them
+unfoldable pub entriesOf : ℕ → Expanded → ℕ → List Float
+entriesOf zero e k = []
+entriesOf (suc m) e k = entryOf e k ∷ entriesOf m e (suc k)
+
+abbrev pub numbersOf : Expanded → List Float
+numbersOf e = entriesOf 79 e 0
+
+-- the lent slice afterwards: after a refusal what it held
+unfoldable pub numbersAfter : Expanded → List Float → List Float
+numbersAfter e xs = cond (not (eqb (e .refused) 0)) xs (numbersOf e)
+
+-- the refusal's number times 2^32 and its place, 0 where the call is accepted
+abbrev pub codeOf : Expanded → ℕ
+codeOf e = packedOf (e .refused) (e .place)

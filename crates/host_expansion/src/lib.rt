@@ -1,8 +1,8 @@
-// For comparison on the host: the public globe7 and glob7s on numbers and slices, answered number by number.
+// For comparison on the host: the public globe7 and glob7s on numbers and slices. A call writes its value and the 78 numbers of the State
+// after it into a lent slice and answers 0, or the refusal's number times 2^32 and its place, the slice as lent.
 ghost use mathlib.Core.Path.{_≡_};
 ghost use lib.ListN.{length};
-ghost use Rattle.host.specs.Host.{packedOf};
-ghost use Rattle.host_expansion.specs.HostExpansion.{legendreOf, stateWith, stateOf, misfitOf, globe7From, glob7sFrom, entryOf};
+ghost use Rattle.host_expansion.specs.HostExpansion.{legendreOf, stateWith, stateOf, misfitOf, globe7From, glob7sFrom, entryOf, numbersOf, numbersAfter, codeOf};
 use calls::Expanded;
 use calls::glob7s;
 use calls::globe7;
@@ -11,7 +11,6 @@ use host::record::record_of;
 use host::record::switch_row;
 use host_state::number;
 use setting::State;
-use setting::fresh;
 
 // The Legendre values of the 78 numbers, 31 to 66.
 pub fn legendre(x: &[f64]) -> [f64; 36]
@@ -101,69 +100,33 @@ pub fn state_of(x: &[f64]) -> State
     state_with(x, g)
 }
 
-// The answer where a slice has not its length k: 4.
-pub fn misfit(k: usize) -> Expanded
-    ensures { λ r. ⌜ r ≡ misfitOf k ⌝ }
+// The length that the first slice without its length needs, 0 where all have theirs.
+pub fn misfit(
+    numbers: usize,
+    fields: usize,
+    ap_array: usize,
+    switches: usize,
+    state: usize,
+) -> usize
+    ensures { λ r. ⌜ r ≡ misfitOf numbers fields «ap_array» switches state ⌝ }
+    ensures { λ r. ⌜ (r ≡ 0 → (numbers ≡ 79) × (fields ≡ 8) × (switches ≡ 24) × (state ≡ 78)) ⌝ }
 {
-    let s = fresh();
-    Expanded {
-        refused: 4,
-        place: k,
-        value: 0.0,
-        state: s,
+    if numbers != 79 {
+        return 79;
     }
-}
-
-pub fn globe7_from(
-    year: i32,
-    doy: i32,
-    fields: &[f64],
-    ap_array: &[f64],
-    switches: &[i32],
-    p: &[f64],
-    state: &[f64],
-) -> Expanded
-    ensures { λ r. ⌜ r ≡ globe7From year doy (now (fields .entry)) (now («ap_array» .entry)) (now (switches .entry)) (now (p .entry)) (now (state .entry)) ⌝ }
-{
-    if fields.len() != 8 {
-        return misfit(8);
+    if fields != 8 {
+        return 8;
     }
-    if switches.len() != 24 {
-        return misfit(24);
+    if (ap_array != 0) & (ap_array != 7) {
+        return 7;
     }
-    if state.len() != 78 {
-        return misfit(78);
+    if switches != 24 {
+        return 24;
     }
-    let w = switch_row(switches);
-    let n = record_of(year, doy, fields, ap_array);
-    let s = state_of(state);
-    globe7(w, n, p, s)
-}
-
-pub fn glob7s_from(
-    year: i32,
-    doy: i32,
-    fields: &[f64],
-    ap_array: &[f64],
-    switches: &[i32],
-    p: &[f64],
-    state: &[f64],
-) -> Expanded
-    ensures { λ r. ⌜ r ≡ glob7sFrom year doy (now (fields .entry)) (now («ap_array» .entry)) (now (switches .entry)) (now (p .entry)) (now (state .entry)) ⌝ }
-{
-    if fields.len() != 8 {
-        return misfit(8);
+    if state != 78 {
+        return 78;
     }
-    if switches.len() != 24 {
-        return misfit(24);
-    }
-    if state.len() != 78 {
-        return misfit(78);
-    }
-    let w = switch_row(switches);
-    let n = record_of(year, doy, fields, ap_array);
-    let s = state_of(state);
-    glob7s(w, n, p, s)
+    0
 }
 
 // The value at 0, then the State's numbers.
@@ -177,9 +140,32 @@ pub fn entry(e: Expanded, k: usize) -> f64
     number(s, k - 1)
 }
 
-// The refusal of globe7, its number times 2^32 and its place.
+pub fn put(e: Expanded, numbers: &mut [f64])
+    requires { ⌜ length (now numbers) ≡ 79 ⌝ }
+    ensures { λ _. ⌜ now (numbers .exit) ≡ numbersOf e ⌝ }
+{
+    let mut i: usize = 0;
+    while i < 79 {
+        numbers[i] = entry(e, i);
+        i += 1;
+    }
+}
+
+pub fn tell(e: Expanded, numbers: &mut [f64]) -> u64
+    requires { ⌜ length (now numbers) ≡ 79 ⌝ }
+    ensures { λ r. ⌜ (r ≡ codeOf e) × (now (numbers .exit) ≡ numbersAfter e (now (numbers .entry))) ⌝ }
+{
+    let c = packed(e.refused, e.place);
+    if e.refused != 0 {
+        return c;
+    }
+    put(e, numbers);
+    c
+}
+
+// globe7: fields and ap_array as potirehu_gtd7 has them, p the coefficients, state the 78 numbers of State.
 #[no_mangle]
-pub extern "C" fn globe7_code(
+pub extern "C" fn expansion_globe7(
     year: i32,
     doy: i32,
     fields: &[f64],
@@ -187,16 +173,31 @@ pub extern "C" fn globe7_code(
     switches: &[i32],
     p: &[f64],
     state: &[f64],
+    numbers: &mut [f64],
 ) -> u64
-    ensures { λ r. ⌜ r ≡ (let e = globe7From year doy (now (fields .entry)) (now («ap_array» .entry)) (now (switches .entry)) (now (p .entry)) (now (state .entry)) in packedOf (e .refused) (e .place)) ⌝ }
+    ensures { λ r. ⌜ r ≡ codeOf (globe7From year doy (now (fields .entry)) (now («ap_array» .entry)) (now (switches .entry)) (now (p .entry)) (now (state .entry)) (length (now (numbers .entry)))) ⌝ }
+    ensures { λ _. ⌜ now (numbers .exit) ≡ numbersAfter (globe7From year doy (now (fields .entry)) (now («ap_array» .entry)) (now (switches .entry)) (now (p .entry)) (now (state .entry)) (length (now (numbers .entry)))) (now (numbers .entry)) ⌝ }
 {
-    let e = globe7_from(year, doy, fields, ap_array, switches, p, state);
-    packed(e.refused, e.place)
+    let k = misfit(
+        numbers.len(),
+        fields.len(),
+        ap_array.len(),
+        switches.len(),
+        state.len(),
+    );
+    if k != 0 {
+        return packed(4, k);
+    }
+    let w = switch_row(switches);
+    let n = record_of(year, doy, fields, ap_array);
+    let s = state_of(state);
+    let e = globe7(w, n, p, s);
+    tell(e, numbers)
 }
 
-// Number k of what globe7 gives: the value, then the State's.
+// glob7s: fields and ap_array as potirehu_gtd7 has them, p the coefficients, state the 78 numbers of State.
 #[no_mangle]
-pub extern "C" fn globe7_number(
+pub extern "C" fn expansion_glob7s(
     year: i32,
     doy: i32,
     fields: &[f64],
@@ -204,45 +205,24 @@ pub extern "C" fn globe7_number(
     switches: &[i32],
     p: &[f64],
     state: &[f64],
-    k: usize,
-) -> f64
-    ensures { λ r. ⌜ r ≡ entryOf (globe7From year doy (now (fields .entry)) (now («ap_array» .entry)) (now (switches .entry)) (now (p .entry)) (now (state .entry))) k ⌝ }
-{
-    let e = globe7_from(year, doy, fields, ap_array, switches, p, state);
-    entry(e, k)
-}
-
-// The refusal of glob7s, its number times 2^32 and its place.
-#[no_mangle]
-pub extern "C" fn glob7s_code(
-    year: i32,
-    doy: i32,
-    fields: &[f64],
-    ap_array: &[f64],
-    switches: &[i32],
-    p: &[f64],
-    state: &[f64],
+    numbers: &mut [f64],
 ) -> u64
-    ensures { λ r. ⌜ r ≡ (let e = glob7sFrom year doy (now (fields .entry)) (now («ap_array» .entry)) (now (switches .entry)) (now (p .entry)) (now (state .entry)) in packedOf (e .refused) (e .place)) ⌝ }
+    ensures { λ r. ⌜ r ≡ codeOf (glob7sFrom year doy (now (fields .entry)) (now («ap_array» .entry)) (now (switches .entry)) (now (p .entry)) (now (state .entry)) (length (now (numbers .entry)))) ⌝ }
+    ensures { λ _. ⌜ now (numbers .exit) ≡ numbersAfter (glob7sFrom year doy (now (fields .entry)) (now («ap_array» .entry)) (now (switches .entry)) (now (p .entry)) (now (state .entry)) (length (now (numbers .entry)))) (now (numbers .entry)) ⌝ }
 {
-    let e = glob7s_from(year, doy, fields, ap_array, switches, p, state);
-    packed(e.refused, e.place)
-}
-
-// Number k of what glob7s gives: the value, then the State's.
-#[no_mangle]
-pub extern "C" fn glob7s_number(
-    year: i32,
-    doy: i32,
-    fields: &[f64],
-    ap_array: &[f64],
-    switches: &[i32],
-    p: &[f64],
-    state: &[f64],
-    k: usize,
-) -> f64
-    ensures { λ r. ⌜ r ≡ entryOf (glob7sFrom year doy (now (fields .entry)) (now («ap_array» .entry)) (now (switches .entry)) (now (p .entry)) (now (state .entry))) k ⌝ }
-{
-    let e = glob7s_from(year, doy, fields, ap_array, switches, p, state);
-    entry(e, k)
+    let k = misfit(
+        numbers.len(),
+        fields.len(),
+        ap_array.len(),
+        switches.len(),
+        state.len(),
+    );
+    if k != 0 {
+        return packed(4, k);
+    }
+    let w = switch_row(switches);
+    let n = record_of(year, doy, fields, ap_array);
+    let s = state_of(state);
+    let e = glob7s(w, n, p, s);
+    tell(e, numbers)
 }

@@ -1,34 +1,65 @@
--- What the host sees of an outcome: one number of it.
-use Prim.Native.Nat.{ℕ}
-use mathlib.Core.List.{List}
+-- What the host sees of an outcome: a number for the refusal, and the values in a lent slice.
+use Prim.Native.Nat.{ℕ, _+_, _*_, _%_}
+use mathlib.Core.Bool.{cond, not}
+use mathlib.Core.List.{List, [], _∷_}
+use lib.Dec.{eqb}
+use lib.ListN.{length}
 use lib.Ieee.{Float}
 use Rattle.numbers.specs.Literals.{0·0}
 use Rattle.spline.specs.Outcome.{Outcome, gives, refused}
-use Rattle.spline.specs.declared.SplineWrite.{SplineWrite}
-use Rattle.spline.specs.declared.SplineWrite.the-variants.{Written, NodeCount, SliceLength}
+use Rattle.spline.specs.declared.SplineValue.{SplineValue}
+use Rattle.spline.specs.declared.SplineValue.the-variants as value
 use Rattle.profile.specs.Profile.{densityIn, temperatureIn}
 use Rattle.profile.specs.declared.unchecked.Profile.{Profile}
+use Rattle.profile.specs.declared.ProfileCall.{ProfileCall}
+use Rattle.profile.specs.declared.ProfileCall.the-variants as profile
 
--- the value; 0 after a refusal
-abbrev pub numberOf : Outcome Float → Float
-numberOf (gives x) = x
-numberOf (refused number place) = 0·0
-
--- the number of a refusal; 0 where there is none
-abbrev pub refusalOf : Outcome (List Float) → ℕ
-refusalOf (gives ys) = 0
+-- document 01's number of a refusal and its place, 0 and 0 where there is none
+abbrev pub refusalOf : {A : Type 0} → Outcome A → ℕ
+refusalOf (gives x) = 0
 refusalOf (refused number place) = number
 
-abbrev pub refusalIn : SplineWrite → ℕ
-refusalIn Written = 0
-refusalIn (NodeCount place) = 5
-refusalIn (SliceLength place) = 4
+abbrev pub placeOf : {A : Type 0} → Outcome A → ℕ
+placeOf (gives x) = 0
+placeOf (refused number place) = place
 
--- the number that the Rust returns, and the temperature that it writes into tz; 0 after a refusal
-abbrev pub returnedOf : Outcome Profile → Float
-returnedOf (gives p) = densityIn p
-returnedOf (refused number place) = 0·0
+abbrev pub packedOf : ℕ → ℕ → ℕ
+packedOf n k = n % 4294967296 * 4294967296 + k % 4294967296
 
-abbrev pub writtenOf : Outcome Profile → Float
-writtenOf (gives p) = temperatureIn p
-writtenOf (refused number place) = 0·0
+-- an outcome as one number: the refusal's number times 2^32 and its place
+unfoldable pub codeOf : {A : Type 0} → Outcome A → ℕ
+codeOf o = packedOf (refusalOf o) (placeOf o)
+
+-- the values as a list: the one of a spline; of a profile the number that the Rust returns and the temperature that it writes into tz
+unfoldable pub one : Outcome Float → Outcome (List Float)
+one (gives x) = gives (x ∷ [])
+one (refused number place) = refused number place
+
+unfoldable pub two : Outcome Profile → Outcome (List Float)
+two (gives p) = gives (densityIn p ∷ temperatureIn p ∷ [])
+two (refused number place) = refused number place
+
+-- 4 and the length needed where the slice for the values has not k numbers; then the rest
+unfoldable pub lent : {A : Type 0} → ℕ → List Float → Outcome A → Outcome A
+lent k out rest = cond (not (eqb (length out) k)) (refused 4 k) rest
+
+-- another lent slice: as it was after that refusal, else what the call leaves in it
+unfoldable pub kept : ℕ → List Float → List Float → List Float → List Float
+kept k out xs ys = cond (not (eqb (length out) k)) xs ys
+
+-- ---- what the code reads of an answer; it asks for the refusal first
+
+abbrev pub valueIn : SplineValue → Float
+valueIn (value.Value x) = x
+valueIn (value.NodeCount place) = 0·0
+valueIn (value.SliceLength place) = 0·0
+
+abbrev pub returnedIn : ProfileCall → Float
+returnedIn (profile.Answer p) = densityIn p
+returnedIn (profile.NodeCount place) = 0·0
+returnedIn (profile.SliceLength place) = 0·0
+
+abbrev pub writtenIn : ProfileCall → Float
+writtenIn (profile.Answer p) = temperatureIn p
+writtenIn (profile.NodeCount place) = 0·0
+writtenIn (profile.SliceLength place) = 0·0

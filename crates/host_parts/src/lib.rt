@@ -1,5 +1,9 @@
-// Mixing, splines and profiles for the host, on numbers and slices, with the elementary functions under them; a refused call answers 0.
+// Mixing, splines and profiles for the host, on numbers and slices, with the elementary functions under them. A call that may be refused
+// writes its values into a lent slice, out, and answers 0, or the refusal's number times 2^32 and its place, all lent slices as lent; an out
+// that has not its length is refused first, with 4 and the length needed.
 ghost use mathlib.Core.Path.{_≡_};
+ghost use mathlib.Core.List.{[]};
+ghost use lib.ListN.{length};
 ghost use Rattle.elementary.specs.Exp.{expOf};
 ghost use Rattle.elementary.specs.Log.{logOf};
 ghost use Rattle.elementary.specs.Trig.{sinOf, cosOf};
@@ -10,7 +14,7 @@ ghost use Rattle.spline.specs.Outcome.{after};
 ghost use Rattle.spline.specs.Calls.{valueOutcome, writeOutcome, spliniCall, splintCall, splineCall};
 ghost use Rattle.profile.specs.Gravity.{glatfOf, zetaOf, scalhOf};
 ghost use Rattle.profile.specs.Calls.{profileOutcome, densmCall, densuCall, densuTn1, densuTgn1};
-ghost use Rattle.host_parts.specs.Parts.{numberOf, refusalIn, refusalOf, returnedOf, writtenOf};
+ghost use Rattle.host_parts.specs.Parts.{refusalOf, placeOf, packedOf, codeOf, valueIn, returnedIn, writtenIn, one, two, lent, kept};
 use elementary::exponential::exp;
 use elementary::logarithm::log;
 use elementary::power::pow;
@@ -34,20 +38,29 @@ use spline::spline;
 use spline::splini;
 use spline::splint;
 
-// The value of an answer; 0 after a refusal.
-fn number(a: SplineValue) -> f64
-    ensures { λ r. ⌜ r ≡ numberOf (valueOutcome a) ⌝ }
+// Document 01's number of a refusal, 0 where there is none, and its place.
+fn value_refusal(a: SplineValue) -> usize
+    ensures { λ r. ⌜ r ≡ refusalOf (valueOutcome a) ⌝ }
 {
     match a {
-        SplineValue::Value(x) => x,
-        SplineValue::NodeCount(_) => 0.0,
-        SplineValue::SliceLength(_) => 0.0,
+        SplineValue::Value(_) => 0,
+        SplineValue::NodeCount(_) => 5,
+        SplineValue::SliceLength(_) => 4,
     }
 }
 
-// The number of a refusal; 0 where there is none.
-fn refusal(a: SplineWrite) -> u64
-    ensures { λ r. ⌜ r ≡ refusalIn a ⌝ }
+fn value_place(a: SplineValue) -> usize
+    ensures { λ r. ⌜ r ≡ placeOf (valueOutcome a) ⌝ }
+{
+    match a {
+        SplineValue::Value(_) => 0,
+        SplineValue::NodeCount(k) => k,
+        SplineValue::SliceLength(k) => k,
+    }
+}
+
+fn write_refusal(a: SplineWrite) -> usize
+    ensures { λ r. ⌜ r ≡ refusalOf (writeOutcome a []) ⌝ }
 {
     match a {
         SplineWrite::Written => 0,
@@ -56,9 +69,59 @@ fn refusal(a: SplineWrite) -> u64
     }
 }
 
-// The number that the Rust returns; 0 after a refusal.
+fn write_place(a: SplineWrite) -> usize
+    ensures { λ r. ⌜ r ≡ placeOf (writeOutcome a []) ⌝ }
+{
+    match a {
+        SplineWrite::Written => 0,
+        SplineWrite::NodeCount(k) => k,
+        SplineWrite::SliceLength(k) => k,
+    }
+}
+
+fn profile_refusal(a: ProfileCall) -> usize
+    ensures { λ r. ⌜ r ≡ refusalOf (profileOutcome a) ⌝ }
+{
+    match a {
+        ProfileCall::Answer(_) => 0,
+        ProfileCall::NodeCount(_) => 5,
+        ProfileCall::SliceLength(_) => 4,
+    }
+}
+
+fn profile_place(a: ProfileCall) -> usize
+    ensures { λ r. ⌜ r ≡ placeOf (profileOutcome a) ⌝ }
+{
+    match a {
+        ProfileCall::Answer(_) => 0,
+        ProfileCall::NodeCount(k) => k,
+        ProfileCall::SliceLength(k) => k,
+    }
+}
+
+// The number times 2^32 and the place.
+fn packed(n: usize, k: usize) -> u64
+    ensures { λ r. ⌜ r ≡ packedOf n k ⌝ }
+{
+    let a = n % 4294967296;
+    let b = k % 4294967296;
+    (a * 4294967296 + b) as u64
+}
+
+// The value of an answer that is none of the refusals.
+fn value(a: SplineValue) -> f64
+    ensures { λ r. ⌜ r ≡ valueIn a ⌝ }
+{
+    match a {
+        SplineValue::Value(x) => x,
+        SplineValue::NodeCount(_) => 0.0,
+        SplineValue::SliceLength(_) => 0.0,
+    }
+}
+
+// The number that the Rust returns, of an answer that is none of the refusals.
 fn returned(a: ProfileCall) -> f64
-    ensures { λ r. ⌜ r ≡ returnedOf (profileOutcome a) ⌝ }
+    ensures { λ r. ⌜ r ≡ returnedIn a ⌝ }
 {
     match a {
         ProfileCall::Answer(p) => density_in(p),
@@ -67,15 +130,42 @@ fn returned(a: ProfileCall) -> f64
     }
 }
 
-// The temperature that the Rust writes into tz; 0 after a refusal.
+// The temperature that the Rust writes into tz.
 fn written(a: ProfileCall) -> f64
-    ensures { λ r. ⌜ r ≡ writtenOf (profileOutcome a) ⌝ }
+    ensures { λ r. ⌜ r ≡ writtenIn a ⌝ }
 {
     match a {
         ProfileCall::Answer(p) => temperature_in(p),
         ProfileCall::NodeCount(_) => 0.0,
         ProfileCall::SliceLength(_) => 0.0,
     }
+}
+
+// An answer into a lent slice of one number.
+fn tell_value(a: SplineValue, out: &mut [f64]) -> u64
+    requires { ⌜ length (now out) ≡ 1 ⌝ }
+    ensures { λ r. ⌜ (r ≡ codeOf (one (valueOutcome a))) × (now (out .exit) ≡ after (one (valueOutcome a)) (now (out .entry))) ⌝ }
+{
+    let n = value_refusal(a);
+    if n != 0 {
+        return packed(n, value_place(a));
+    }
+    out[0] = value(a);
+    0
+}
+
+// An answer into a lent slice of two numbers.
+fn tell_profile(a: ProfileCall, out: &mut [f64]) -> u64
+    requires { ⌜ length (now out) ≡ 2 ⌝ }
+    ensures { λ r. ⌜ (r ≡ codeOf (two (profileOutcome a))) × (now (out .exit) ≡ after (two (profileOutcome a)) (now (out .entry))) ⌝ }
+{
+    let n = profile_refusal(a);
+    if n != 0 {
+        return packed(n, profile_place(a));
+    }
+    out[0] = returned(a);
+    out[1] = written(a);
+    0
 }
 
 // ccor.
@@ -136,25 +226,47 @@ pub extern "C" fn parts_scalh(gsurf: f64, re: f64, alt: f64, xm: f64, temp: f64)
     scalh(gsurf, re, alt, xm, temp)
 }
 
-// splini.
+// splini; out gets the value.
 #[no_mangle]
-pub extern "C" fn parts_splini(xa: &[f64], ya: &[f64], y2a: &[f64], n: usize, x: f64) -> f64
-    ensures { λ v. ⌜ v ≡ numberOf (spliniCall (now (xa .entry)) (now (ya .entry)) (now (y2a .entry)) n x) ⌝ }
+pub extern "C" fn parts_splini(
+    xa: &[f64],
+    ya: &[f64],
+    y2a: &[f64],
+    n: usize,
+    x: f64,
+    out: &mut [f64],
+) -> u64
+    ensures { λ v. ⌜ v ≡ codeOf (lent 1 (now (out .entry)) (one (spliniCall (now (xa .entry)) (now (ya .entry)) (now (y2a .entry)) n x))) ⌝ }
+    ensures { λ _. ⌜ now (out .exit) ≡ after (lent 1 (now (out .entry)) (one (spliniCall (now (xa .entry)) (now (ya .entry)) (now (y2a .entry)) n x))) (now (out .entry)) ⌝ }
 {
+    if out.len() != 1 {
+        return packed(4, 1);
+    }
     let a = splini(xa, ya, y2a, n, x);
-    number(a)
+    tell_value(a, out)
 }
 
-// splint.
+// splint; out gets the value.
 #[no_mangle]
-pub extern "C" fn parts_splint(xa: &[f64], ya: &[f64], y2a: &[f64], n: usize, x: f64) -> f64
-    ensures { λ v. ⌜ v ≡ numberOf (splintCall (now (xa .entry)) (now (ya .entry)) (now (y2a .entry)) n x) ⌝ }
+pub extern "C" fn parts_splint(
+    xa: &[f64],
+    ya: &[f64],
+    y2a: &[f64],
+    n: usize,
+    x: f64,
+    out: &mut [f64],
+) -> u64
+    ensures { λ v. ⌜ v ≡ codeOf (lent 1 (now (out .entry)) (one (splintCall (now (xa .entry)) (now (ya .entry)) (now (y2a .entry)) n x))) ⌝ }
+    ensures { λ _. ⌜ now (out .exit) ≡ after (lent 1 (now (out .entry)) (one (splintCall (now (xa .entry)) (now (ya .entry)) (now (y2a .entry)) n x))) (now (out .entry)) ⌝ }
 {
+    if out.len() != 1 {
+        return packed(4, 1);
+    }
     let a = splint(xa, ya, y2a, n, x);
-    number(a)
+    tell_value(a, out)
 }
 
-// spline; the answer is the number of its refusal, or 0.
+// spline; y2 gets the second derivatives.
 #[no_mangle]
 pub extern "C" fn parts_spline(
     x: &[f64],
@@ -164,14 +276,14 @@ pub extern "C" fn parts_spline(
     ypn: f64,
     y2: &mut [f64],
 ) -> u64
-    ensures { λ v. ⌜ v ≡ refusalOf (splineCall (now (x .entry)) (now (y .entry)) n yp1 ypn (now (y2 .entry))) ⌝ }
+    ensures { λ v. ⌜ v ≡ codeOf (splineCall (now (x .entry)) (now (y .entry)) n yp1 ypn (now (y2 .entry))) ⌝ }
     ensures { λ _. ⌜ now (y2 .exit) ≡ after (splineCall (now (x .entry)) (now (y .entry)) n yp1 ypn (now (y2 .entry))) (now (y2 .entry)) ⌝ }
 {
     let a = spline(x, y, n, yp1, ypn, y2);
-    refusal(a)
+    packed(write_refusal(a), write_place(a))
 }
 
-// densm's number.
+// densm; out gets the number that the Rust returns and the temperature that it writes into tz.
 #[no_mangle]
 pub extern "C" fn parts_densm(
     gsurf: f64,
@@ -188,9 +300,14 @@ pub extern "C" fn parts_densm(
     zn2: &[f64],
     tn2: &[f64],
     tgn2: &[f64],
-) -> f64
-    ensures { λ v. ⌜ v ≡ returnedOf (densmCall gsurf re alt d0 xm tz mn3 (now (zn3 .entry)) (now (tn3 .entry)) (now (tgn3 .entry)) mn2 (now (zn2 .entry)) (now (tn2 .entry)) (now (tgn2 .entry))) ⌝ }
+    out: &mut [f64],
+) -> u64
+    ensures { λ v. ⌜ v ≡ codeOf (lent 2 (now (out .entry)) (two (densmCall gsurf re alt d0 xm tz mn3 (now (zn3 .entry)) (now (tn3 .entry)) (now (tgn3 .entry)) mn2 (now (zn2 .entry)) (now (tn2 .entry)) (now (tgn2 .entry))))) ⌝ }
+    ensures { λ _. ⌜ now (out .exit) ≡ after (lent 2 (now (out .entry)) (two (densmCall gsurf re alt d0 xm tz mn3 (now (zn3 .entry)) (now (tn3 .entry)) (now (tgn3 .entry)) mn2 (now (zn2 .entry)) (now (tn2 .entry)) (now (tgn2 .entry))))) (now (out .entry)) ⌝ }
 {
+    if out.len() != 2 {
+        return packed(4, 2);
+    }
     let a = densm(
         gsurf,
         re,
@@ -207,49 +324,10 @@ pub extern "C" fn parts_densm(
         tn2,
         tgn2,
     );
-    returned(a)
+    tell_profile(a, out)
 }
 
-// The temperature that densm writes.
-#[no_mangle]
-pub extern "C" fn parts_densm_tz(
-    gsurf: f64,
-    re: f64,
-    alt: f64,
-    d0: f64,
-    xm: f64,
-    tz: f64,
-    mn3: usize,
-    zn3: &[f64],
-    tn3: &[f64],
-    tgn3: &[f64],
-    mn2: usize,
-    zn2: &[f64],
-    tn2: &[f64],
-    tgn2: &[f64],
-) -> f64
-    ensures { λ v. ⌜ v ≡ writtenOf (densmCall gsurf re alt d0 xm tz mn3 (now (zn3 .entry)) (now (tn3 .entry)) (now (tgn3 .entry)) mn2 (now (zn2 .entry)) (now (tn2 .entry)) (now (tgn2 .entry))) ⌝ }
-{
-    let a = densm(
-        gsurf,
-        re,
-        alt,
-        d0,
-        xm,
-        tz,
-        mn3,
-        zn3,
-        tn3,
-        tgn3,
-        mn2,
-        zn2,
-        tn2,
-        tgn2,
-    );
-    written(a)
-}
-
-// densu's number.
+// densu; out gets the number that the Rust returns and the temperature that it writes into tz, tn1 and tgn1 their element 0.
 #[no_mangle]
 pub extern "C" fn parts_densu(
     gsurf: f64,
@@ -267,11 +345,16 @@ pub extern "C" fn parts_densu(
     zn1: &[f64],
     tn1: &mut [f64],
     tgn1: &mut [f64],
-) -> f64
-    ensures { λ v. ⌜ v ≡ returnedOf (densuCall gsurf re alt dlb tinf tlb xm alpha tz zlb s2 mn1 (now (zn1 .entry)) (now (tn1 .entry)) (now (tgn1 .entry))) ⌝ }
-    ensures { λ _. ⌜ now (tn1 .exit) ≡ densuTn1 re alt tinf tlb zlb s2 mn1 (now (zn1 .entry)) (now (tn1 .entry)) (now (tgn1 .entry)) ⌝ }
-    ensures { λ _. ⌜ now (tgn1 .exit) ≡ densuTgn1 re alt tinf tlb zlb s2 mn1 (now (zn1 .entry)) (now (tn1 .entry)) (now (tgn1 .entry)) ⌝ }
+    out: &mut [f64],
+) -> u64
+    ensures { λ v. ⌜ v ≡ codeOf (lent 2 (now (out .entry)) (two (densuCall gsurf re alt dlb tinf tlb xm alpha tz zlb s2 mn1 (now (zn1 .entry)) (now (tn1 .entry)) (now (tgn1 .entry))))) ⌝ }
+    ensures { λ _. ⌜ now (out .exit) ≡ after (lent 2 (now (out .entry)) (two (densuCall gsurf re alt dlb tinf tlb xm alpha tz zlb s2 mn1 (now (zn1 .entry)) (now (tn1 .entry)) (now (tgn1 .entry))))) (now (out .entry)) ⌝ }
+    ensures { λ _. ⌜ now (tn1 .exit) ≡ kept 2 (now (out .entry)) (now (tn1 .entry)) (densuTn1 re alt tinf tlb zlb s2 mn1 (now (zn1 .entry)) (now (tn1 .entry)) (now (tgn1 .entry))) ⌝ }
+    ensures { λ _. ⌜ now (tgn1 .exit) ≡ kept 2 (now (out .entry)) (now (tgn1 .entry)) (densuTgn1 re alt tinf tlb zlb s2 mn1 (now (zn1 .entry)) (now (tn1 .entry)) (now (tgn1 .entry))) ⌝ }
 {
+    if out.len() != 2 {
+        return packed(4, 2);
+    }
     let a = densu(
         gsurf,
         re,
@@ -289,50 +372,7 @@ pub extern "C" fn parts_densu(
         tn1,
         tgn1,
     );
-    returned(a)
-}
-
-// The temperature that densu writes.
-#[no_mangle]
-pub extern "C" fn parts_densu_tz(
-    gsurf: f64,
-    re: f64,
-    alt: f64,
-    dlb: f64,
-    tinf: f64,
-    tlb: f64,
-    xm: f64,
-    alpha: f64,
-    tz: f64,
-    zlb: f64,
-    s2: f64,
-    mn1: usize,
-    zn1: &[f64],
-    tn1: &mut [f64],
-    tgn1: &mut [f64],
-) -> f64
-    ensures { λ v. ⌜ v ≡ writtenOf (densuCall gsurf re alt dlb tinf tlb xm alpha tz zlb s2 mn1 (now (zn1 .entry)) (now (tn1 .entry)) (now (tgn1 .entry))) ⌝ }
-    ensures { λ _. ⌜ now (tn1 .exit) ≡ densuTn1 re alt tinf tlb zlb s2 mn1 (now (zn1 .entry)) (now (tn1 .entry)) (now (tgn1 .entry)) ⌝ }
-    ensures { λ _. ⌜ now (tgn1 .exit) ≡ densuTgn1 re alt tinf tlb zlb s2 mn1 (now (zn1 .entry)) (now (tn1 .entry)) (now (tgn1 .entry)) ⌝ }
-{
-    let a = densu(
-        gsurf,
-        re,
-        alt,
-        dlb,
-        tinf,
-        tlb,
-        xm,
-        alpha,
-        tz,
-        zlb,
-        s2,
-        mn1,
-        zn1,
-        tn1,
-        tgn1,
-    );
-    written(a)
+    tell_profile(a, out)
 }
 
 // exp.

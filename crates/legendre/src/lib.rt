@@ -1,101 +1,69 @@
 // The Legendre values of a latitude: an array of four arrays, and flat as State holds them.
 ghost use mathlib.Core.Path.{_≡_};
-ghost use Rattle.legendre.specs.Legendre.{legendre0Of, legendre1Of, legendre2Of, legendre3Of, legendreOf, flatOf, row0Of, row1Of, row2Of, row3Of, rowsOf};
+ghost use Rattle.legendre.specs.Legendre.{legendreOf, flatOf, row0Of, row1Of, row2Of, row3Of, rowsOf};
 
-// plg[0] after globe7: five entries new, the others as they were.
-pub fn legendre0(c: f64, s: f64, old: [f64; 36]) -> [f64; 9]
-    ensures { λ r. ⌜ r ≡ legendre0Of c s old ⌝ }
+// The Legendre values after globe7 of c, the sine of latitude, and s, its cosine; fourteen entries stay as they were.
+pub fn legendre(c: f64, s: f64, old: [f64; 36]) -> [[f64; 9]; 4]
+    ensures { λ r. ⌜ r ≡ legendreOf c s old ⌝ }
 {
     let c2 = c * c;
     let c4 = c2 * c2;
-    let p4 = (35.0 * c4 - 30.0 * c2 + 3.0) / 8.0;
-    let p5 = (63.0 * c2 * c2 * c - 70.0 * c2 * c + 15.0 * c) / 8.0;
-    [
+    let s2 = s * s;
+    let p04 = (35.0 * c4 - 30.0 * c2 + 3.0) / 8.0;
+    let p05 = (63.0 * c2 * c2 * c - 70.0 * c2 * c + 15.0 * c) / 8.0;
+    let a = [
         old[0],
         c,
         0.5 * (3.0 * c2 - 1.0),
         0.5 * (5.0 * c * c2 - 3.0 * c),
-        p4,
-        p5,
-        (11.0 * c * p5 - 5.0 * p4) / 6.0,
+        p04,
+        p05,
+        (11.0 * c * p05 - 5.0 * p04) / 6.0,
         old[7],
         old[8],
-    ]
-}
-
-// plg[1] after globe7.
-pub fn legendre1(c: f64, s: f64, old: [f64; 36]) -> [f64; 9]
-    ensures { λ r. ⌜ r ≡ legendre1Of c s old ⌝ }
-{
-    let c2 = c * c;
-    let c4 = c2 * c2;
-    let p4 = 2.5 * (7.0 * c2 * c - 3.0 * c) * s;
-    let p5 = 1.875 * (21.0 * c4 - 14.0 * c2 + 1.0) * s;
-    [
+    ];
+    let p14 = 2.5 * (7.0 * c2 * c - 3.0 * c) * s;
+    let p15 = 1.875 * (21.0 * c4 - 14.0 * c2 + 1.0) * s;
+    let b = [
         old[9],
         s,
         3.0 * c * s,
         1.5 * (5.0 * c2 - 1.0) * s,
-        p4,
-        p5,
-        (11.0 * c * p5 - 6.0 * p4) / 5.0,
+        p14,
+        p15,
+        (11.0 * c * p15 - 6.0 * p14) / 5.0,
         old[16],
         old[17],
-    ]
-}
-
-// plg[2] after globe7.
-pub fn legendre2(c: f64, s: f64, old: [f64; 36]) -> [f64; 9]
-    ensures { λ r. ⌜ r ≡ legendre2Of c s old ⌝ }
-{
-    let c2 = c * c;
-    let s2 = s * s;
-    let p3 = 15.0 * s2 * c;
-    let p4 = 7.5 * (7.0 * c2 - 1.0) * s2;
-    let p5 = 3.0 * c * p4 - 2.0 * p3;
-    let p6 = (11.0 * c * p5 - 7.0 * p4) / 4.0;
-    [
+    ];
+    let p23 = 15.0 * s2 * c;
+    let p24 = 7.5 * (7.0 * c2 - 1.0) * s2;
+    let p25 = 3.0 * c * p24 - 2.0 * p23;
+    let p26 = (11.0 * c * p25 - 7.0 * p24) / 4.0;
+    let d = [
         old[18],
         old[19],
         3.0 * s2,
-        p3,
-        p4,
-        p5,
-        p6,
-        (13.0 * c * p6 - 8.0 * p5) / 5.0,
+        p23,
+        p24,
+        p25,
+        p26,
+        (13.0 * c * p26 - 8.0 * p25) / 5.0,
         old[26],
-    ]
-}
-
-// plg[3] after globe7.
-pub fn legendre3(c: f64, s: f64, old: [f64; 36]) -> [f64; 9]
-    ensures { λ r. ⌜ r ≡ legendre3Of c s old ⌝ }
-{
-    let s2 = s * s;
-    let p3 = 15.0 * s2 * s;
-    let p4 = 105.0 * s2 * s * c;
-    let p5 = (9.0 * c * p4 - 7.0 * p3) / 2.0;
-    [
+    ];
+    let p33 = 15.0 * s2 * s;
+    let p34 = 105.0 * s2 * s * c;
+    let p35 = (9.0 * c * p34 - 7.0 * p33) / 2.0;
+    let e = [
         old[27],
         old[28],
         old[29],
-        p3,
-        p4,
-        p5,
-        (11.0 * c * p5 - 8.0 * p4) / 3.0,
+        p33,
+        p34,
+        p35,
+        (11.0 * c * p35 - 8.0 * p34) / 3.0,
         old[34],
         old[35],
-    ]
-}
-
-// The Legendre values of c, the sine of latitude, and s, its cosine.
-pub fn legendre(c: f64, s: f64, old: [f64; 36]) -> [[f64; 9]; 4]
-    ensures { λ r. ⌜ r ≡ legendreOf c s old ⌝ }
-{
-    let a = legendre0(c, s, old);
-    let b = legendre1(c, s, old);
-    let d = legendre2(c, s, old);
-    let e = legendre3(c, s, old);
+    ];
     [a, b, d, e]
 }
 

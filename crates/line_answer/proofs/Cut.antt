@@ -1,18 +1,19 @@
 -- The input cut into lines: a byte taken, a chunk, and the end of the input.
-use mathlib.Core.Path.{_≡_, refl, ap, _∙_}
+use mathlib.Core.Path.{_≡_, refl, sym, ap, _∙_}
 use mathlib.Core.Bool.{true, false}
 use mathlib.Core.List.{List, [], _∷_, _++_}
-use Prim.Native.Nat.{ℕ, _+_, _<_, _≤_, zero-le}
+use Prim.Native.Nat.{ℕ, _+_, _-_, _<_, _≤_, zero-le}
 use native.Mathlib.Numerals.{add-one}
 use borrow.Author.Tests.{lt-ltb, le-ltb, eq-eqb, ne-eqb}
 use lib.Dec.{ltb, eqb}
 use lib.ListN.{length, take, drop, getD, set, length-append}
-use lib.Seq.{length-take-le, take-suc-set, take-at, drop-cons, drop-length}
+use native.Mathlib.Omega.{arith}
+use lib.Seq.{length-take-le, take-suc-set, take-at, drop-at, drop-drop, drop-cons, drop-length}
 use Rattle.line_text.proofs.Choice.{cond-true, cond-false}
 use Rattle.line_text.specs.Text.{written, Writes}
 use Rattle.line_answer.specs.declared.Place.{Place}
 use Rattle.line_answer.specs.Answer.{answerText}
-use Rattle.line_answer.specs.Lines.{Progress, afterOf, progressOf, keptOf, stepOf, fedOf, lastOf, begin}
+use Rattle.line_answer.specs.Lines.{Progress, afterOf, progressOf, keptOf, stepOf, fedOf, lenAfter, lineStep, lineAfter, KeptBehind, lastOf, begin}
 
 pub after-more : (n : ℕ) → n < 0xffff_ffff_ffff_ffff → n + 1 ≡ afterOf n
 after-more n h = cond-true _ _ _ (lt-ltb n 0xffff_ffff_ffff_ffff h)
@@ -24,6 +25,23 @@ take-written : (b c t : List ℕ) (at r : ℕ) → at ≤ length b → Writes b 
 unfolding written
 take-written b c t at r h w =
     rw (w .1, w .0) (take-at (take at b ++ t) (drop (at + length t) b) (at + length t) (length-append (take at b) t ∙ ap (λ (k : ℕ). k + length t) (length-take-le at b h)))
+
+-- ---- behind the used part
+
+pub behind-written : (b c t : List ℕ) (at r : ℕ) → at ≤ length b → Writes b at t c r → KeptBehind b c r
+unfolding written
+behind-written b c t at r h w =
+    rw (w .1, w .0) (drop-at (take at b ++ t) (drop (at + length t) b) (at + length t) (length-append (take at b) t ∙ ap (λ (k : ℕ). k + length t) (length-take-le at b h)))
+
+-- what lies behind a part lies behind a longer one
+pub behind-more : (b c d : List ℕ) (m n : ℕ) → m ≤ n → KeptBehind b c m → KeptBehind c d n → KeptBehind b d n
+behind-more b c d m n h f g =
+    g ∙ (further c ∙ ap (drop (n - m)) f ∙ sym (further b))
+  where
+    further : (l : List ℕ) → drop n l ≡ drop (n - m) (drop m l)
+    further l =
+        let k : n ≡ m + (n - m) = omega arith in
+        ap (λ (i : ℕ). drop i l) k ∙ sym (drop-drop (n - m) m l)
 
 -- ---- a byte
 
@@ -49,7 +67,33 @@ module _ (line out : List ℕ) (p : Place) (b : ℕ) where
         let room : ltb (length (take (p .len) line)) 512 ≡ false = rw (length-take-le (p .len) line h) (le-ltb _ _ g) in
         ap (λ (l : List ℕ). record { kept = l; number = p .number; printed = take (p .used) out }) (cond-false _ (take (p .len) line ++ (b ∷ [])) _ room) ∙ cond-false _ _ _ (ne-eqb b 10 ne)
 
+-- the bytes kept and the line's buffer
+module _ (line : List ℕ) (len b : ℕ) where
+  pub begun-anew : b ≡ 10 → (0 ≡ lenAfter b len) × (line ≡ lineStep b len line)
+  unfolding lenAfter lineStep
+  begun-anew e = (cond-true _ _ _ (eq-eqb b 10 e), cond-true _ _ _ (eq-eqb b 10 e))
+
+  module _ (ne : b ≡ 10 → ⊥) where
+    pub one-more : len < 512 → (len + 1 ≡ lenAfter b len) × (set line len b ≡ lineStep b len line)
+    unfolding lenAfter lineStep
+    one-more h =
+        (cond-true _ _ _ (lt-ltb _ _ h) ∙ cond-false _ _ _ (ne-eqb b 10 ne), cond-true _ _ _ (lt-ltb _ _ h) ∙ cond-false _ _ _ (ne-eqb b 10 ne))
+
+    pub no-more : 512 ≤ len → (len ≡ lenAfter b len) × (line ≡ lineStep b len line)
+    unfolding lenAfter lineStep
+    no-more h =
+        (cond-false _ _ _ (le-ltb _ _ h) ∙ cond-false _ _ _ (ne-eqb b 10 ne), cond-false _ _ _ (le-ltb _ _ h) ∙ cond-false _ _ _ (ne-eqb b 10 ne))
+
 -- ---- a chunk
+
+pub line-more : (chunk : List ℕ) (i len m : ℕ) (line l : List ℕ) → i < length chunk → m ≡ lenAfter (getD chunk i 0) len → l ≡ lineStep (getD chunk i 0) len line
+    → lineAfter (drop (i + 1) chunk) m l ≡ lineAfter (drop i chunk) len line
+unfolding lineAfter
+line-more chunk i len m line l h e g = rw (e, g, add-one, drop-cons chunk i 0 h)
+
+pub line-last : (chunk : List ℕ) (i len : ℕ) (line : List ℕ) → i ≡ length chunk → line ≡ lineAfter (drop i chunk) len line
+unfolding lineAfter
+line-last chunk i len line e = rw (e, drop-length chunk)
 
 pub fed-first : (chunk line out : List ℕ) (len number : ℕ)
     → fedOf (drop 0 chunk) (progressOf line out (record { len = len; number = number; used = 0 })) ≡ fedOf chunk (begin (take len line) number)

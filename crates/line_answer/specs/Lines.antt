@@ -1,9 +1,10 @@
 -- The lines of a text and the answers to them; and the same byte by byte, as the program reads them.
 use Prim.Native.Nat.{ℕ, _+_}
+use mathlib.Core.Path.{_≡_}
 use mathlib.Core.Bool.{cond}
 use mathlib.Core.List.{List, [], _∷_, _++_}
 use lib.Dec.{ltb, eqb}
-use lib.ListN.{length, take}
+use lib.ListN.{length, take, drop, set}
 use Rattle.line_answer.specs.declared.Place.{Place}
 use Rattle.line_answer.specs.Answer.{answerText}
 
@@ -57,6 +58,22 @@ stepOf b s =
 unfoldable pub fedOf : List ℕ → Progress → Progress
 fedOf [] s = s
 fedOf (b ∷ bytes) s = fedOf bytes (stepOf b s)
+
+-- how many bytes of the line begun are kept after a byte, and the line's buffer after it: behind them lies what lay there
+unfoldable pub lenAfter : ℕ → ℕ → ℕ
+lenAfter b len = cond (eqb b 10) 0 (cond (ltb len 512) (len + 1) len)
+
+unfoldable pub lineStep : ℕ → ℕ → List ℕ → List ℕ
+lineStep b len line = cond (eqb b 10) line (cond (ltb len 512) (set line len b) line)
+
+-- the line's buffer after the bytes of a chunk
+unfoldable pub lineAfter : List ℕ → ℕ → List ℕ → List ℕ
+lineAfter [] len line = line
+lineAfter (b ∷ bytes) len line = lineAfter bytes (lenAfter b len) (lineStep b len line)
+
+-- a buffer of answers became c: behind its used part it holds what it held
+abbrev pub KeptBehind : List ℕ → List ℕ → ℕ → Type 0
+KeptBehind out c used = drop used c ≡ drop used out
 
 -- the answers once the input has ended: the last line may lack its newline
 unfoldable pub lastOf : Progress → List ℕ

@@ -4,7 +4,7 @@ ghost use Prim.Native.Nat.{_+_, _*_, _≤_};
 ghost use lib.ListN.{length, take};
 ghost use Rattle.line_text.specs.Text.{Writes};
 ghost use Rattle.line_answer.specs.Answer.{dnetValue, ccorValue, outcomeText, runAnswer, answerText};
-ghost use Rattle.line_answer.specs.Lines.{afterOf, progressOf, stepOf, fedOf, lastOf, begin};
+ghost use Rattle.line_answer.specs.Lines.{afterOf, progressOf, stepOf, fedOf, lenAfter, lineStep, lineAfter, KeptBehind, lastOf, begin};
 use acceptance::Answer;
 use atmosphere::gtd7;
 use line_form::Reading;
@@ -107,7 +107,9 @@ pub fn after(number: u64) -> u64
 pub fn take_byte(b: u8, line: &mut [u8], out: &mut [u8], p: Place) -> Place
     requires { ⌜ (length (now line) ≡ 512) × (p .len ≤ 512) × (p .used + 193 ≤ length (now out)) ⌝ }
     ensures { λ r. ⌜ (progressOf (now (line .exit)) (now (out .exit)) r ≡ stepOf b (progressOf (now (line .entry)) (now (out .entry)) p))
-        × (r .len ≤ 512) × (r .used ≤ p .used + 193) ⌝ }
+        × (r .len ≤ 512) × (p .used ≤ r .used) × (r .used ≤ p .used + 193) ⌝ }
+    ensures { λ r. ⌜ (r .len ≡ lenAfter b (p .len)) × (now (line .exit) ≡ lineStep b (p .len) (now (line .entry)))
+        × KeptBehind (now (out .entry)) (now (out .exit)) (r .used) ⌝ }
 {
     let len = p.len;
     let number = p.number;
@@ -133,7 +135,7 @@ pub fn take_byte(b: u8, line: &mut [u8], out: &mut [u8], p: Place) -> Place
 
 // Before the input.
 pub fn start() -> Place
-    ensures { λ r. ⌜ (r .len ≡ 0) × (r .number ≡ 1) ⌝ }
+    ensures { λ r. ⌜ (r .len ≡ 0) × (r .number ≡ 1) × (r .used ≡ 0) ⌝ }
 {
     Place {
         len: 0,
@@ -147,6 +149,8 @@ pub fn feed(chunk: &[u8], line: &mut [u8], out: &mut [u8], p: Place) -> Place
     requires { ⌜ (length (now line) ≡ 512) × (p .len ≤ 512) × (193 * length (now chunk) ≤ length (now out)) ⌝ }
     ensures { λ r. ⌜ (progressOf (now (line .exit)) (now (out .exit)) r ≡ fedOf (now (chunk .entry)) (begin (take (p .len) (now (line .entry))) (p .number)))
         × (r .len ≤ 512) × (r .used ≤ length (now (out .entry))) ⌝ }
+    ensures { λ r. ⌜ (now (line .exit) ≡ lineAfter (now (chunk .entry)) (p .len) (now (line .entry)))
+        × KeptBehind (now (out .entry)) (now (out .exit)) (r .used) ⌝ }
 {
     let mut q = Place {
         len: p.len,
@@ -165,7 +169,8 @@ pub fn feed(chunk: &[u8], line: &mut [u8], out: &mut [u8], p: Place) -> Place
 // The end of the input, and the answer to a last line without newline.
 pub fn finish(line: &[u8], out: &mut [u8], p: Place) -> usize
     requires { ⌜ (p .len ≤ length (now line)) × (193 ≤ length (now out)) ⌝ }
-    ensures { λ r. ⌜ (take r (now (out .exit)) ≡ lastOf (begin (take (p .len) (now (line .entry))) (p .number))) × (r ≤ length (now (out .entry))) ⌝ }
+    ensures { λ r. ⌜ (take r (now (out .exit)) ≡ lastOf (begin (take (p .len) (now (line .entry))) (p .number)))
+        × (r ≤ length (now (out .entry))) × KeptBehind (now (out .entry)) (now (out .exit)) r ⌝ }
 {
     let len = p.len;
     let number = p.number;

@@ -43,9 +43,9 @@ pub fn finite(x: f64) -> bool
     (x < infinity) & (-infinity < x)
 }
 
-// True for +0 alone.
+// True for +0, and for it alone.
 pub fn plus_zero(x: f64) -> bool
-    ensures { λ r. ⌜ (r ≡ true → x ≡ 0·0) ⌝ }
+    ensures { λ r. ⌜ (r ≡ true → x ≡ 0·0) × (x ≡ 0·0 → r ≡ true) ⌝ }
 {
     if !(x == x) {
         return false;

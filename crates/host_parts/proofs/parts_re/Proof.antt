@@ -5,11 +5,9 @@ use borrow.Author.Needs.{needs}
 use Rattle.host_parts.proofs.parts_re.Statement.{statement}
 use Rattle.host_parts.proofs.parts_re.Tie as tie
 
-glatf-requires : tie.Need-glatf-requires
-glatf-requires c κs = search needs
-
 returns : tie.Need-returns
 returns c = ap (λ (g : Gravity). g .re) (c .glatf .ensures)
 
 pub parts-re-spec : {M : Type 1} → statement M
-parts-re-spec = tie.close (tie.spec glatf-requires returns)
+parts-re-spec =
+    tie.close (tie.spec (λ c κs. search needs) returns)

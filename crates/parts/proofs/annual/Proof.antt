@@ -11,7 +11,7 @@ plus-zero-requires c κs = search needs
 
 returns : tie.Need-returns
 returns c = let A = (c .before .before .args) in
-    (c .before .before .pre .year) ∙ ap (λ (y : Float). annualCosOf (A .v .doy) y) (sym ((c .before .plus-zero .ensures) (c .if1 .taken)))
+    (c .before .before .pre .year) ∙ ap (λ (y : Float). annualCosOf (A .v .doy) y) (sym (c .before .plus-zero .ensures .0 (c .if1 .taken)))
 
 annual-cos-requires : tie.Need-annual-cos-requires
 annual-cos-requires c κs = search needs

@@ -11,7 +11,7 @@ plus-zero-requires c κs = search needs
 
 returns : tie.Need-returns
 returns c = let A = (c .before .before .args) in
-    (c .before .before .pre .local) ∙ ap (λ (y : Float). localCosOf (A .v .lst) y) (sym ((c .before .plus-zero .ensures) (c .if1 .taken)))
+    (c .before .before .pre .local) ∙ ap (λ (y : Float). localCosOf (A .v .lst) y) (sym (c .before .plus-zero .ensures .0 (c .if1 .taken)))
 
 local-cos-requires : tie.Need-local-cos-requires
 local-cos-requires c κs = search needs

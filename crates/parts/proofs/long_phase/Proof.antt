@@ -11,7 +11,7 @@ plus-zero-requires c κs = search needs
 
 returns : tie.Need-returns
 returns c = let A = (c .before .before .args) in
-    (c .before .before .pre .long) ∙ ap (λ (y : Float). longPhaseCosOf (A .v .«g_long») y) (sym ((c .before .plus-zero .ensures) (c .if1 .taken)))
+    (c .before .before .pre .long) ∙ ap (λ (y : Float). longPhaseCosOf (A .v .«g_long») y) (sym (c .before .plus-zero .ensures .0 (c .if1 .taken)))
 
 long-phase-cos-requires : tie.Need-long-phase-cos-requires
 long-phase-cos-requires c κs = search needs

@@ -11,7 +11,7 @@ plus-zero-requires c κs = search needs
 
 returns : tie.Need-returns
 returns c = let A = (c .before .before .args) in
-    (c .before .before .pre .half-year) ∙ ap (λ (y : Float). semiannualCosOf (A .v .doy) y) (sym ((c .before .plus-zero .ensures) (c .if1 .taken)))
+    (c .before .before .pre .half-year) ∙ ap (λ (y : Float). semiannualCosOf (A .v .doy) y) (sym (c .before .plus-zero .ensures .0 (c .if1 .taken)))
 
 semiannual-cos-requires : tie.Need-semiannual-cos-requires
 semiannual-cos-requires c κs = search needs

@@ -11,7 +11,7 @@ plus-zero-requires c κs = search needs
 
 returns : tie.Need-returns
 returns c = let A = (c .before .before .args) in
-    (c .before .before .pre .ut) ∙ ap (λ (y : Float). utCosOf (A .v .sec) y) (sym ((c .before .plus-zero .ensures) (c .if1 .taken)))
+    (c .before .before .pre .ut) ∙ ap (λ (y : Float). utCosOf (A .v .sec) y) (sym (c .before .plus-zero .ensures .0 (c .if1 .taken)))
 
 ut-cos-requires : tie.Need-ut-cos-requires
 ut-cos-requires c κs = search needs

@@ -11,7 +11,7 @@ plus-zero-requires c κs = search needs
 
 returns : tie.Need-returns
 returns c = let A = (c .before .before .args) in
-    (c .before .before .pre .ut-long) ∙ ap (λ (y : Float). utLongCosOf (A .v .sec) y (A .v .«g_long»)) (sym ((c .before .plus-zero .ensures) (c .if1 .taken)))
+    (c .before .before .pre .ut-long) ∙ ap (λ (y : Float). utLongCosOf (A .v .sec) y (A .v .«g_long»)) (sym (c .before .plus-zero .ensures .0 (c .if1 .taken)))
 
 ut-long-cos-requires : tie.Need-ut-long-cos-requires
 ut-long-cos-requires c κs = search needs
