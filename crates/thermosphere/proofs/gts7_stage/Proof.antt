@@ -1,4 +1,4 @@
--- `gts7` meets its contract.
+-- `gts7_stage` meets its contract.
 use mathlib.Core.Path.{ap, _∙_}
 use mathlib.Core.Bool.{_&&_}
 use mathlib.Core.List.{List}
@@ -8,8 +8,8 @@ use Rattle.numbers.specs.Literals.{0·0, 450·0}
 use Rattle.species.specs.Places.{placeAt}
 use Rattle.thermosphere.proofs.Laws.{gts7-law, logged-at, mixes-row}
 use borrow.Author.Needs.{needs}
-use Rattle.thermosphere.proofs.gts7.Statement.{statement}
-use Rattle.thermosphere.proofs.gts7.Tie as tie
+use Rattle.thermosphere.proofs.gts7_stage.Statement.{statement}
+use Rattle.thermosphere.proofs.gts7_stage.Tie as tie
 
 shape-stage-requires : tie.Need-shape-stage-requires
 shape-stage-requires c κs = search needs
@@ -80,8 +80,8 @@ returns c = let A = (c .before .before .before .before .before .before .before .
     (c .before .before .before .before .n2-stage .ensures)
     (c .before .before .before .before .before .before .before .before .before .before .before .shape-stage .ensures)
 
-pub gts7-spec : {M : Type 1} → statement M
-gts7-spec =
+pub gts7-stage-spec : {M : Type 1} → statement M
+gts7-stage-spec =
     tie.close
     (tie.spec
     shape-stage-requires

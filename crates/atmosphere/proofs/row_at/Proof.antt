@@ -1,10 +1,10 @@
 -- `row_at` meets its contract.
 use mathlib.Core.Path.{_∙_, ap}
 use Rattle.lower.specs.declared.Whole.{Whole}
-use Rattle.column.specs.Column.{elevenFrom}
+use Rattle.atmosphere.specs.Atmosphere.{elevenFrom}
 use borrow.Author.Needs.{needs}
-use Rattle.column.proofs.row_at.Statement.{statement}
-use Rattle.column.proofs.row_at.Tie as tie
+use Rattle.atmosphere.proofs.row_at.Statement.{statement}
+use Rattle.atmosphere.proofs.row_at.Tie as tie
 
 gtd7-stage-requires : tie.Need-gtd7-stage-requires
 gtd7-stage-requires c κs = search needs
