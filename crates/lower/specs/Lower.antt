@@ -116,18 +116,14 @@ belowOf sw0 x alt u w =
     let b = warmthOf x alt (temperatureIn a) w in
     record {
       row = he ∷ 0·0 ∷ d2 ∷ o2 ∷ ar ∷ all ∷ 0·0 ∷ 0·0 ∷ 0·0 ∷ u .shape .tinf ∷ temperatureIn b ∷ [];
-      upper = u;
-      nodes = w;
       dd = densityIn b;
     }
 
--- at or above 72.5 km: gts7's numbers, the lower nodes as in a fresh State
+-- at or above 72.5 km: gts7's numbers
 unfoldable pub aboveOf : Upper → Whole
 aboveOf u =
     let d = u .d in
     record {
       row = (d ‼ 0) ∷ (d ‼ 1) ∷ (d ‼ 2) ∷ (d ‼ 3) ∷ (d ‼ 4) ∷ (d ‼ 5) ∷ (d ‼ 6) ∷ (d ‼ 7) ∷ (d ‼ 8) ∷ u .shape .tinf ∷ u .t1 ∷ [];
-      upper = u;
-      nodes = record { tn2 = 0·0 ∷ 0·0 ∷ 0·0 ∷ 0·0 ∷ []; tgn2 = 0·0 ∷ 0·0 ∷ []; tn3 = 0·0 ∷ 0·0 ∷ 0·0 ∷ 0·0 ∷ 0·0 ∷ []; tgn3 = 0·0 ∷ 0·0 ∷ [] };
       dd = 0·0;
     }
