@@ -13,7 +13,7 @@ use std::time::Instant;
 type Input = untouched::astro::atmosphere::NrlmsiseInput;
 
 extern "C" {
-    fn state_number(
+    fn state_after_gtd7(
         year: i32,
         doy: i32,
         fields: *const f64,
@@ -22,8 +22,9 @@ extern "C" {
         n_ap: usize,
         switches: *const i32,
         n_switches: usize,
-        k: usize,
-    ) -> f64;
+        numbers: *mut f64,
+        n_numbers: usize,
+    ) -> u64;
 }
 
 // The record for another copy of the Rust.
@@ -38,10 +39,13 @@ macro_rules! to_copy {
 to_copy!(to_routed, routed);
 to_copy!(to_counted, counted);
 
-// State after gtd7, number by number.
-fn state(r: &Input, w: &[i32; 24], k: usize) -> f64 {
+// State after gtd7, its 78 numbers.
+fn state(r: &Input, w: &[i32; 24]) -> Vec<f64> {
     let (fields, ap, n_ap) = numbers(r);
-    unsafe { state_number(r.year, r.doy, fields.as_ptr(), 8, ap.as_ptr(), n_ap, w.as_ptr(), 24, k) }
+    let mut all = vec![0.0; 78];
+    let code = unsafe { state_after_gtd7(r.year, r.doy, fields.as_ptr(), 8, ap.as_ptr(), n_ap, w.as_ptr(), 24, all.as_mut_ptr(), 78) };
+    assert_eq!(code, 0);
+    all
 }
 
 impl Random {
@@ -235,7 +239,7 @@ fn states(g: &mut Random, count: u64) -> u64 {
         }
         done += 1;
         let (_, want) = routed::astro::atmosphere::shim::gtd7(&to_routed(&r), w);
-        let have: Vec<f64> = (0..78).map(|k| state(&r, &w, k)).collect();
+        let have = state(&r, &w);
         if !(0..78).all(|k| same(have[k], want[k])) {
             bad += 1;
             if bad <= 3 {

@@ -12,11 +12,13 @@ use Rattle.numbers.specs.Arithmetic.{_‼_}
 use Rattle.numbers.specs.Literals.{72·5}
 use Rattle.setting.specs.declared.Input.{Input}
 use Rattle.setting.specs.declared.View.{View}
+use Rattle.setting.specs.View.{viewOf}
 use Rattle.plan.specs.declared.Levels.{Levels}
-use Rattle.plan.specs.Plan.{Plan, either, told, given, then, last}
+use Rattle.plan.specs.Plan.{Plan, either, told, given, then, last, told-keep}
 use Rattle.levels.specs.declared.Need.{Need}
 use Rattle.levels.specs.Levels.{needAt, levelsOf}
 use Rattle.upper.specs.declared.Site.{Site}
+use Rattle.upper.specs.Upper.{siteOf}
 use Rattle.stages.specs.Stages.{gts7Plan}
 use Rattle.upper.specs.declared.Upper.{Upper}
 use Rattle.lower.specs.declared.Whole.{Whole}
@@ -26,7 +28,7 @@ use Rattle.lower.specs.Lower.{mesoPlan, lowerPlan, aboveOf, belowOf}
 use Rattle.acceptance.specs.declared.Answer.{Answer}
 use Rattle.acceptance.specs.declared.Answer.the-variants.{Refused}
 use Rattle.acceptance.specs.Acceptance.{acceptedOf}
-use Rattle.atmosphere.specs.Atmosphere.{gtd7Plan, elevenAtOf, elevenOf, answerOf, rowAfter}
+use Rattle.atmosphere.specs.Atmosphere.{gtd7Plan, elevenFrom, elevenAtOf, elevenOf, answerOf, rowAfter}
 use Rattle.atmosphere.specs.Answers.{gtd7-told}
 
 -- one of two plans, by a test whose value is known
@@ -46,7 +48,8 @@ unfolding gtd7Plan
 gtd7-above sw x alt l w u altt e0 e1 e2 t =
     e0
     ∙ sym
-    (then (given l) (gts7Plan sw x (cond (lt 72·5 alt) alt 72·5)) _ u (rw e2 at e1)
+    (told-keep (given l) _ _
+    ∙ then (given l) (gts7Plan sw x (cond (lt 72·5 alt) alt 72·5)) _ u (rw e2 at e1)
     ∙ ap (told (given l)) (either-true (le 72·5 alt) _ _ t)
     ∙ last (given l) _)
 
@@ -62,10 +65,12 @@ unfolding gtd7Plan
 gtd7-below sw x alt l w n m u altt e0 e1 e2 e3 e4 t =
     e0
     ∙ sym
-    (then (given l) (gts7Plan sw x (cond (lt 72·5 alt) alt 72·5)) _ u (rw e4 at e3)
+    (told-keep (given l) _ _
+    ∙ then (given l) (gts7Plan sw x (cond (lt 72·5 alt) alt 72·5)) _ u (rw e4 at e3)
     ∙ ap (told (given l)) (either-false (le 72·5 alt) _ _ t)
     ∙ then (given l) (mesoPlan sw u) _ m e2
     ∙ then (given l) (lowerPlan sw alt m) _ n e1
+    ∙ told-keep (given l) _ _
     ∙ last (given l) _)
 
 -- an accepted answer passed the first test
@@ -89,10 +94,15 @@ pub row-written : (w : List ℤ) (n : Input) (xs : List Float) → acceptedOf (a
 unfolding rowAfter
 row-written w n xs h = simp h
 
-pub eleven-at-law : (v : View) (x : Site) (alt : Float) (b : Whole) (l : Levels) (n : Need)
-    → b ≡ told (given l) (gtd7Plan (v .sw) x alt)
-    → l ≡ levelsOf v n
-    → n ≡ needAt alt
-    → b .row ≡ elevenAtOf v x alt
-unfolding elevenAtOf
-eleven-at-law v x alt b l n e0 e1 e2 = ap (λ (w : Whole). w .row) (rw (e1, e2) at e0 ∙ sym (gtd7-told v x alt))
+pub row-of-law : (w : List ℤ) (n : Input) (row : List Float) (l : Levels) (a : Need) (x : Site) (v : View)
+    → row ≡ elevenFrom (v .sw) x l (n .alt)
+    → l ≡ levelsOf v a
+    → a ≡ needAt (n .alt)
+    → x ≡ siteOf (v .sw) (n .«g_lat») (v .doy) (n .f107a)
+    → v ≡ viewOf w n
+    → row ≡ elevenOf w n
+unfolding elevenFrom elevenOf elevenAtOf
+row-of-law w n row l a x v e0 e1 e2 e3 e4 =
+    rw (e1, e2) at e0
+    ∙ ap (λ (b : Whole). b .row) (sym (gtd7-told v x (n .alt)))
+    ∙ rw (e3, e4)

@@ -1,4 +1,4 @@
--- gtd7 needs no State: run from a fresh one it gives what it makes of the Levels, and leaves the State that PD[7] and PD[8] leave.
+-- Why a call needs no State: run from a fresh one gtd7 gives what it makes of the Levels, and leaves what PD[7] and PD[8] leave and its own steps set.
 use mathlib.Core.Path.{_≡_, refl, sym, ap, _∙_}
 use mathlib.Core.Bool.{Bool, true, false, cond, not, false≢true}
 use mathlib.Core.List.{List}
@@ -16,15 +16,17 @@ use Rattle.setting.specs.State.{freshOf}
 use Rattle.expansion.specs.Expansion.{afterOf, level7Of, globe7Of, glob7sFrom, glob7sOf}
 use Rattle.tables.specs.Names.{Wide, Narrow, wide, narrow, PT, PS, PD0, PD1, PD2, PD3, PD4, PD5, PD6, PD7, PD8, PTL0, PTL1, PTL2, PTL3, PMA0, PMA1, PMA2, PMA3, PMA4, PMA5, PMA6, PMA7, PMA8, PMA9}
 use Rattle.tables.specs.Tables.{ptT, psT, pdT0, pdT1, pdT2, pdT3, pdT4, pdT5, pdT6, pdT7, pdT8, pdmT2, pdlT1, pmaT0, pmaT1, pmaT2, pmaT3, pmaT4, pmaT5, pmaT6, pmaT7, pmaT8, pmaT9, ptlT0, ptlT1, ptlT2, ptlT3}
-use Rattle.plan.specs.Plan.{Plan, done, ask, either, _>>=_, Ask, one-plus-globe7, exp-globe7, one-plus-glob7s, one-minus-glob7s, onePlusGlobe7Of, expGlobe7Of, onePlusGlob7sOf, oneMinusGlob7sOf, answer, run, told, given, wideIn, narrowIn}
+use Rattle.plan.specs.Fields.{Fields, fieldsOf, withFields}
+use Rattle.plan.specs.Plan.{Plan, done, ask, keep, either, _>>=_, Ask, one-plus-globe7, exp-globe7, one-plus-glob7s, one-minus-glob7s, onePlusGlobe7Of, expGlobe7Of, onePlusGlob7sOf, oneMinusGlob7sOf, answer, run, Ran, ends, told, kept, stepped, given, wideIn, narrowIn}
 use Rattle.levels.specs.declared.Need.{Need}
 use Rattle.levels.specs.Levels.{legendreIn, quietOf, activeOf, wideOf, warmOf, lightOf, heavyOf, nodesIn, nodesOf, mesoIn, mesoOf, tropoIn, tropoOf, needAt, levelsOf}
-use Rattle.levels.specs.Settled.{Settled, fresh-settled, after-settled, globe7-first, globe7-second, glob7s-first, glob7s-second, Kept, kept-done, kept-ask, kept-then, kept-either}
+use Rattle.levels.specs.Settled.{Settled, fresh-settled, after-settled, globe7-first, globe7-second, glob7s-first, glob7s-second, Kept, kept-done, kept-ask, kept-keep, kept-then, kept-either}
 use Rattle.profile.specs.declared.unchecked.Shape.{Shape}
 use Rattle.upper.specs.declared.Site.{Site}
 use Rattle.upper.specs.declared.Upper.{Upper}
 use Rattle.stages.specs.Stages.{tinfPlan, gradientPlan, tlbPlan, nodesPlan, shapePlan, n2Plan, heliumPlan, oxygenPlan, o2Plan, argonPlan, hydrogenPlan, nitrogenPlan, hotPlan, speciesPlan, gts7Plan}
 use Rattle.lower.specs.declared.Meso.{Meso}
+use Rattle.lower.specs.declared.Whole.{Whole}
 use Rattle.lower.specs.Lower.{mesoPlan, lowerPlan}
 use Rattle.atmosphere.specs.Atmosphere.{gtd7Plan}
 
@@ -84,6 +86,10 @@ unfolding globe7Of
 same-globe7 v p s e = cc e
 
 module _ (v : View) (n : Need) where
+  -- a step that sets fields
+  sets : {A : Type 0} {Q : State → Type 0} {u : Fields → Fields} {m : Plan A} {s : State} → Kept v (given (levelsOf v n)) Q m s → Kept v (given (levelsOf v n)) Q (keep u m) s
+  sets h = kept-keep v (given (levelsOf v n)) h
+
   -- a question of globe7 over a set that takes its history anew
   plus : {A : Type 0} (Q : State → Type 0) (f : Float) (p : Wide) (k : Float → Plan A) (s : State)
       → Settled v s
@@ -167,8 +173,8 @@ module _ (v : View) (n : Need) where
       (minus-s After3 (v .sw ‼ 18) PTL2 _ s (in-nodes s h ptlT2 2 (needed (n .nodes) (replicate 5 0·0) (nodesIn v (legendreIn v) (activeOf v pdT3 (quietOf v))) 2 (c e)))
       (minus-s After3 (v .sw ‼ 18 ⊗ v .sw ‼ 20) PTL3 _ s (in-nodes s h ptlT3 3 (needed (n .nodes) (replicate 5 0·0) (nodesIn v (legendreIn v) (activeOf v pdT3 (quietOf v))) 3 (c e)))
       (plus-s After3 (v .sw ‼ 18 ⊗ v .sw ‼ 20) PMA8 _ s (in-nodes s h pmaT8 4 (needed (n .nodes) (replicate 5 0·0) (nodesIn v (legendreIn v) (activeOf v pdT3 (quietOf v))) 4 (c e)))
-      (kept-done v (given (levelsOf v n)) After3 _ s h))))))
-      (λ e. kept-done v (given (levelsOf v n)) After3 _ s h)
+      (sets (kept-done v (given (levelsOf v n)) After3 _ s h)))))))
+      (λ e. sets (kept-done v (given (levelsOf v n)) After3 _ s h))
 
   shape-kept : (x : Site) (z : Float) → (lt (pdlT1 ‼ 15) z ≡ true → n .pt ≡ true) → (lt 72·5 z ≡ true → n .ps ≡ true) → (lt z 300·0 ≡ true → n .nodes ≡ true)
       → (s : State) → Settled v s → Kept v (given (levelsOf v n)) After3 (shapePlan (v .sw) x z) s
@@ -182,7 +188,7 @@ module _ (v : View) (n : Need) where
 
   n2-kept : (h : Shape) (z zhf : Float) (s : State) → Settled v s → Kept v (given (levelsOf v n)) (Settled v) (n2Plan (v .sw) h z zhf) s
   unfolding n2Plan _>>=_ levelsOf lightOf
-  n2-kept h z zhf s e = expo (Settled v) (v .sw ‼ 21) PD2 _ s e refl refl (kept-done v (given (levelsOf v n)) (Settled v) _ _ (after-settled v pdT2 _ refl))
+  n2-kept h z zhf s e = expo (Settled v) (v .sw ‼ 21) PD2 _ s e refl refl (sets (sets (sets (kept-done v (given (levelsOf v n)) (Settled v) _ _ (after-settled v pdT2 _ refl)))))
 
   -- the State after PD[7]
   abbrev After7 : State → Type 0
@@ -191,27 +197,27 @@ module _ (v : View) (n : Need) where
   module _ (h : Shape) (z b28 flux zhm xmm : Float) where
     helium-kept : (s : State) → Settled v s → Kept v (given (levelsOf v n)) (Settled v) (heliumPlan (v .sw) h z b28 zhm xmm) s
     unfolding heliumPlan _>>=_ levelsOf lightOf
-    helium-kept s e = expo (Settled v) (v .sw ‼ 21) PD0 _ s e refl refl (kept-done v (given (levelsOf v n)) (Settled v) _ _ (after-settled v pdT0 _ refl))
+    helium-kept s e = expo (Settled v) (v .sw ‼ 21) PD0 _ s e refl refl (sets (sets (kept-done v (given (levelsOf v n)) (Settled v) _ _ (after-settled v pdT0 _ refl))))
 
     oxygen-kept : (s : State) → Settled v s → Kept v (given (levelsOf v n)) (Settled v) (oxygenPlan (v .sw) h z zhm xmm flux) s
     unfolding oxygenPlan _>>=_ levelsOf lightOf
-    oxygen-kept s e = expo (Settled v) (v .sw ‼ 21) PD1 _ s e refl refl (kept-done v (given (levelsOf v n)) (Settled v) _ _ (after-settled v pdT1 _ refl))
+    oxygen-kept s e = expo (Settled v) (v .sw ‼ 21) PD1 _ s e refl refl (sets (sets (kept-done v (given (levelsOf v n)) (Settled v) _ _ (after-settled v pdT1 _ refl))))
 
     o2-kept : (s : State) → Settled v s → Kept v (given (levelsOf v n)) (Settled v) (o2Plan (v .sw) h z b28 zhm xmm flux) s
     unfolding o2Plan _>>=_ levelsOf heavyOf
-    o2-kept s e = expo (Settled v) (v .sw ‼ 21) PD4 _ s e refl refl (kept-done v (given (levelsOf v n)) (Settled v) _ _ (after-settled v pdT4 _ refl))
+    o2-kept s e = expo (Settled v) (v .sw ‼ 21) PD4 _ s e refl refl (sets (sets (kept-done v (given (levelsOf v n)) (Settled v) _ _ (after-settled v pdT4 _ refl))))
 
     argon-kept : (s : State) → Settled v s → Kept v (given (levelsOf v n)) (Settled v) (argonPlan (v .sw) h z b28 zhm xmm) s
     unfolding argonPlan _>>=_ levelsOf heavyOf
-    argon-kept s e = expo (Settled v) (v .sw ‼ 21) PD5 _ s e refl refl (kept-done v (given (levelsOf v n)) (Settled v) _ _ (after-settled v pdT5 _ refl))
+    argon-kept s e = expo (Settled v) (v .sw ‼ 21) PD5 _ s e refl refl (sets (sets (kept-done v (given (levelsOf v n)) (Settled v) _ _ (after-settled v pdT5 _ refl))))
 
     hydrogen-kept : (s : State) → Settled v s → Kept v (given (levelsOf v n)) (Settled v) (hydrogenPlan (v .sw) h z b28 zhm xmm) s
     unfolding hydrogenPlan _>>=_ levelsOf heavyOf
-    hydrogen-kept s e = expo (Settled v) (v .sw ‼ 21) PD6 _ s e refl refl (kept-done v (given (levelsOf v n)) (Settled v) _ _ (after-settled v pdT6 _ refl))
+    hydrogen-kept s e = expo (Settled v) (v .sw ‼ 21) PD6 _ s e refl refl (sets (sets (kept-done v (given (levelsOf v n)) (Settled v) _ _ (after-settled v pdT6 _ refl))))
 
     nitrogen-kept : (s : State) → Settled v s → Kept v (given (levelsOf v n)) After7 (nitrogenPlan (v .sw) h z b28 zhm xmm) s
     unfolding nitrogenPlan _>>=_ levelsOf wideOf
-    nitrogen-kept s e = expo After7 (v .sw ‼ 21) PD7 _ s e refl refl (kept-done v (given (levelsOf v n)) After7 _ _ refl)
+    nitrogen-kept s e = expo After7 (v .sw ‼ 21) PD7 _ s e refl refl (sets (sets (kept-done v (given (levelsOf v n)) After7 _ _ refl)))
 
   species-kept : (h : Shape) (z b28 flux : Float) (s : State) → Settled v s → Kept v (given (levelsOf v n)) After7 (speciesPlan (v .sw) h z b28 flux) s
   unfolding speciesPlan
@@ -236,7 +242,7 @@ module _ (v : View) (n : Need) where
       kept-ask v (given (levelsOf v n)) After8 (exp-globe7 (v .sw ‼ 21) PD8) _ s (afterOf v pdT8 (afterOf v pdT7 freshOf))
       (ap (λ (t : State). expOf (v .sw ‼ 21 ⊗ (globe7Of v pdT8 t) .value)) e ∙ ap (λ (y : Float). expOf (v .sw ‼ 21 ⊗ y)) (globe7-second v pdT7 pdT8))
       (ap (afterOf v pdT8) e)
-      (kept-done v (given (levelsOf v n)) After8 _ _ refl)
+      (sets (kept-done v (given (levelsOf v n)) After8 _ _ refl))
 
   gts7-kept : (x : Site) (z : Float) → (lt (pdlT1 ‼ 15) z ≡ true → n .pt ≡ true) → (lt 72·5 z ≡ true → n .ps ≡ true) → (lt z 300·0 ≡ true → n .nodes ≡ true)
       → Kept v (given (levelsOf v n)) After8 (gts7Plan (v .sw) x z) freshOf
@@ -246,7 +252,7 @@ module _ (v : View) (n : Need) where
       (λ s1 e1. kept-then v (given (levelsOf v n)) (Settled v) After8 (n2Plan (v .sw) _ z (x .zhf)) _ s1 (n2-kept _ z (x .zhf) s1 (after-settled v pdT3 s1 e1))
       (λ s2 e2. kept-then v (given (levelsOf v n)) After7 After8 (speciesPlan (v .sw) _ z _ (x .flux)) _ s2 (species-kept _ z _ (x .flux) s2 e2)
       (λ s3 e3. kept-then v (given (levelsOf v n)) After8 After8 (hotPlan (v .sw) _ z) _ s3 (hot-kept _ z s3 e3)
-      (λ s4 e4. kept-done v (given (levelsOf v n)) After8 _ s4 e4))))
+      (λ s4 e4. sets (kept-done v (given (levelsOf v n)) After8 _ s4 e4)))))
 
   -- ---- the lower nodes, from the State that gts7 leaves
 
@@ -261,7 +267,7 @@ module _ (v : View) (n : Need) where
       (minus-s After8 (v .sw ‼ 20) PMA1 _ s (in-meso s h pmaT1 ∙ there 1)
       (minus-s After8 (v .sw ‼ 20 ⊗ v .sw ‼ 22) PMA2 _ s (in-meso s h pmaT2 ∙ there 2)
       (plus-s After8 (v .sw ‼ 20 ⊗ v .sw ‼ 22) PMA9 _ s (in-meso s h pmaT9 ∙ there 3)
-      (kept-done v (given (levelsOf v n)) After8 _ s h))))
+      (sets (sets (kept-done v (given (levelsOf v n)) After8 _ s h))))))
 
   lower-kept : (alt : Float) → (lt alt 32·5 ≡ true → n .tropo ≡ true) → (m : Meso) (s : State) → After8 s → Kept v (given (levelsOf v n)) After8 (lowerPlan (v .sw) alt m) s
   unfolding lowerPlan _>>=_ levelsOf tropoOf
@@ -275,28 +281,41 @@ module _ (v : View) (n : Need) where
       (minus-s After8 (v .sw ‼ 22) PMA5 _ s (in-meso s h pmaT5 ∙ there 2)
       (minus-s After8 (v .sw ‼ 22) PMA6 _ s (in-meso s h pmaT6 ∙ there 3)
       (plus-s After8 (v .sw ‼ 22) PMA7 _ s (in-meso s h pmaT7 ∙ there 4)
-      (kept-done v (given (levelsOf v n)) After8 _ s h))))))
+      (sets (kept-done v (given (levelsOf v n)) After8 _ s h)))))))
 
   gtd7-kept : (x : Site) (alt : Float) → Covers n (needAt alt) → Kept v (given (levelsOf v n)) After8 (gtd7Plan (v .sw) x alt) freshOf
   unfolding gtd7Plan needAt
   gtd7-kept x alt c =
-      kept-then v (given (levelsOf v n)) After8 After8 (gts7Plan (v .sw) x (cond (lt 72·5 alt) alt 72·5)) _ freshOf
+      sets
+      (kept-then v (given (levelsOf v n)) After8 After8 (gts7Plan (v .sw) x (cond (lt 72·5 alt) alt 72·5)) _ freshOf
       (gts7-kept x (cond (lt 72·5 alt) alt 72·5) (c .pt) (c .ps) (c .nodes))
       (λ s1 e1. kept-either v (given (levelsOf v n)) After8 (le 72·5 alt) _ _ s1
       (λ t. kept-done v (given (levelsOf v n)) After8 _ s1 e1)
       (λ t. kept-then v (given (levelsOf v n)) After8 After8 (mesoPlan (v .sw) _) _ s1 (meso-kept (c .meso (not-of-false t)) _ s1 e1)
       (λ s2 e2. kept-then v (given (levelsOf v n)) After8 After8 (lowerPlan (v .sw) alt _) _ s2 (lower-kept alt (c .tropo) _ s2 e2)
-      (λ s3 e3. kept-done v (given (levelsOf v n)) After8 _ s3 e3))))
+      (λ s3 e3. sets (kept-done v (given (levelsOf v n)) After8 _ s3 e3))))))
 
--- The Levels that hold what an altitude needs give gtd7's answer from a fresh State
+-- From a fresh State gtd7 gives what it makes of the Levels that hold what its altitude needs, and leaves what PD[7] and PD[8] leave, with the
+-- fields that its steps set
+pub gtd7-runs : (v : View) (n : Need) (x : Site) (alt : Float) → Covers n (needAt alt)
+    → run v (gtd7Plan (v .sw) x alt) freshOf ≡ stepped (given (levelsOf v n)) (gtd7Plan (v .sw) x alt) (afterOf v pdT8 (afterOf v pdT7 freshOf))
+unfolding stepped afterOf
+gtd7-runs v n x alt c =
+    let g = given (levelsOf v n) in
+    let k = gtd7-kept v n x alt c in
+    k .ran (fieldsOf freshOf)
+    ∙ ap (λ (t : State). ends (told g (gtd7Plan (v .sw) x alt)) (withFields t (kept g (gtd7Plan (v .sw) x alt) (fieldsOf freshOf)))) (k .fits)
+
 pub gtd7-covered : (v : View) (n : Need) (x : Site) (alt : Float) → Covers n (needAt alt)
     → (run v (gtd7Plan (v .sw) x alt) freshOf) .result ≡ told (given (levelsOf v n)) (gtd7Plan (v .sw) x alt)
-gtd7-covered v n x alt c = (gtd7-kept v n x alt c) .same
+unfolding stepped
+gtd7-covered v n x alt c = ap (λ (r : Ran Whole). r .result) (gtd7-runs v n x alt c)
 
 pub gtd7-told : (v : View) (x : Site) (alt : Float)
     → (run v (gtd7Plan (v .sw) x alt) freshOf) .result ≡ told (given (levelsOf v (needAt alt))) (gtd7Plan (v .sw) x alt)
 gtd7-told v x alt = gtd7-covered v (needAt alt) x alt (itself (needAt alt))
 
--- The State that gtd7's expansions leave
-pub gtd7-left : (v : View) (x : Site) (alt : Float) → (run v (gtd7Plan (v .sw) x alt) freshOf) .left ≡ afterOf v pdT8 (afterOf v pdT7 freshOf)
-gtd7-left v x alt = (gtd7-kept v (needAt alt) x alt (itself (needAt alt))) .left
+-- The State that gtd7 leaves, with the result
+pub gtd7-left : (v : View) (x : Site) (alt : Float)
+    → run v (gtd7Plan (v .sw) x alt) freshOf ≡ stepped (given (levelsOf v (needAt alt))) (gtd7Plan (v .sw) x alt) (afterOf v pdT8 (afterOf v pdT7 freshOf))
+gtd7-left v x alt = gtd7-runs v (needAt alt) x alt (itself (needAt alt))

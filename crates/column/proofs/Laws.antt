@@ -25,9 +25,9 @@ use Rattle.plan.specs.declared.Levels.{Levels}
 use Rattle.levels.specs.declared.Need.{Need}
 use Rattle.levels.specs.Levels.{needAt, bothOf, levelsOf}
 use Rattle.lower.specs.declared.Whole.{Whole}
-use Rattle.atmosphere.specs.Atmosphere.{elevenAtOf, elevenOf}
+use Rattle.atmosphere.specs.Atmosphere.{elevenFrom, elevenAtOf, elevenOf}
 use Rattle.atmosphere.specs.Answers.{Covers, itself, gtd7-covered}
-use Rattle.column.specs.Column.{altitudesFrom, afterRecord, columnAnswer, noneOf, needsFrom, elevenFrom, rowsAt, columnRows, columnAfter}
+use Rattle.column.specs.Column.{altitudesFrom, afterRecord, columnAnswer, noneOf, needsFrom, rowsAt, columnRows, columnAfter}
 
 -- ---- the altitudes
 

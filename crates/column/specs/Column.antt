@@ -14,10 +14,9 @@ use Rattle.acceptance.specs.declared.Answer.{Answer}
 use Rattle.acceptance.specs.declared.Answer.the-variants.{Accepted, Refused}
 use Rattle.acceptance.specs.Acceptance.{withinOf, judgedOf, acceptedOf, withAltOf}
 use Rattle.plan.specs.declared.Levels.{Levels}
-use Rattle.plan.specs.Plan.{told, given}
 use Rattle.levels.specs.declared.Need.{Need}
 use Rattle.levels.specs.Levels.{needAt, bothOf}
-use Rattle.atmosphere.specs.Atmosphere.{gtd7Plan, elevenOf}
+use Rattle.atmosphere.specs.Atmosphere.{elevenFrom, elevenOf}
 
 -- each altitude in order, the first of them with the index k: 2, else 3; place 17 plus the index
 unfoldable pub altitudesFrom : ℕ → List Float → Answer
@@ -45,10 +44,6 @@ noneOf = record { pt = false; ps = false; nodes = false; meso = false; tropo = f
 unfoldable pub needsFrom : Need → List Float → Need
 needsFrom n [] = n
 needsFrom n (z ∷ zs) = needsFrom (bothOf n (needAt z)) zs
-
--- the eleven numbers at an altitude, from the expansions' values
-unfoldable pub elevenFrom : List Float → Site → Levels → Float → List Float
-elevenFrom sw x l z = (told (given l) (gtd7Plan sw x z)) .row
 
 -- the rows at the altitudes, one after the other
 unfoldable pub rowsAt : List Float → Site → Levels → List Float → List Float

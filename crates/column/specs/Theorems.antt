@@ -22,7 +22,7 @@ use Rattle.shutoff.specs.Agree.{Has}
 use Rattle.shutoff.specs.Theorems.{has, has-history, eleven≡}
 use Rattle.column.specs.Column.{afterRecord, columnAnswer, columnRows, columnAfter}
 
--- records alike under a row stay alike with another altitude
+-- records alike under a row stay alike with another altitude in both
 pub alike-at : (w : List ℤ) (a b : Input) (z : Float) → Alike w a b → Alike w (withAltOf a z) (withAltOf b z)
 unfolding withAltOf
 alike-at w a b z like k h t = go (ℕ-discrete k 3)
@@ -53,21 +53,27 @@ pub has-at : (w : List ℤ) (n : Input) (alts : List Float) (len : ℕ) (z : Flo
 unfolding withAltOf lacksHistoryOf
 has-at w n alts len z e = has w (withAltOf n z) (has-history w (withAltOf n 0·0) 11 (record-accepted w n alts len e))
 
-rows≡ : (w : List ℤ) (a b : Input) → Alike w a b → ((z : Float) → Has w (withAltOf a z)) → (alts : List Float) → columnRows w a alts ≡ columnRows w b alts
+-- records alike but for their own altitudes are alike with any one altitude in both
+at-altitude : (w : List ℤ) (a b : Input) (z : Float) → Alike w (withAltOf a 0·0) (withAltOf b 0·0) → Alike w (withAltOf a z) (withAltOf b z)
+unfolding withAltOf
+at-altitude w a b z like = alike-at w (withAltOf a 0·0) (withAltOf b 0·0) z like
+
+rows≡ : (w : List ℤ) (a b : Input) → Alike w (withAltOf a 0·0) (withAltOf b 0·0) → ((z : Float) → Has w (withAltOf a z)) → (alts : List Float) → columnRows w a alts ≡ columnRows w b alts
 unfolding columnRows
 rows≡ w a b like h [] = refl
 rows≡ w a b like h (z ∷ zs) =
-    ap₂ (λ (l r : List Float). l ++ r) (eleven≡ w (withAltOf a z) (withAltOf b z) (alike-at w a b z like) (h z)) (rows≡ w a b like h zs)
+    ap₂ (λ (l r : List Float). l ++ r) (eleven≡ w (withAltOf a z) (withAltOf b z) (at-altitude w a b z like) (h z)) (rows≡ w a b like h zs)
 
 pub written : (w : List ℤ) (n : Input) (alts xs : List Float) → columnAnswer w n alts (length xs) ≡ Accepted
     → columnAfter w n alts xs ≡ columnRows w n alts ++ drop (11 * length alts) xs
 unfolding columnAfter
 written w n alts xs e = ap (λ (r : Answer). cond (acceptedOf r) (columnRows w n alts ++ drop (11 * length alts) xs) xs) e
 
--- Demand 3 for columns. For every switch row, any altitudes and any two accepted columns on records alike under that row, whatever the two
--- lent buffers held: the eleven numbers agree at every altitude, and both buffers begin with the same rows.
+-- Demand 3 for columns. For every switch row, any altitudes and any two accepted columns on records alike under that row, whatever their own
+-- altitudes (one altitude is put in both) and whatever the two lent buffers held: the eleven numbers agree at every altitude, and both
+-- buffers begin with the same rows. Records that are alike with their own altitudes are so by `alike-at`.
 pub demand-3-column : (w : List ℤ) (a b : Input) (alts xs ys : List Float)
-    → Alike w a b
+    → Alike w (withAltOf a 0·0) (withAltOf b 0·0)
     → columnAnswer w a alts (length xs) ≡ Accepted
     → columnAnswer w b alts (length ys) ≡ Accepted
     → ((z : Float) → elevenOf w (withAltOf a z) ≡ elevenOf w (withAltOf b z))
@@ -75,7 +81,7 @@ pub demand-3-column : (w : List ℤ) (a b : Input) (alts xs ys : List Float)
     × (columnAfter w b alts ys ≡ columnRows w a alts ++ drop (11 * length alts) ys)
 demand-3-column w a b alts xs ys like e f =
     let h : (z : Float) → Has w (withAltOf a z) = λ z. has-at w a alts (length xs) z e in (
-      λ z. eleven≡ w (withAltOf a z) (withAltOf b z) (alike-at w a b z like) (h z),
+      λ z. eleven≡ w (withAltOf a z) (withAltOf b z) (at-altitude w a b z like) (h z),
       written w a alts xs e,
       written w b alts ys f ∙ ap (λ (l : List Float). l ++ drop (11 * length alts) ys) (sym (rows≡ w a b like h alts)),
     )

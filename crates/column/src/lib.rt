@@ -3,14 +3,13 @@ ghost use mathlib.Core.Path.{_≡_};
 ghost use mathlib.Core.List.{_++_};
 ghost use Prim.Native.Nat.{_*_, _≤_};
 ghost use lib.ListN.{length, drop};
-ghost use Rattle.column.specs.Column.{altitudesFrom, columnAnswer, columnAfter, noneOf, needsFrom, elevenFrom, rowsAt, columnRows};
+ghost use Rattle.column.specs.Column.{altitudesFrom, columnAnswer, columnAfter, noneOf, needsFrom, rowsAt, columnRows};
 use acceptance::Answer;
 use acceptance::accepted;
 use acceptance::judge;
 use acceptance::with_alt;
 use acceptance::within;
-use atmosphere::gtd7_stage;
-use atmosphere::put;
+use atmosphere::row_at;
 use levels::Need;
 use levels::both;
 use levels::levels_of;
@@ -84,16 +83,6 @@ pub fn needs(alts: &[f64]) -> Need
         k += 1;
     }
     n
-}
-
-// The one-altitude call after its checks: the eleven numbers at an altitude into a row of eleven.
-pub fn row_at(sw: [f64; 24], x: Site, l: Levels, alt: f64, out: &mut [f64])
-    requires { ⌜ length (now out) ≡ 11 ⌝ }
-    ensures { λ _. ⌜ now (out .exit) ≡ elevenFrom sw x l alt ⌝ }
-{
-    let b = gtd7_stage(sw, x, alt, l);
-    let row = b.row;
-    put(out, row);
 }
 
 // Each altitude's row into its own part of the buffer.

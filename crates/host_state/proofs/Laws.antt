@@ -1,11 +1,13 @@
--- The ranges of a number's place in State, and the State after gtd7 from the values of the calls.
-use Prim.Native.Nat.{ℕ, _-_, _<_, _≤_}
-use mathlib.Core.Path.{_≡_, refl, sym, _∙_, ap₂}
+-- A number's place in State, all of them in a slice, the State after gtd7, and the call's outcomes.
+use Prim.Native.Nat.{ℕ, zero, suc, _+_, _-_, _<_, _≤_}
+use mathlib.Core.Path.{_≡_, refl, sym, _∙_, ap}
 use mathlib.Core.List.{List}
+use native.Mathlib.Nat.{not-suc-le-zero, le-of-suc-le-suc}
+use native.Mathlib.Omega.{arith}
 use borrow.Author.Tests.{lt-ltb, le-ltb, eq-eqb, ne-eqb}
 use lib.IntN.{ℤ}
-use lib.ListN.{length}
-use lib.Ieee.{Float}
+use lib.ListN.{length, getD}
+use lib.Ieee.{Float, nan}
 use Rattle.numbers.specs.Arithmetic.{_‼_}
 use Rattle.numbers.specs.Literals.{0·0}
 use Rattle.setting.specs.declared.Input.{Input}
@@ -16,16 +18,11 @@ use Rattle.setting.specs.View.{viewOf}
 use Rattle.upper.specs.declared.Site.{Site}
 use Rattle.upper.specs.Upper.{siteOf}
 use Rattle.lower.specs.declared.Whole.{Whole}
-use Rattle.tables.specs.Tables.{pdT7, pdT8}
-use Rattle.expansion.specs.Expansion.{afterOf}
-use Rattle.plan.specs.declared.Levels.{Levels}
-use Rattle.plan.specs.Plan.{told, given}
-use Rattle.levels.specs.declared.Need.{Need}
-use Rattle.levels.specs.Levels.{needAt, levelsOf}
-use Rattle.atmosphere.specs.Atmosphere.{gtd7Plan, stateAfterOf}
-use Rattle.atmosphere.specs.Answers.{gtd7-told, gtd7-left}
-use Rattle.host.specs.Host.{recordOf}
-use Rattle.host_state.specs.HostState.{nodesOf, lastOf, numberOf, leftOf, stateNumber}
+use Rattle.plan.specs.Plan.{Ran, ends, run}
+use Rattle.acceptance.specs.declared.Answer.the-variants.{Accepted, Refused}
+use Rattle.atmosphere.specs.Atmosphere.{gtd7Plan}
+use Rattle.host.specs.Host.{codeOf, recordOf, lengthsOf}
+use Rattle.host_state.specs.HostState.{nodesOf, lastOf, numberOf, numbersFrom, numbersOf, leftOf, stateAnswer, stateNumbers}
 
 module _ (s : State) (k : ℕ) where
   pub first : (a : List Float) → a ≡ nodesOf s → k < 30 → a ‼ k ≡ numberOf s k
@@ -51,39 +48,55 @@ module _ (s : State) (k : ℕ) where
         unfolding numberOf
         beyond h = simp (le-ltb k 30 a, ne-eqb k 30 b, le-ltb k 67 c, le-ltb k 78 h)
 
-pub left-law : (w : List ℤ) (n : Input)
-    (r s8 : State) (p8 : List Float) (s7 : State) (p7 : List Float) (s : State) (b : Whole) (l : Levels) (a : Need) (x : Site) (v : View)
-    → r ≡ stateAfterOf x b s8
-    → s8 ≡ afterOf v p8 s7
-    → p8 ≡ pdT8
-    → s7 ≡ afterOf v p7 s
-    → p7 ≡ pdT7
-    → s ≡ freshOf
-    → b ≡ told (given l) (gtd7Plan (v .sw) x (n .alt))
-    → l ≡ levelsOf v a
-    → a ≡ needAt (n .alt)
+-- ---- all numbers
+
+from-length : (m k : ℕ) (s : State) → length (numbersFrom m k s) ≡ m
+unfolding numbersFrom
+from-length zero k s = refl
+from-length (suc m) k s = ap suc (from-length m (suc k) s)
+
+from-at : (m k i : ℕ) (s : State) → i < m → getD (numbersFrom m k s) i nan ≡ numberOf s (k + i)
+unfolding numbersFrom
+from-at zero k i s h = absurd (not-suc-le-zero h)
+from-at (suc m) k zero s h = let e : k ≡ k + 0 = omega arith in ap (numberOf s) e
+from-at (suc m) k (suc i) s h = let e : suc k + i ≡ k + suc i = omega arith in from-at m (suc k) i s (le-of-suc-le-suc h) ∙ ap (numberOf s) e
+
+pub numbers-length : (s : State) → length (numbersOf s) ≡ 78
+unfolding numbersOf
+numbers-length s = from-length 78 0 s
+
+pub numbers-at : (s : State) (i : ℕ) → i < 78 → getD (numbersOf s) i nan ≡ numberOf s i
+unfolding numbersOf
+numbers-at s i h = let e : 0 + i ≡ i = omega arith in from-at 78 0 i s h ∙ ap (numberOf s) e
+
+-- ---- the State after gtd7
+
+pub left-law : (w : List ℤ) (n : Input) (b : Whole) (t : State) (x : Site) (v : View)
+    → run v (gtd7Plan (v .sw) x (n .alt)) freshOf ≡ ends b t
     → x ≡ siteOf (v .sw) (n .«g_lat») (v .doy) (n .f107a)
     → v ≡ viewOf w n
-    → r ≡ leftOf w n
+    → t ≡ leftOf w n
 unfolding leftOf
-left-law w n r s8 p8 s7 p7 s b l a x v e0 e1 e2 e3 e4 e5 e6 e7 e8 e9 e10 =
-    e0
-    ∙ ap₂ (stateAfterOf x)
-    (rw (e7, e8) at e6 ∙ sym (gtd7-told v x (n .alt)))
-    (e1 ∙ rw (e2, e3, e4, e5) refl ∙ sym (gtd7-left v x (n .alt)))
-    ∙ rw (e9, e10)
+left-law w n b t x v e0 e1 e2 = sym (ap (λ (r : Ran Whole). r .left) e0) ∙ rw (e1, e2)
 
-module _ (year doy : ℤ) (f l : List Float) (w : List ℤ) (k : ℕ) where
-  pub no-fields : (length f ≡ 8 → ⊥) → 0·0 ≡ stateNumber year doy f l w k
-  unfolding stateNumber
-  no-fields h = simp (ne-eqb _ _ h)
+-- ---- the call
 
-  module _ (a : length f ≡ 8) where
-    pub no-switches : (length w ≡ 24 → ⊥) → 0·0 ≡ stateNumber year doy f l w k
-    unfolding stateNumber
-    no-switches h = simp (eq-eqb _ _ a, ne-eqb _ _ h)
+module _ (f l : List Float) (w : List ℤ) (xs : List Float) where
+  pub no-slice : (length xs ≡ 78 → ⊥) → stateAnswer f l w (length xs) ≡ Refused 4 78
+  unfolding stateAnswer
+  no-slice h = simp (ne-eqb _ _ h)
 
-    pub asked : length w ≡ 24 → (x : Float) (s : State) (n : Input) (v : List ℤ)
-        → x ≡ numberOf s k → s ≡ leftOf v n → n ≡ recordOf year doy f l → v ≡ w → x ≡ stateNumber year doy f l w k
-    unfolding stateNumber
-    asked h x s n v e0 e1 e2 e3 = simp (e0, e1, e2, e3, eq-eqb _ _ a, eq-eqb _ _ h)
+  pub a-slice : length xs ≡ 78 → stateAnswer f l w (length xs) ≡ lengthsOf f l w Accepted
+  unfolding stateAnswer
+  a-slice h = simp (eq-eqb _ _ h)
+
+  pub answered : (year doy : ℤ) (x : ℕ) (ys : List Float) (s : State) (n : Input) (v : List ℤ)
+      → x ≡ codeOf Accepted
+      → ys ≡ numbersOf s
+      → s ≡ leftOf v n
+      → n ≡ recordOf year doy f l
+      → v ≡ w
+      → stateAnswer f l w (length xs) ≡ Accepted
+      → (x ≡ codeOf (stateAnswer f l w (length xs))) × (ys ≡ stateNumbers year doy f l w xs)
+  unfolding stateNumbers
+  answered year doy x ys s n v e0 e1 e2 e3 e4 e5 = (e0 ∙ sym (ap codeOf e5), simp (e1, e2, e3, e4, e5))

@@ -1,5 +1,5 @@
--- The State that gtd7 leaves, number by number.
-use Prim.Native.Nat.{ℕ, _-_}
+-- The 78 numbers of the State that gtd7 leaves.
+use Prim.Native.Nat.{ℕ, zero, suc, _-_}
 use mathlib.Core.Bool.{cond, not}
 use mathlib.Core.List.{List, [], _∷_}
 use lib.Dec.{eqb, ltb}
@@ -14,8 +14,11 @@ use Rattle.setting.specs.State.{freshOf}
 use Rattle.setting.specs.View.{viewOf}
 use Rattle.upper.specs.Upper.{siteOf}
 use Rattle.plan.specs.Plan.{run}
-use Rattle.atmosphere.specs.Atmosphere.{gtd7Plan, stateAfterOf}
-use Rattle.host.specs.Host.{recordOf}
+use Rattle.acceptance.specs.declared.Answer.{Answer}
+use Rattle.acceptance.specs.declared.Answer.the-variants.{Accepted, Refused}
+use Rattle.acceptance.specs.Acceptance.{acceptedOf}
+use Rattle.atmosphere.specs.Atmosphere.{gtd7Plan}
+use Rattle.host.specs.Host.{recordOf, lengthsOf}
 
 -- gsurf to dm14, then the nodes
 unfoldable pub nodesOf : State → List Float
@@ -40,16 +43,26 @@ numberOf s k =
     (cond (ltb k 67) (s .plg ‼ (k - 31))
     (cond (ltb k 78) (lastOf s ‼ (k - 67)) 0·0)))
 
+-- m numbers from number k on
+unfoldable pub numbersFrom : ℕ → ℕ → State → List Float
+numbersFrom zero k s = []
+numbersFrom (suc m) k s = numberOf s k ∷ numbersFrom m (suc k) s
+
+-- all of them
+unfoldable pub numbersOf : State → List Float
+numbersOf s = numbersFrom 78 0 s
+
 -- the State after gtd7 from a fresh one
 unfoldable pub leftOf : List ℤ → Input → State
 leftOf w n =
     let v = viewOf w n in
-    let x = siteOf (v .sw) (n .«g_lat») (v .doy) (n .f107a) in
-    let a = run v (gtd7Plan (v .sw) x (n .alt)) freshOf in
-    stateAfterOf x (a .result) (a .left)
+    (run v (gtd7Plan (v .sw) (siteOf (v .sw) (n .«g_lat») (v .doy) (n .f107a)) (n .alt)) freshOf) .left
 
-unfoldable pub stateNumber : ℤ → ℤ → List Float → List Float → List ℤ → ℕ → Float
-stateNumber year doy f l w k =
-    cond (not (eqb (length f) 8)) 0·0
-    (cond (not (eqb (length w) 24)) 0·0
-    (numberOf (leftOf w (recordOf year doy f l)) k))
+-- 4 for the lent slice, then for the fields, the array and the switches
+unfoldable pub stateAnswer : List Float → List Float → List ℤ → ℕ → Answer
+stateAnswer f l w len = cond (not (eqb len 78)) (Refused 4 78) (lengthsOf f l w Accepted)
+
+-- the lent slice afterwards
+unfoldable pub stateNumbers : ℤ → ℤ → List Float → List Float → List ℤ → List Float → List Float
+stateNumbers year doy f l w xs =
+    cond (acceptedOf (stateAnswer f l w (length xs))) (numbersOf (leftOf w (recordOf year doy f l))) xs

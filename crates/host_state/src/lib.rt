@@ -1,19 +1,16 @@
-// For comparison on the host: the State that gtd7 leaves, number by number.
+// For comparison on the host: the 78 numbers of the State that gtd7 leaves.
 ghost use mathlib.Core.Path.{_≡_};
-ghost use Rattle.host_state.specs.HostState.{nodesOf, lastOf, numberOf, leftOf, stateNumber};
-use atmosphere::gtd7_stage;
-use atmosphere::state_after;
-use expansion::after;
+ghost use lib.ListN.{length};
+ghost use Rattle.host.specs.Host.{codeOf};
+ghost use Rattle.host_state.specs.HostState.{nodesOf, lastOf, numberOf, numbersOf, leftOf, stateAnswer, stateNumbers};
+use acceptance::Answer;
+use host::record::code;
 use host::record::record_of;
 use host::record::switch_row;
-use levels::levels_of;
-use levels::need_at;
+use model_state::gtd7_from_fresh;
 use setting::Input;
 use setting::State;
-use setting::fresh;
 use setting::views::view_of;
-use tables::pd7;
-use tables::pd8;
 use upper::site_of;
 
 // The first thirty numbers of State: ten fields, then the nodes.
@@ -95,44 +92,58 @@ pub fn number(s: State, k: usize) -> f64
     0.0
 }
 
-// The State after gtd7 from a fresh one: its expansions leave what PD[7] and PD[8] leave.
+// All 78 into a slice of 78.
+pub fn put_state(s: State, out: &mut [f64])
+    requires { ⌜ length (now out) ≡ 78 ⌝ }
+    ensures { λ _. ⌜ now (out .exit) ≡ numbersOf s ⌝ }
+{
+    let mut i: usize = 0;
+    while i < 78 {
+        out[i] = number(s, i);
+        i += 1;
+    }
+}
+
+// The State after gtd7 from a fresh one.
 pub fn left(w: [i32; 24], n: Input) -> State
     ensures { λ r. ⌜ r ≡ leftOf w n ⌝ }
 {
     let v = view_of(w, n);
     let sw = v.sw;
     let x = site_of(sw, n.g_lat, v.doy, n.f107a);
-    let a = need_at(n.alt);
-    let l = levels_of(v, a);
-    let b = gtd7_stage(sw, x, n.alt, l);
-    let s = fresh();
-    let p7 = pd7();
-    let s7 = after(v, &p7, s);
-    let p8 = pd8();
-    let s8 = after(v, &p8, s7);
-    state_after(x, b, s8)
+    let r = gtd7_from_fresh(v, x, n.alt);
+    r.state
 }
 
-// Number k of the State after gtd7, with no check of the record; 0 where a slice has not its length.
+// The State after gtd7 into a slice of 78 numbers, with no check of the record beyond its slices' lengths: 0, or 4 and the length needed, and
+// then the slice as it was.
 #[no_mangle]
-pub extern "C" fn state_number(
+pub extern "C" fn state_after_gtd7(
     year: i32,
     doy: i32,
     fields: &[f64],
     ap_array: &[f64],
     switches: &[i32],
-    k: usize,
-) -> f64
-    ensures { λ r. ⌜ r ≡ stateNumber year doy (now (fields .entry)) (now («ap_array» .entry)) (now (switches .entry)) k ⌝ }
+    numbers: &mut [f64],
+) -> u64
+    ensures { λ r. ⌜ (r ≡ codeOf (stateAnswer (now (fields .entry)) (now («ap_array» .entry)) (now (switches .entry)) (length (now (numbers .entry)))))
+        × (now (numbers .exit) ≡ stateNumbers year doy (now (fields .entry)) (now («ap_array» .entry)) (now (switches .entry)) (now (numbers .entry))) ⌝ }
 {
+    if numbers.len() != 78 {
+        return code(Answer::Refused(4, 78));
+    }
     if fields.len() != 8 {
-        return 0.0;
+        return code(Answer::Refused(4, 8));
+    }
+    if (ap_array.len() != 0) & (ap_array.len() != 7) {
+        return code(Answer::Refused(4, 7));
     }
     if switches.len() != 24 {
-        return 0.0;
+        return code(Answer::Refused(4, 24));
     }
     let w = switch_row(switches);
     let n = record_of(year, doy, fields, ap_array);
     let s = left(w, n);
-    number(s, k)
+    put_state(s, numbers);
+    code(Answer::Accepted)
 }

@@ -1,5 +1,5 @@
 -- From a fresh State the answers to gtd7's questions do not depend on the questions before them: each is one of the Levels.
-use mathlib.Core.Path.{_≡_, refl, sym, ap, ap₂, _∙_, subst}
+use mathlib.Core.Path.{_≡_, refl, sym, ap, ap₂, _∙_}
 use mathlib.Core.Bool.{Bool, true, false, cond, not, _&&_, false≢true}
 use mathlib.Core.List.{List}
 use lib.Dec.{T}
@@ -15,7 +15,8 @@ use Rattle.legendre.specs.Legendre.{legendreOf, legendre0Of, legendre1Of, legen
 use Rattle.activity.specs.Activity.{apdfNextOf, aptNextOf, apdfFromOf, sg0Of, exp1Of}
 use Rattle.expansion.specs.declared.Carried.{Carried}
 use Rattle.expansion.specs.Expansion.{carriedOf, turnsAfterOf, afterOf, level7Of, globe7Of, glob7sFrom, glob7sOf}
-use Rattle.plan.specs.Plan.{Plan, done, ask, either, _>>=_, Ask, answer, run, Ran, told, run->>=, told->>=}
+use Rattle.plan.specs.Fields.{Fields, withFields}
+use Rattle.plan.specs.Plan.{Plan, done, ask, keep, either, _>>=_, Ask, answer, run, Ran, ends, told, kept, run->>=, told->>=, kept->>=, answer-fields}
 use Rattle.levels.specs.Levels.{legendreIn, quietOf, activeOf, wideOf}
 
 -- ---- the State after one globe7, and after two
@@ -113,39 +114,51 @@ glob7s-second v p r q = ap₂ (glob7sFrom v q) (rows-second v p r) (carried-seco
 
 -- ---- a plan run from a State, and told the same answers
 
--- the result is the same, and the State that is left has the property Q
+-- what the expansions leave has the property Q; with any sixteen fields the result is the same, and they are set by the steps alone
 pub record Kept {A : Type 0} (v : View) (g : Ask → Float) (Q : State → Type 0) (m : Plan A) (s : State) : Type 0 where
-  pub same : (run v m s) .result ≡ told g m
-  pub left : Q ((run v m s) .left)
+  pub after : State
+  pub fits : Q after
+  pub ran : (f : Fields) → run v m (withFields s f) ≡ ends (told g m) (withFields after (kept g m f))
 
 module _ (v : View) (g : Ask → Float) where
   pub kept-done : {A : Type 0} (Q : State → Type 0) (a : A) (s : State) → Q s → Kept v g Q (done a) s
-  unfolding run told
-  kept-done Q a s h = record { same = refl; left = h }
+  unfolding run told kept
+  kept-done Q a s h = record { after = s; fits = h; ran = λ f. refl }
 
   pub kept-ask : {A : Type 0} (Q : State → Type 0) (q : Ask) (k : Float → Plan A) (s t : State)
       → (answer v q s) .value ≡ g q
       → (answer v q s) .state ≡ t
       → Kept v g Q (k (g q)) t
       → Kept v g Q (ask q k) s
-  unfolding run told
+  unfolding run told kept
   kept-ask Q q k s t e f h =
-      let same-run : run v (k ((answer v q s) .value)) ((answer v q s) .state) ≡ run v (k (g q)) t = ap₂ (λ (x : Float) (u : State). run v (k x) u) e f in
       record {
-        same = ap (λ (r : Ran _). r .result) same-run ∙ h .same;
-        left = subst (λ (r : Ran _). Q (r .left)) (sym same-run) (h .left);
+        after = h .after;
+        fits = h .fits;
+        ran = λ x.
+            ap (λ (r : Valued). run v (k (r .value)) (r .state)) (answer-fields v q s x)
+            ∙ ap₂ (λ (y : Float) (u : State). run v (k y) (withFields u x)) e f
+            ∙ h .ran x;
       }
+
+  pub kept-keep : {A : Type 0} {Q : State → Type 0} {u : Fields → Fields} {m : Plan A} {s : State} → Kept v g Q m s → Kept v g Q (keep u m) s
+  unfolding run told kept
+  kept-keep {u = u} h = record { after = h .after; fits = h .fits; ran = λ f. h .ran (u f) }
 
   pub kept-then : {A B : Type 0} (Q R : State → Type 0) (m : Plan A) (k : A → Plan B) (s : State)
       → Kept v g Q m s
       → ((t : State) → Q t → Kept v g R (k (told g m)) t)
       → Kept v g R (m >>= k) s
   kept-then Q R m k s h next =
-      let n = next ((run v m s) .left) (h .left) in
-      let same-run : run v (m >>= k) s ≡ run v (k (told g m)) ((run v m s) .left) = run->>= v m k s ∙ ap (λ (a : _). run v (k a) ((run v m s) .left)) (h .same) in
+      let n = next (h .after) (h .fits) in
       record {
-        same = ap (λ (r : Ran _). r .result) same-run ∙ n .same ∙ sym (told->>= g m k);
-        left = subst (λ (r : Ran _). R (r .left)) (sym same-run) (n .left);
+        after = n .after;
+        fits = n .fits;
+        ran = λ f.
+            run->>= v m k (withFields s f)
+            ∙ ap (λ (r : Ran _). run v (k (r .result)) (r .left)) (h .ran f)
+            ∙ n .ran (kept g m f)
+            ∙ ap₂ (λ (b : _) (x : Fields). ends b (withFields (n .after) x)) (sym (told->>= g m k)) (sym (kept->>= g m k f));
       }
 
   pub kept-either : {A : Type 0} (Q : State → Type 0) (b : Bool) (m n : Plan A) (s : State)

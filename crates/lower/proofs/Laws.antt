@@ -75,8 +75,6 @@ pub below-law : (sw0 : Float) (x : Site) (alt : Float) (u : Upper) (w : Nodes)
     → _≡_ {A = Whole}
     (record {
       row = he ∷ 0·0 ∷ (n ⊗ (1·0 ⊕ (u .d ‼ 2 ⊘ d ⊖ 1·0) ⊗ c)) ∷ o2 ∷ ar ∷ all ∷ 0·0 ∷ 0·0 ∷ 0·0 ∷ u .shape .tinf ∷ t1 ∷ [];
-      upper = u;
-      nodes = w;
       dd = dd;
     })
     (belowOf sw0 x alt u w)

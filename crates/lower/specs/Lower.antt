@@ -7,7 +7,8 @@ use Rattle.numbers.specs.Literals.{0·0, 1·0, 2·0, 10·0, 15·0, 20·0, 32·5
 use Rattle.elementary.specs.Pow.{powOf}
 use Rattle.profile.specs.declared.unchecked.Profile.{Profile}
 use Rattle.profile.specs.Profile.{densmOf, densityIn, temperatureIn}
-use Rattle.plan.specs.Plan.{Plan, done, ask, get, either, _>>=_, one-plus-glob7s, one-minus-glob7s}
+use Rattle.plan.specs.Fields.{setTn2, setTn3, setTop3}
+use Rattle.plan.specs.Plan.{Plan, done, ask, keep, get, either, _>>=_, _>>_, one-plus-glob7s, one-minus-glob7s}
 use Rattle.tables.specs.Names.{PMA0, PMA1, PMA2, PMA3, PMA4, PMA5, PMA6, PMA7, PMA9}
 use Rattle.tables.specs.Tables.{pavgmT, pdmT0, pdmT2, pdmT3, pdmT4, pmaT0, pmaT1, pmaT2, pmaT3, pmaT4, pmaT5, pmaT6, pmaT7, pmaT9}
 use Rattle.upper.specs.declared.Site.{Site}
@@ -49,7 +50,10 @@ mesoPlan sw u = do
   b ← get (one-minus-glob7s (sw ‼ 20) PMA1)
   c ← get (one-minus-glob7s (sw ‼ 20 ⊗ sw ‼ 22) PMA2)
   e ← get (one-plus-glob7s (sw ‼ 20 ⊗ sw ‼ 22) PMA9)
-  done (mesosphereOf u pavgmT (pmaT0 ‼ 0) (pmaT1 ‼ 0) (pmaT2 ‼ 0) (pmaT9 ‼ 0) (powOf (pmaT2 ‼ 0 ⊗ pavgmT ‼ 2) 2·0) a b c e)
+  let m = mesosphereOf u pavgmT (pmaT0 ‼ 0) (pmaT1 ‼ 0) (pmaT2 ‼ 0) (pmaT9 ‼ 0) (powOf (pmaT2 ‼ 0 ⊗ pavgmT ‼ 2) 2·0) a b c e
+  setTn2 (m .tn2) (m .tgn2)
+  setTop3 (m .tn2 ‼ 3)
+  done m
 
 -- the questions from 32.5 km down
 unfoldable pub lowerPlan : List Float → Float → Meso → Plan Nodes
@@ -62,7 +66,9 @@ lowerPlan sw alt m =
       c ← get (one-minus-glob7s (sw ‼ 22) PMA5)
       e ← get (one-minus-glob7s (sw ‼ 22) PMA6)
       g ← get (one-plus-glob7s (sw ‼ 22) PMA7)
-      done (troposphereOf m pavgmT (pmaT3 ‼ 0) (pmaT4 ‼ 0) (pmaT5 ‼ 0) (pmaT6 ‼ 0) (pmaT7 ‼ 0) (powOf (pmaT6 ‼ 0 ⊗ pavgmT ‼ 6) 2·0) a b c e g))
+      let w = troposphereOf m pavgmT (pmaT3 ‼ 0) (pmaT4 ‼ 0) (pmaT5 ‼ 0) (pmaT6 ‼ 0) (pmaT7 ‼ 0) (powOf (pmaT6 ‼ 0 ⊗ pavgmT ‼ 6) 2·0) a b c e g
+      setTn3 (w .tn3) (w .tgn3)
+      done w)
 
 -- dmc
 unfoldable pub dmcOf : Float → Float
@@ -110,18 +116,14 @@ belowOf sw0 x alt u w =
     let b = warmthOf x alt (temperatureIn a) w in
     record {
       row = he ∷ 0·0 ∷ d2 ∷ o2 ∷ ar ∷ all ∷ 0·0 ∷ 0·0 ∷ 0·0 ∷ u .shape .tinf ∷ temperatureIn b ∷ [];
-      upper = u;
-      nodes = w;
       dd = densityIn b;
     }
 
--- at or above 72.5 km: gts7's numbers, the lower nodes as in a fresh State
+-- at or above 72.5 km: gts7's numbers
 unfoldable pub aboveOf : Upper → Whole
 aboveOf u =
     let d = u .d in
     record {
       row = (d ‼ 0) ∷ (d ‼ 1) ∷ (d ‼ 2) ∷ (d ‼ 3) ∷ (d ‼ 4) ∷ (d ‼ 5) ∷ (d ‼ 6) ∷ (d ‼ 7) ∷ (d ‼ 8) ∷ u .shape .tinf ∷ u .t1 ∷ [];
-      upper = u;
-      nodes = record { tn2 = 0·0 ∷ 0·0 ∷ 0·0 ∷ 0·0 ∷ []; tgn2 = 0·0 ∷ 0·0 ∷ []; tn3 = 0·0 ∷ 0·0 ∷ 0·0 ∷ 0·0 ∷ 0·0 ∷ []; tgn3 = 0·0 ∷ 0·0 ∷ [] };
       dd = 0·0;
     }

@@ -41,11 +41,9 @@ pub struct Nodes {
     pub tgn3: [f64; 2],
 }
 
-// What gtd7 answers: d[0] to d[8], t[0], t[1], and what State keeps of it.
+// What gtd7 answers: d[0] to d[8], t[0], t[1], and below 72.5 km State's dd.
 pub struct Whole {
     pub row: [f64; 11],
-    pub upper: Upper,
-    pub nodes: Nodes,
     pub dd: f64,
 }
 
@@ -255,24 +253,16 @@ pub fn below(sw0: f64, x: Site, alt: f64, u: Upper, w: Nodes) -> Whole
     let t1 = temperature_in(b);
     Whole {
         row: [he, 0.0, d2, o2, ar, all, 0.0, 0.0, 0.0, h.tinf, t1],
-        upper: u,
-        nodes: w,
         dd: dd,
     }
 }
 
-// gtd7's answer at or above 72.5 km: gts7's, and the lower nodes as a fresh State has them.
+// gtd7's answer at or above 72.5 km: gts7's.
 pub fn above(u: Upper) -> Whole
     ensures { λ r. ⌜ r ≡ aboveOf u ⌝ }
 {
     let d = u.d;
     let h = u.shape;
-    let w = Nodes {
-        tn2: [0.0, 0.0, 0.0, 0.0],
-        tgn2: [0.0, 0.0],
-        tn3: [0.0, 0.0, 0.0, 0.0, 0.0],
-        tgn3: [0.0, 0.0],
-    };
     Whole {
         row: [
             d[0],
@@ -287,8 +277,6 @@ pub fn above(u: Upper) -> Whole
             h.tinf,
             u.t1,
         ],
-        upper: u,
-        nodes: w,
         dd: 0.0,
     }
 }

@@ -23,7 +23,8 @@ use Rattle.legendre.specs.Legendre.{rowsOf}
 use Rattle.activity.specs.Activity.{apdfNextOf, aptNextOf, apdfFromOf, sg0Of, exp1Of}
 use Rattle.parts.specs.Parts.{dayCosinesOf, t8Of, history8Of, daily8Of, t10Of, t11Of, t12Of, history12Of, daily12Of, t8sOf, t10sOf}
 use Rattle.expansion.specs.Expansion.{early7Of, carriedOf, level7Of, turnsAfterOf, afterOf, globe7Of, level7sOf, glob7sFrom, glob7sOf}
-use Rattle.plan.specs.Plan.{Ask, one-plus-globe7, exp-globe7, one-plus-glob7s, one-minus-glob7s, onePlusGlobe7Of, expGlobe7Of, onePlusGlob7sOf, oneMinusGlob7sOf, Plan, done, ask, answer, run}
+use Rattle.plan.specs.Fields.{Fields, fieldsOf, withFields}
+use Rattle.plan.specs.Plan.{Ask, one-plus-globe7, exp-globe7, one-plus-glob7s, one-minus-glob7s, onePlusGlobe7Of, expGlobe7Of, onePlusGlob7sOf, oneMinusGlob7sOf, Plan, done, ask, keep, answer, run}
 use Rattle.shutoff.specs.Nine.{asks-minus-one}
 use Rattle.shutoff.specs.Fields.{whole, float, inHistory, fields, field}
 use Rattle.shutoff.specs.Shut.{one, isZero, nineIsZero, nineIsMinusOne, shut, Alike}
@@ -177,6 +178,11 @@ pub record Same (w : List ℤ) (s t : State) : Type 0 where
 -- a State shares all with itself
 pub itself : (w : List ℤ) (s : State) → Same w s s
 itself w s = record { dfa = refl; plg = refl; ct = refl; st = refl; c2t = refl; s2t = refl; c3t = refl; s3t = refl; apdf = λ _. refl; apt = refl }
+
+-- whatever a step sets: no expansion reads it
+pub kept-same : (w : List ℤ) (s t : State) (f g : Fields) → Same w s t → Same w (withFields s f) (withFields t g)
+kept-same w s t f g e =
+    record { dfa = e .dfa; plg = e .plg; ct = e .ct; st = e .st; c2t = e .c2t; s2t = e .s2t; c3t = e .c3t; s3t = e .s3t; apdf = e .apdf; apt = e .apt }
 
 -- sg0 reads the values 1 to 6 of the array
 pub six : (ex p24 p25 : Float) (l m : List Float) → l ‼ 1 ≡ m ‼ 1 → l ‼ 2 ≡ m ‼ 2 → l ‼ 3 ≡ m ‼ 3 → l ‼ 4 ≡ m ‼ 4 → l ‼ 5 ≡ m ‼ 5 → l ‼ 6 ≡ m ‼ 6 → sg0Of ex p24 p25 l ≡ sg0Of ex p24 p25 m
@@ -350,3 +356,4 @@ module _ (w : List ℤ) (a b : Input) (like : Alike w a b) where
         let h = answer≡ q s t e in
         ap (λ (v : Float). (run (plainView w a) (k v) ((answer (plainView w a) q s) .state)) .result) (h .0)
         ∙ run≡ (k ((answer (plainView w b) q t) .value)) ((answer (plainView w a) q s) .state) ((answer (plainView w b) q t) .state) (h .1)
+    run≡ (keep u m) s t e = run≡ m _ _ (kept-same w s t (u (fieldsOf s)) (u (fieldsOf t)) e)

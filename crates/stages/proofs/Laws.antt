@@ -7,7 +7,7 @@ use Rattle.numbers.specs.Arithmetic.{_⊕_, _⊗_, _‼_}
 use Rattle.numbers.specs.Literals.{1·0, 72·5}
 use Rattle.elementary.specs.Exp.{expOf}
 use Rattle.plan.specs.declared.Levels.{Levels}
-use Rattle.plan.specs.Plan.{done, get, _>>=_, exp-globe7, told, given, wideIn}
+use Rattle.plan.specs.Plan.{_>>=_, told, given, wideIn}
 use Rattle.tables.specs.Names.{Wide, wide}
 use Rattle.tables.specs.Tables.{ptT, psT, ptmT, pdT3, pdT8, pdmT7, pdlT0, pdlT1}
 use Rattle.profile.specs.declared.unchecked.Shape.{Shape}
@@ -20,8 +20,7 @@ pub species-law : {A : Type 0} (l : Levels) (F : Float → A) (f : Float) (t : W
     → g ≡ expOf (f ⊗ wideIn l t)
     → m ≡ row
     → p ≡ wide t
-    → d ≡ told (given l) (get (exp-globe7 f t) >>= (λ x. done (F (row ‼ 0 ⊗ x ⊗ wide t ‼ 0))))
-unfolding told _>>=_
+    → d ≡ F (row ‼ 0 ⊗ expOf (f ⊗ wideIn l t) ⊗ wide t ‼ 0)
 species-law l F f t row d g m p e0 e1 e2 e3 = simp (e0, e1, e2, e3)
 
 pub tlb-law : (sw : List Float) (l : Levels) (m p : List Float)

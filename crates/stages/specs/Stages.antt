@@ -1,14 +1,18 @@
 -- gts7 in stages, as plans over the main effects sw, a Site and an altitude z, in the Rust's order.
+use mathlib.Core.Bool.{Bool, _&&_}
 use mathlib.Core.List.{List}
-use lib.Ieee.{Float, lt}
+use lib.Ieee.{Float, lt, le, ne}
 use Rattle.numbers.specs.Arithmetic.{_⊗_, _‼_}
-use Rattle.numbers.specs.Literals.{2·0, 72·5, 300·0}
+use Rattle.numbers.specs.Literals.{0·0, 2·0, 72·5, 160·0, 200·0, 240·0, 250·0, 300·0, 320·0, 450·0}
 use Rattle.elementary.specs.Pow.{powOf}
+use Rattle.elementary.specs.Root.{sqrtOf}
+use Rattle.profile.specs.Profile.{tn1Of, tgn1Of}
 use Rattle.profile.specs.declared.unchecked.Shape.{Shape}
 use Rattle.species.specs.declared.Blend.{Blend}
 use Rattle.species.specs.declared.Mixture.{Mixture}
-use Rattle.species.specs.Species.{heliumOf, oxygenOf, o2Of, argonOf, hydrogenOf, nitrogenOf, hotOf, n2Of}
-use Rattle.plan.specs.Plan.{Plan, done, ask, get, either, _>>=_, one-plus-globe7, exp-globe7, one-plus-glob7s, one-minus-glob7s}
+use Rattle.species.specs.Species.{nodes, heliumOf, oxygenOf, o2Of, argonOf, hydrogenOf, nitrogenOf, hotOf, n2Of}
+use Rattle.plan.specs.Fields.{Fields, when, setTn1, setNodes1, setDm04, setDm16, setDm28, setDm32, setDm40, setDm01, setDm14}
+use Rattle.plan.specs.Plan.{Plan, done, ask, keep, get, either, _>>=_, _>>_, one-plus-globe7, exp-globe7, one-plus-glob7s, one-minus-glob7s}
 use Rattle.tables.specs.Names.{PT, PS, PD0, PD1, PD2, PD3, PD4, PD5, PD6, PD7, PD8, PTL0, PTL1, PTL2, PTL3, PMA8}
 use Rattle.tables.specs.Tables.{ptT, psT, ptmT, pdT0, pdT1, pdT2, pdT3, pdT4, pdT5, pdT6, pdT7, pdT8, pdmT0, pdmT1, pdmT2, pdmT3, pdmT4, pdmT5, pdmT6, pdmT7, pdlT0, pdlT1, ptlT0, ptlT1, ptlT2, ptlT3, pmaT8}
 use Rattle.upper.specs.declared.Site.{Site}
@@ -16,6 +20,19 @@ use Rattle.upper.specs.declared.Nodes.{Nodes}
 use Rattle.upper.specs.declared.Six.{Six}
 use Rattle.upper.specs.declared.Upper.{Upper}
 use Rattle.upper.specs.Upper.{variedOf, meanOf, shapeOf, anomalousOf, gatherOf}
+
+-- what a call of densu at z leaves in element 0 of meso_tn1 and meso_tgn1. The Rust works on copies of the two and puts them back at the end
+-- of gts7; between, nothing else reads or sets them.
+unfoldable pub densuSets : Shape → Float → Fields → Fields
+densuSets h z f =
+    setTn1
+    (tn1Of (h .re) z (h .tinf) (h .tlb) (ptmT ‼ 5) (h .s) nodes (f .«meso_tn1»))
+    (tgn1Of (h .re) z (h .tinf) (h .tlb) (ptmT ‼ 5) (h .s) nodes (f .«meso_tgn1»))
+    f
+
+-- what a species that is mixed sets: densu at its turbopause zh, densu at z again, and by this its dm
+abbrev pub mixedSets : Shape → Float → Float → (Fields → Fields) → Fields → Fields
+mixedSets h z zh u f = u (densuSets h z (densuSets h zh f))
 
 -- exospheric temperature; its variation counts above za
 unfoldable pub tinfPlan : List Float → Float → Plan Float
@@ -45,8 +62,13 @@ nodesPlan sw z =
       c ← get (one-minus-glob7s (sw ‼ 18) PTL2)
       e ← get (one-minus-glob7s (sw ‼ 18 ⊗ sw ‼ 20) PTL3)
       g ← get (one-plus-glob7s (sw ‼ 18 ⊗ sw ‼ 20) PMA8)
-      done (variedOf ptmT (ptlT0 ‼ 0) (ptlT1 ‼ 0) (ptlT2 ‼ 0) (ptlT3 ‼ 0) (pmaT8 ‼ 0) (powOf (ptmT ‼ 4 ⊗ ptlT3 ‼ 0) 2·0) a b c e g))
-    (done (meanOf ptmT (ptlT0 ‼ 0) (ptlT1 ‼ 0) (ptlT2 ‼ 0) (ptlT3 ‼ 0) (pmaT8 ‼ 0) (powOf (ptmT ‼ 4 ⊗ ptlT3 ‼ 0) 2·0)))
+      let n = variedOf ptmT (ptlT0 ‼ 0) (ptlT1 ‼ 0) (ptlT2 ‼ 0) (ptlT3 ‼ 0) (pmaT8 ‼ 0) (powOf (ptmT ‼ 4 ⊗ ptlT3 ‼ 0) 2·0) a b c e g
+      setNodes1 (n .tn) (n .tgn)
+      done n)
+    (do
+      let n = meanOf ptmT (ptlT0 ‼ 0) (ptlT1 ‼ 0) (ptlT2 ‼ 0) (ptlT3 ‼ 0) (pmaT8 ‼ 0) (powOf (ptmT ‼ 4 ⊗ ptlT3 ‼ 0) 2·0)
+      setNodes1 (n .tn) (n .tgn)
+      done n)
 
 -- what densu reads
 unfoldable pub shapePlan : List Float → Site → Float → Plan Shape
@@ -58,30 +80,67 @@ shapePlan sw x z = do
   done (shapeOf x tinf tlb g n)
 
 unfoldable pub n2Plan : List Float → Shape → Float → Float → Plan Blend
-n2Plan sw h z zhf = do g ← get (exp-globe7 (sw ‼ 21) PD2); done (n2Of h (sw ‼ 15) z (pdmT2 ‼ 0 ⊗ g ⊗ pdT2 ‼ 0) zhf)
+n2Plan sw h z zhf = do
+  g ← get (exp-globe7 (sw ‼ 21) PD2)
+  let b = n2Of h (sw ‼ 15) z (pdmT2 ‼ 0 ⊗ g ⊗ pdT2 ‼ 0) zhf
+  densuSets h z
+  densuSets h (pdmT2 ‼ 2 ⊗ zhf)
+  when (ne (sw ‼ 15) 0·0 && le z 160·0) (λ f. setDm28 (b .dm) (densuSets h z f))
+  done b
 
 unfoldable pub heliumPlan : List Float → Shape → Float → Float → Float → Float → Plan Mixture
-heliumPlan sw h z b28 zhm xmm = do g ← get (exp-globe7 (sw ‼ 21) PD0); done (heliumOf h (sw ‼ 15) z b28 (pdmT0 ‼ 0 ⊗ g ⊗ pdT0 ‼ 0) zhm xmm)
+heliumPlan sw h z b28 zhm xmm = do
+  g ← get (exp-globe7 (sw ‼ 21) PD0)
+  let x = heliumOf h (sw ‼ 15) z b28 (pdmT0 ‼ 0 ⊗ g ⊗ pdT0 ‼ 0) zhm xmm
+  densuSets h z
+  when (ne (sw ‼ 15) 0·0 && lt z 200·0) (mixedSets h z (pdmT0 ‼ 2) (setDm04 (x .dm)))
+  done x
 
 unfoldable pub oxygenPlan : List Float → Shape → Float → Float → Float → Float → Plan Mixture
-oxygenPlan sw h z zhm xmm flux = do g ← get (exp-globe7 (sw ‼ 21) PD1); done (oxygenOf h (sw ‼ 15) z (pdmT1 ‼ 0 ⊗ g ⊗ pdT1 ‼ 0) zhm xmm flux)
+oxygenPlan sw h z zhm xmm flux = do
+  g ← get (exp-globe7 (sw ‼ 21) PD1)
+  let x = oxygenOf h (sw ‼ 15) z (pdmT1 ‼ 0 ⊗ g ⊗ pdT1 ‼ 0) zhm xmm flux
+  densuSets h z
+  when (ne (sw ‼ 15) 0·0 && le z 300·0) (mixedSets h z (pdmT1 ‼ 2) (setDm16 (x .dm)))
+  done x
 
 unfoldable pub o2Plan : List Float → Shape → Float → Float → Float → Float → Float → Plan Mixture
-o2Plan sw h z b28 zhm xmm flux = do g ← get (exp-globe7 (sw ‼ 21) PD4); done (o2Of h (sw ‼ 15) z b28 (pdmT3 ‼ 0 ⊗ g ⊗ pdT4 ‼ 0) zhm xmm flux)
+o2Plan sw h z b28 zhm xmm flux = do
+  g ← get (exp-globe7 (sw ‼ 21) PD4)
+  let x = o2Of h (sw ‼ 15) z b28 (pdmT3 ‼ 0 ⊗ g ⊗ pdT4 ‼ 0) zhm xmm flux
+  densuSets h z
+  when (ne (sw ‼ 15) 0·0 && le z 250·0) (mixedSets h z (pdmT3 ‼ 2) (setDm32 (x .dm)))
+  done x
 
 unfoldable pub argonPlan : List Float → Shape → Float → Float → Float → Float → Plan Mixture
-argonPlan sw h z b28 zhm xmm = do g ← get (exp-globe7 (sw ‼ 21) PD5); done (argonOf h (sw ‼ 15) z b28 (pdmT4 ‼ 0 ⊗ g ⊗ pdT5 ‼ 0) zhm xmm)
+argonPlan sw h z b28 zhm xmm = do
+  g ← get (exp-globe7 (sw ‼ 21) PD5)
+  let x = argonOf h (sw ‼ 15) z b28 (pdmT4 ‼ 0 ⊗ g ⊗ pdT5 ‼ 0) zhm xmm
+  densuSets h z
+  when (ne (sw ‼ 15) 0·0 && le z 240·0) (mixedSets h z (pdmT4 ‼ 2) (setDm40 (x .dm)))
+  done x
 
 unfoldable pub hydrogenPlan : List Float → Shape → Float → Float → Float → Float → Plan Mixture
-hydrogenPlan sw h z b28 zhm xmm = do g ← get (exp-globe7 (sw ‼ 21) PD6); done (hydrogenOf h (sw ‼ 15) z b28 (pdmT5 ‼ 0 ⊗ g ⊗ pdT6 ‼ 0) zhm xmm)
+hydrogenPlan sw h z b28 zhm xmm = do
+  g ← get (exp-globe7 (sw ‼ 21) PD6)
+  let x = hydrogenOf h (sw ‼ 15) z b28 (pdmT5 ‼ 0 ⊗ g ⊗ pdT6 ‼ 0) zhm xmm
+  densuSets h z
+  when (ne (sw ‼ 15) 0·0 && le z 320·0) (mixedSets h z (pdmT5 ‼ 2) (setDm01 (x .dm)))
+  done x
 
 unfoldable pub nitrogenPlan : List Float → Shape → Float → Float → Float → Float → Plan Mixture
-nitrogenPlan sw h z b28 zhm xmm = do g ← get (exp-globe7 (sw ‼ 21) PD7); done (nitrogenOf h (sw ‼ 15) z b28 (pdmT6 ‼ 0 ⊗ g ⊗ pdT7 ‼ 0) zhm xmm)
+nitrogenPlan sw h z b28 zhm xmm = do
+  g ← get (exp-globe7 (sw ‼ 21) PD7)
+  let x = nitrogenOf h (sw ‼ 15) z b28 (pdmT6 ‼ 0 ⊗ g ⊗ pdT7 ‼ 0) zhm xmm
+  densuSets h z
+  when (ne (sw ‼ 15) 0·0 && le z 450·0) (mixedSets h z (pdmT6 ‼ 2) (setDm14 (x .dm)))
+  done x
 
--- anomalous oxygen
+-- anomalous oxygen: h has tho in the place of tinf and tlb
 unfoldable pub hotPlan : List Float → Shape → Float → Plan Float
 hotPlan sw h z = do
   g ← get (exp-globe7 (sw ‼ 21) PD8)
+  densuSets h z
   done (hotOf h z (pdmT7 ‼ 0 ⊗ g ⊗ pdT8 ‼ 0) (pdmT7 ‼ 5) (pdmT7 ‼ 4) (pdmT7 ‼ 9 ⊗ pdlT0 ‼ 6))
 
 -- the six species that blend with N2, whose mixed density at the turbopause is b28
@@ -104,4 +163,5 @@ gts7Plan sw x z = do
   b ← n2Plan sw h z (x .zhf)
   y ← speciesPlan sw h z (b .b) (x .flux)
   o ← hotPlan sw (anomalousOf h) z
+  densuSets h (sqrtOf (z ⊗ z))
   done (gatherOf (sw ‼ 0) h z b y o)

@@ -15,7 +15,7 @@ use Rattle.species.specs.Places.{placeAt, Turbopause, Mixes}
 use Rattle.species.specs.declared.Blend.{Blend}
 use Rattle.species.specs.declared.Mixture.{Mixture}
 use Rattle.plan.specs.declared.Levels.{Levels}
-use Rattle.plan.specs.Plan.{_>>=_, told, given, then, last}
+use Rattle.plan.specs.Plan.{_>>=_, told, given, then, last, told-keep}
 use Rattle.tables.specs.Tables.{ptmT, ptlT0, ptlT1, ptlT2, ptlT3, pmaT8, pdmT1, pdmT2, pdmT3, pdmT4, pdmT6, pdlT1}
 use Rattle.upper.specs.declared.Site.{Site}
 use Rattle.upper.specs.declared.Nodes.{Nodes}
@@ -139,4 +139,5 @@ gts7-law sw x z l u o k y b h e0 e1 e2 e3 e4 e6 =
     ∙ then (given l) (n2Plan sw h z (x .zhf)) _ b e4
     ∙ then (given l) (speciesPlan sw h z (b .b) (x .flux)) _ y e3
     ∙ then (given l) (hotPlan sw (anomalousOf h) z) _ o (rw e2 at e1)
+    ∙ told-keep (given l) _ _
     ∙ last (given l) _)

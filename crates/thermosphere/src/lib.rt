@@ -146,7 +146,8 @@ pub fn species_stage(
     }
 }
 
-pub fn gts7(sw: [f64; 24], x: Site, z: f64, l: Levels) -> Upper
+// The State form of it stands in the crate model_state.
+pub fn gts7_stage(sw: [f64; 24], x: Site, z: f64, l: Levels) -> Upper
     ensures { λ r. ⌜ r ≡ told (given l) (gts7Plan sw x z) ⌝ }
 {
     let h = shape_stage(sw, x, z, l);

@@ -17,12 +17,9 @@ returns c =
     let j = c .before .before .answer in
     (j .ensures, row-kept _ _ _ (verdict (j .ensures) (c .before .accepted .ensures) (not-true _ (c .if1 .taken))))
 
-eleven-requires : tie.Need-eleven-requires
-eleven-requires c κs = search needs
-
-put-requires : tie.Need-put-requires
-put-requires c κs =
-    let at = c .before .before in
+row-of-requires : tie.Need-row-of-requires
+row-of-requires c κs =
+    let at = c .before in
     accepted-length _ _ _ (verdict (at .before .before .answer .ensures) (at .before .accepted .ensures) (not-false _ (at .if1 .left)))
 
 same-length : tie.Need-same-length
@@ -30,9 +27,9 @@ same-length c = search needs
 
 returns-2 : tie.Need-returns-2
 returns-2 c =
-    let at = c .before .before .before .before .before in
+    let at = c .before .before .before .before in
     let j = at .before .before .answer in
-    (j .ensures, c .before .before .put .ensures ∙ (c .before .before .before .before .eleven .ensures ∙ row-written _ _ _ (verdict (j .ensures) (at .before .accepted .ensures) (not-false _ (at .if1 .left)))))
+    (j .ensures, c .before .before .row-of .ensures ∙ (row-written _ _ _ (verdict (j .ensures) (at .before .accepted .ensures) (not-false _ (at .if1 .left)))))
 
 pub gtd7-spec : {M : Type 1} → statement M
 gtd7-spec =
@@ -41,7 +38,6 @@ gtd7-spec =
     answer-requires
     accepted-requires
     returns
-    eleven-requires
-    put-requires
+    row-of-requires
     same-length
     returns-2)

@@ -7,8 +7,8 @@ use Rattle.atmosphere.proofs.gtd7_stage.Tie as tie
 pick-requires : tie.Need-pick-requires
 pick-requires c κs = search needs
 
-gts7-requires : tie.Need-gts7-requires
-gts7-requires c κs = search needs
+gts7-stage-requires : tie.Need-gts7-stage-requires
+gts7-stage-requires c κs = search needs
 
 above-requires : tie.Need-above-requires
 above-requires c κs = search needs
@@ -17,10 +17,10 @@ returns : tie.Need-returns
 returns c = let A = (c .before .before .before .before .args) in
     gtd7-above (A .t1) (A .x) (A .alt) (A .l)
     (c .above .result)
-    (c .before .before .gts7 .result)
+    (c .before .before .gts7-stage .result)
     (c .before .before .before .pick .result)
     (c .above .ensures)
-    (c .before .before .gts7 .ensures)
+    (c .before .before .gts7-stage .ensures)
     (c .before .before .before .pick .ensures)
     (c .before .if1 .taken)
 
@@ -42,12 +42,12 @@ returns-2 c = let A = (c .before .before .before .before .before .before .args) 
     (c .below .result)
     (c .before .lower-stage .result)
     (c .before .before .meso-stage .result)
-    (c .before .before .before .before .gts7 .result)
+    (c .before .before .before .before .gts7-stage .result)
     (c .before .before .before .before .before .pick .result)
     (c .below .ensures)
     (c .before .lower-stage .ensures)
     (c .before .before .meso-stage .ensures)
-    (c .before .before .before .before .gts7 .ensures)
+    (c .before .before .before .before .gts7-stage .ensures)
     (c .before .before .before .before .before .pick .ensures)
     (c .before .before .before .if1 .left)
 
@@ -56,7 +56,7 @@ gtd7-stage-spec =
     tie.close
     (tie.spec
     pick-requires
-    gts7-requires
+    gts7-stage-requires
     above-requires
     returns
     meso-stage-requires

@@ -5,6 +5,7 @@ use Rattle.species.specs.Species.{argonOf}
 use Rattle.tables.specs.Names.{PD5}
 use Rattle.tables.specs.Tables.{pdmT4}
 use Rattle.stages.proofs.Laws.{species-law}
+use Rattle.plan.specs.Plan.{told, _>>=_}
 use Rattle.stages.specs.Stages.{argonPlan}
 use borrow.Author.Needs.{needs}
 use Rattle.stages.proofs.argon_stage.Statement.{statement}
@@ -35,7 +36,7 @@ argon-requires : tie.Need-argon-requires
 argon-requires c κs = c .before .before .before .before .pre
 
 returns : tie.Need-returns
-unfolding argonPlan
+unfolding told argonPlan _>>=_
 returns c = let A = (c .before .before .before .before .before .args) in
     species-law (A .l) (λ (x : Float). argonOf (A .h) (A .t1 ‼ 15) (A .z) (A .b28) x (A .zhm) (A .xmm)) (A .t1 ‼ 21) PD5 pdmT4
     (c .argon .result)

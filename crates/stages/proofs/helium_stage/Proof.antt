@@ -5,6 +5,7 @@ use Rattle.species.specs.Species.{heliumOf}
 use Rattle.tables.specs.Names.{PD0}
 use Rattle.tables.specs.Tables.{pdmT0}
 use Rattle.stages.proofs.Laws.{species-law}
+use Rattle.plan.specs.Plan.{told, _>>=_}
 use Rattle.stages.specs.Stages.{heliumPlan}
 use borrow.Author.Needs.{needs}
 use Rattle.stages.proofs.helium_stage.Statement.{statement}
@@ -35,7 +36,7 @@ helium-requires : tie.Need-helium-requires
 helium-requires c κs = c .before .before .before .before .pre
 
 returns : tie.Need-returns
-unfolding heliumPlan
+unfolding told heliumPlan _>>=_
 returns c = let A = (c .before .before .before .before .before .args) in
     species-law (A .l) (λ (x : Float). heliumOf (A .h) (A .t1 ‼ 15) (A .z) (A .b28) x (A .zhm) (A .xmm)) (A .t1 ‼ 21) PD0 pdmT0
     (c .helium .result)

@@ -5,6 +5,7 @@ use Rattle.species.specs.Species.{hydrogenOf}
 use Rattle.tables.specs.Names.{PD6}
 use Rattle.tables.specs.Tables.{pdmT5}
 use Rattle.stages.proofs.Laws.{species-law}
+use Rattle.plan.specs.Plan.{told, _>>=_}
 use Rattle.stages.specs.Stages.{hydrogenPlan}
 use borrow.Author.Needs.{needs}
 use Rattle.stages.proofs.hydrogen_stage.Statement.{statement}
@@ -35,7 +36,7 @@ hydrogen-requires : tie.Need-hydrogen-requires
 hydrogen-requires c κs = c .before .before .before .before .pre
 
 returns : tie.Need-returns
-unfolding hydrogenPlan
+unfolding told hydrogenPlan _>>=_
 returns c = let A = (c .before .before .before .before .before .args) in
     species-law (A .l) (λ (x : Float). hydrogenOf (A .h) (A .t1 ‼ 15) (A .z) (A .b28) x (A .zhm) (A .xmm)) (A .t1 ‼ 21) PD6 pdmT5
     (c .hydrogen .result)

@@ -5,6 +5,7 @@ use Rattle.species.specs.Species.{n2Of}
 use Rattle.tables.specs.Names.{PD2}
 use Rattle.tables.specs.Tables.{pdmT2}
 use Rattle.stages.proofs.Laws.{species-law}
+use Rattle.plan.specs.Plan.{told, _>>=_}
 use Rattle.stages.specs.Stages.{n2Plan}
 use borrow.Author.Needs.{needs}
 use Rattle.stages.proofs.n2_stage.Statement.{statement}
@@ -35,7 +36,7 @@ n2-requires : tie.Need-n2-requires
 n2-requires c κs = c .before .before .before .before .pre
 
 returns : tie.Need-returns
-unfolding n2Plan
+unfolding told n2Plan _>>=_
 returns c = let A = (c .before .before .before .before .before .args) in
     species-law (A .l) (λ (x : Float). n2Of (A .h) (A .t1 ‼ 15) (A .z) x (A .zhf)) (A .t1 ‼ 21) PD2 pdmT2
     (c .n2 .result)

@@ -5,6 +5,7 @@ use Rattle.species.specs.Species.{nitrogenOf}
 use Rattle.tables.specs.Names.{PD7}
 use Rattle.tables.specs.Tables.{pdmT6}
 use Rattle.stages.proofs.Laws.{species-law}
+use Rattle.plan.specs.Plan.{told, _>>=_}
 use Rattle.stages.specs.Stages.{nitrogenPlan}
 use borrow.Author.Needs.{needs}
 use Rattle.stages.proofs.nitrogen_stage.Statement.{statement}
@@ -35,7 +36,7 @@ nitrogen-requires : tie.Need-nitrogen-requires
 nitrogen-requires c κs = c .before .before .before .before .pre
 
 returns : tie.Need-returns
-unfolding nitrogenPlan
+unfolding told nitrogenPlan _>>=_
 returns c = let A = (c .before .before .before .before .before .args) in
     species-law (A .l) (λ (x : Float). nitrogenOf (A .h) (A .t1 ‼ 15) (A .z) (A .b28) x (A .zhm) (A .xmm)) (A .t1 ‼ 21) PD7 pdmT6
     (c .nitrogen .result)

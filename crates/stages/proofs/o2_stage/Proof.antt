@@ -5,6 +5,7 @@ use Rattle.species.specs.Species.{o2Of}
 use Rattle.tables.specs.Names.{PD4}
 use Rattle.tables.specs.Tables.{pdmT3}
 use Rattle.stages.proofs.Laws.{species-law}
+use Rattle.plan.specs.Plan.{told, _>>=_}
 use Rattle.stages.specs.Stages.{o2Plan}
 use borrow.Author.Needs.{needs}
 use Rattle.stages.proofs.o2_stage.Statement.{statement}
@@ -35,7 +36,7 @@ o2-requires : tie.Need-o2-requires
 o2-requires c κs = c .before .before .before .before .pre
 
 returns : tie.Need-returns
-unfolding o2Plan
+unfolding told o2Plan _>>=_
 returns c = let A = (c .before .before .before .before .before .args) in
     species-law (A .l) (λ (x : Float). o2Of (A .h) (A .t1 ‼ 15) (A .z) (A .b28) x (A .zhm) (A .xmm) (A .flux)) (A .t1 ‼ 21) PD4 pdmT3
     (c .o2 .result)

@@ -5,6 +5,7 @@ use Rattle.species.specs.Species.{oxygenOf}
 use Rattle.tables.specs.Names.{PD1}
 use Rattle.tables.specs.Tables.{pdmT1}
 use Rattle.stages.proofs.Laws.{species-law}
+use Rattle.plan.specs.Plan.{told, _>>=_}
 use Rattle.stages.specs.Stages.{oxygenPlan}
 use borrow.Author.Needs.{needs}
 use Rattle.stages.proofs.oxygen_stage.Statement.{statement}
@@ -35,7 +36,7 @@ oxygen-requires : tie.Need-oxygen-requires
 oxygen-requires c κs = c .before .before .before .before .pre
 
 returns : tie.Need-returns
-unfolding oxygenPlan
+unfolding told oxygenPlan _>>=_
 returns c = let A = (c .before .before .before .before .before .args) in
     species-law (A .l) (λ (x : Float). oxygenOf (A .h) (A .t1 ‼ 15) (A .z) x (A .zhm) (A .xmm) (A .flux)) (A .t1 ‼ 21) PD1 pdmT1
     (c .oxygen .result)

@@ -1,0 +1,16 @@
+-- `set_dm28` meets its contract.
+use mathlib.Core.Path.{refl}
+use Rattle.plan.specs.Fields.{setDm28}
+use Rattle.state_steps.proofs.Laws.{made, not-made}
+use Rattle.state_steps.proofs.set_dm28.Statement.{statement}
+use Rattle.state_steps.proofs.set_dm28.Tie as tie
+
+returns : tie.Need-returns
+unfolding setDm28
+returns c = let A = c .before .args in made (A .s) _ (A .on) (setDm28 (A .x)) (c .if1 .taken) refl
+
+returns-2 : tie.Need-returns-2
+returns-2 c = let A = c .before .args in not-made (A .s) (A .on) (setDm28 (A .x)) (c .if1 .left)
+
+pub set-dm28-spec : {M : Type 1} → statement M
+set-dm28-spec = tie.close (tie.spec returns returns-2)

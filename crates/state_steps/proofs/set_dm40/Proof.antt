@@ -1,0 +1,16 @@
+-- `set_dm40` meets its contract.
+use mathlib.Core.Path.{refl}
+use Rattle.plan.specs.Fields.{setDm40}
+use Rattle.state_steps.proofs.Laws.{made, not-made}
+use Rattle.state_steps.proofs.set_dm40.Statement.{statement}
+use Rattle.state_steps.proofs.set_dm40.Tie as tie
+
+returns : tie.Need-returns
+unfolding setDm40
+returns c = let A = c .before .args in made (A .s) _ (A .on) (setDm40 (A .x)) (c .if1 .taken) refl
+
+returns-2 : tie.Need-returns-2
+returns-2 c = let A = c .before .args in not-made (A .s) (A .on) (setDm40 (A .x)) (c .if1 .left)
+
+pub set-dm40-spec : {M : Type 1} → statement M
+set-dm40-spec = tie.close (tie.spec returns returns-2)
