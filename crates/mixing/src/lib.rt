@@ -1,6 +1,9 @@
 // Chemistry and dissociation corrections, and the blend of two densities at the turbopause.
 ghost use mathlib.Core.Path.{_≡_};
 ghost use Rattle.mixing.specs.Mixing.{ccorOf, ccor2Of, blendOf, dnetOf};
+
+pub mod limits;
+
 use elementary::exponential::exp;
 use elementary::logarithm::log;
 use elementary::power::pow;

@@ -8,14 +8,14 @@ use Rattle.numbers.specs.Literals.{0·0, 1·0, 2·0}
 use Rattle.numbers.specs.Constants.{rgas}
 use Rattle.elementary.specs.Log.{logOf}
 use Rattle.elementary.specs.Pow.{powOf}
-use Rattle.profile.specs.Place.{spineOf, underOf, overOf, placeOn, placeOf, under-place, over-place}
-use Rattle.profile.specs.declared.place.Spine.{Spine}
-use Rattle.profile.specs.declared.place.Place.{Place}
+use Rattle.places.specs.Place.{spineOf, underOf, overOf, placeOn, placeOf, under-place, over-place}
+use Rattle.places.specs.declared.place.Spine.{Spine}
+use Rattle.places.specs.declared.place.Place.{Place}
 use Rattle.profile.specs.declared.point.Point.{Point}
-use Rattle.profile.specs.declared.thinning.Thinning.{Thinning}
+use Rattle.places.specs.declared.thinning.Thinning.{Thinning}
 use Rattle.profile.specs.declared.unchecked.Shape.{Shape}
-use Rattle.profile.specs.Thinning.{thinnedOf}
-use Rattle.profile.proofs.Order.{lt-asym, both-left, both-right}
+use Rattle.places.specs.Thinning.{thinnedOf}
+use Rattle.places.proofs.Order.{lt-asym, both-left, both-right}
 
 pub alone-law : (h : Shape) (z zlb : Float) (zn : List Float) (r : Place) (q : Float)
     → r ≡ overOf (h .re) (h .tinf) (h .tlb) (h .s) (h .gsurf ⊘ q) (h .s ⊗ rgas ⊗ h .tinf) z (zn ‼ 0) zlb

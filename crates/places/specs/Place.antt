@@ -10,15 +10,15 @@ use Rattle.numbers.specs.Constants.{rgas}
 use Rattle.elementary.specs.Log.{logOf}
 use Rattle.elementary.specs.Pow.{powOf}
 use Rattle.spline.specs.Nodes.{splintOf, spliniOf}
 use Rattle.profile.specs.Gravity.{zetaOf}
 use Rattle.profile.specs.Curve.{layerOf, flooredOf}
 use Rattle.profile.specs.Profile.{batesOf, gradientOf}
 use Rattle.profile.specs.Point.{onCurve, offCurve, pointOf, point-z}
-use Rattle.profile.specs.declared.place.Spine.{Spine}
-use Rattle.profile.specs.declared.place.Place.{Place}
-use Rattle.profile.specs.declared.place.Read.{Read}
+use Rattle.places.specs.declared.place.Spine.{Spine}
+use Rattle.places.specs.declared.place.Place.{Place}
+use Rattle.places.specs.declared.place.Read.{Read}
 use Rattle.profile.specs.declared.point.Point.{Point}
 use Rattle.profile.specs.declared.unchecked.Shape.{Shape}
 
 -- what a shape fixes: densaOf's glb and the divisor of its gamma, zg2Of and ttOf below za, and the curve there, read at za
 unfoldable pub spineOf : Shape → Float → List Float → Spine

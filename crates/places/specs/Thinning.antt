@@ -9,17 +9,17 @@ use Rattle.numbers.specs.Constants.{rgas}
 use Rattle.elementary.specs.Exp.{expOf}
 use Rattle.elementary.specs.Log.{logOf}
 use Rattle.elementary.specs.Pow.{powOf}
 use Rattle.profile.specs.Curve.{cappedOf}
 use Rattle.profile.specs.Profile.{densaOf, aboveOf, densu5Of, densityIn, temperatureIn}
 use Rattle.profile.specs.Point.{onCurve, offCurve, pointOf, densuAt, densu-at}
-use Rattle.profile.specs.Place.{placeOn, placeOf}
+use Rattle.places.specs.Place.{placeOn, placeOf}
 use Rattle.profile.specs.declared.curve.Curve.{Curve}
-use Rattle.profile.specs.declared.place.Place.{Place}
-use Rattle.profile.specs.declared.thinning.Thinning.{Thinning}
+use Rattle.places.specs.declared.place.Place.{Place}
+use Rattle.places.specs.declared.thinning.Thinning.{Thinning}
 use Rattle.profile.specs.declared.point.Point.{Point}
 use Rattle.profile.specs.declared.unchecked.Shape.{Shape}
 use Rattle.profile.specs.declared.unchecked.Profile.{Profile}
 use Rattle.profile.specs.declared.unchecked.Profile.the-variants.{Temperature, Density}
 
 -- lt and l1 are logarithms
 abbrev pub Logged : Place → Type 0

@@ -1,20 +1,20 @@
 // densu's altitudes over one Shape: what the shape fixes for all of them, and what an altitude adds.
 ghost use mathlib.Core.Path.{_≡_};
 ghost use Rattle.profile.specs.Curve.{layerOf};
 ghost use Rattle.spline.specs.Nodes.{splintOf};
-ghost use Rattle.profile.specs.Place.{spineOf, readOf, underOf, overOf, placeOn, placeOf};
-use super::curve::Curve;
-use super::curve::layer;
-use super::gravity::zeta;
-use super::point::Point;
-use super::point::point_of;
-use super::unchecked::Shape;
-use super::unchecked::bates;
-use super::unchecked::gradient;
+ghost use Rattle.places.specs.Place.{spineOf, readOf, underOf, overOf, placeOn, placeOf};
 use elementary::logarithm::log;
 use elementary::power::pow;
 use numbers::RGAS;
 use numbers::pick;
+use profile::curve::Curve;
+use profile::curve::layer;
+use profile::gravity::zeta;
+use profile::point::Point;
+use profile::point::point_of;
+use profile::unchecked::Shape;
+use profile::unchecked::bates;
+use profile::unchecked::gradient;
 use spline::nodes::splini;
 use spline::nodes::splint;
 

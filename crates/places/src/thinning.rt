@@ -1,12 +1,12 @@
 // By what a gas is thinned out from the lower boundary to a place, whatever its density there.
 ghost use mathlib.Core.Path.{_≡_};
-ghost use Rattle.profile.specs.Thinning.{Logged, thinningOf, thinnedOf};
-use super::curve::capped;
+ghost use Rattle.places.specs.Thinning.{Logged, thinningOf, thinnedOf};
 use super::place::Place;
 use elementary::exponential::exp;
 use elementary::power::pow_with;
 use numbers::RGAS;
 use numbers::pick;
+use profile::curve::capped;
 
 // The factors of densu in their order; where the mass is 0 (none), the temperature tz is densu's answer.
 pub struct Thinning {

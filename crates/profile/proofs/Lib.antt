@@ -2,5 +2,3 @@
 pub mod Walk
 pub mod Checked
 pub mod Theorems
-pub mod Order
-pub mod Placed

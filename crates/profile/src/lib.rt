@@ -5,9 +5,7 @@ use unchecked::Profile;
 
 pub mod curve;
 pub mod gravity;
-pub mod place;
 pub mod point;
-pub mod thinning;
 pub mod unchecked;
 
 // What densm and densu answer: the profile's answer, or why they refuse with the place.

@@ -6,11 +6,11 @@ use lib.Ieee.{Float}
 use Rattle.numbers.specs.Arithmetic.{_‼_}
 use Rattle.numbers.specs.Literals.{0·0, 72·5, 90·0, 100·0, 110·0}
 use Rattle.tables.specs.Tables.{ptmT, pdlT1}
-use Rattle.profile.specs.Place.{spineOf, placeOf}
-use Rattle.profile.specs.Thinning.{Logged, thinningOf, thinnedOf, logged, thinned-densu, place-warmth}
-use Rattle.profile.specs.declared.place.Spine.{Spine}
-use Rattle.profile.specs.declared.place.Place.{Place}
-use Rattle.profile.specs.declared.thinning.Thinning.{Thinning}
+use Rattle.places.specs.Place.{spineOf, placeOf}
+use Rattle.places.specs.Thinning.{Logged, thinningOf, thinnedOf, logged, thinned-densu, place-warmth}
+use Rattle.places.specs.declared.place.Spine.{Spine}
+use Rattle.places.specs.declared.place.Place.{Place}
+use Rattle.places.specs.declared.thinning.Thinning.{Thinning}
 use Rattle.profile.specs.declared.unchecked.Shape.{Shape}
 use Rattle.species.specs.Species.{nodes, densityOf, temperatureOf}
 use Rattle.species.specs.Places.{spineAt, placeAt, Turbopause, Mixes}

@@ -4,11 +4,11 @@ use mathlib.Core.Bool.{Bool, true, cond, _&&_}
 use lib.Ieee.{Float, le, ne}
 use Rattle.numbers.specs.Arithmetic.{_‼_}
 use Rattle.numbers.specs.Literals.{0·0, 450·0}
-use Rattle.profile.specs.Place.{spineOf, placeOf}
-use Rattle.profile.specs.Thinning.{thinningOf}
-use Rattle.profile.specs.declared.place.Spine.{Spine}
-use Rattle.profile.specs.declared.place.Place.{Place}
-use Rattle.profile.specs.declared.thinning.Thinning.{Thinning}
+use Rattle.places.specs.Place.{spineOf, placeOf}
+use Rattle.places.specs.Thinning.{thinningOf}
+use Rattle.places.specs.declared.place.Spine.{Spine}
+use Rattle.places.specs.declared.place.Place.{Place}
+use Rattle.places.specs.declared.thinning.Thinning.{Thinning}
 use Rattle.profile.specs.declared.unchecked.Shape.{Shape}
 use Rattle.tables.specs.Tables.{ptmT}
 use Rattle.species.specs.Species.{nodes}

@@ -9,10 +9,9 @@ use Rattle.elementary.specs.Exp.{expOf}
 use Rattle.elementary.specs.Log.{logOf}
 use Rattle.elementary.specs.Root.{sqrtOf}
 use Rattle.mixing.specs.Mixing.{ccorOf, ccor2Of, dnetOf}
+use Rattle.mixing.specs.Limits.{n2Mixed, heMixed, oMixed, o2Mixed, arMixed, hMixed, nMixed}
 use Rattle.profile.specs.Gravity.{scalhOf}
 use Rattle.profile.specs.Profile.{densu5Of, densityIn, temperatureIn}
-use Rattle.profile.specs.Point.{pointOf}
-use Rattle.profile.specs.declared.point.Point.{Point}
 use Rattle.profile.specs.declared.unchecked.Shape.{Shape}
 use Rattle.tables.specs.Tables.{ptmT, pdlT0, pdlT1, pdmT0, pdmT1, pdmT2, pdmT3, pdmT4, pdmT5, pdmT6}
 use Rattle.species.specs.declared.Blend.{Blend}
@@ -21,14 +20,6 @@ use Rattle.species.specs.declared.Mixture.{Mixture}
 -- zn1 of gts7
 abbrev pub nodes : List Float
 nodes = (pdlT1 ‼ 15) ∷ 110·0 ∷ 100·0 ∷ 90·0 ∷ 72·5 ∷ []
-
--- what an altitude gives for every species
-abbrev pub pointAt : Shape → Float → Point
-pointAt h z = pointOf h z (ptmT ‼ 5) nodes
-
--- p is what its altitude gives
-abbrev pub Placed : Shape → Point → Type 0
-Placed h p = p ≡ pointAt h (p .z)
 
 -- densu over gts7's nodes: what it returns for a density dlb at the lower boundary
 unfoldable pub densityOf : Shape → Float → Float → Float → Float → Float
@@ -52,14 +43,14 @@ n2Of h sw15 z db zhf =
     let m = pdmT2 in
     let d0 = densityOf h z db 28·0 0·0 in
     let b = densityOf h (m ‼ 2 ⊗ zhf) db (28·0 ⊖ m ‼ 4) (0·0 ⊖ 1·0) in
-    cond (not (ne sw15 0·0 && le z 160·0)) (record { dens = d0; b = b; dm = 0·0 }) (
+    cond (not (n2Mixed sw15 z)) (record { dens = d0; b = b; dm = 0·0 }) (
     let dm = densityOf h z b (m ‼ 4) 0·0 in
     record { dens = dnetOf d0 dm (m ‼ 3 ⊗ pdlT1 ‼ 5) (m ‼ 4) 28·0; b = b; dm = dm })
 
 -- Helium, mixed strictly below 200 km
 unfoldable pub heliumOf : Shape → Float → Float → Float → Float → Float → Float → Mixture
 heliumOf h sw15 z b28 db zhm xmm =
-    cond (not (ne sw15 0·0 && lt z 200·0)) (record { dens = densityOf h z db 4·0 (neg 0·38); dm = 0·0 }) (
+    cond (not (heMixed sw15 z)) (record { dens = densityOf h z db 4·0 (neg 0·38); dm = 0·0 }) (
     let m = pdmT0 in
     let l = pdlT1 in
     let x = mixedOf h z db (m ‼ 2) 4·0 (neg 0·38) zhm xmm in
@@ -70,7 +61,7 @@ heliumOf h sw15 z b28 db zhm xmm =
 -- Atomic oxygen, mixed at or below 300 km
 unfoldable pub oxygenOf : Shape → Float → Float → Float → Float → Float → Float → Mixture
 oxygenOf h sw15 z db zhm xmm flux =
-    cond (not (ne sw15 0·0 && le z 300·0)) (record { dens = densityOf h z db 16·0 0·0; dm = 0·0 }) (
+    cond (not (oMixed sw15 z)) (record { dens = densityOf h z db 16·0 0·0; dm = 0·0 }) (
     let m = pdmT1 in
     let l = pdlT1 in
     let x = mixedOf h z db (m ‼ 2) 16·0 0·0 zhm xmm in
@@ -81,7 +72,7 @@ oxygenOf h sw15 z db zhm xmm flux =
 -- Molecular oxygen without its second correction, mixed at or below 250 km
 unfoldable pub o2MixedOf : Shape → Float → Float → Float → Float → Float → Float → Mixture
 o2MixedOf h sw15 z b28 db zhm xmm =
-    cond (not (ne sw15 0·0 && le z 250·0)) (record { dens = densityOf h z db 32·0 0·0; dm = 0·0 }) (
+    cond (not (o2Mixed sw15 z)) (record { dens = densityOf h z db 32·0 0·0; dm = 0·0 }) (
     let m = pdmT3 in
     let l = pdlT1 in
     let x = mixedOf h z db (m ‼ 2) 32·0 0·0 zhm xmm in
@@ -92,7 +83,7 @@ o2MixedOf h sw15 z b28 db zhm xmm =
 -- Argon, mixed at or below 240 km
 unfoldable pub argonOf : Shape → Float → Float → Float → Float → Float → Float → Mixture
 argonOf h sw15 z b28 db zhm xmm =
-    cond (not (ne sw15 0·0 && le z 240·0)) (record { dens = densityOf h z db 40·0 0·17; dm = 0·0 }) (
+    cond (not (arMixed sw15 z)) (record { dens = densityOf h z db 40·0 0·17; dm = 0·0 }) (
     let m = pdmT4 in
     let l = pdlT1 in
     let x = mixedOf h z db (m ‼ 2) 40·0 0·17 zhm xmm in
@@ -103,7 +94,7 @@ argonOf h sw15 z b28 db zhm xmm =
 -- Hydrogen, mixed at or below 320 km
 unfoldable pub hydrogenOf : Shape → Float → Float → Float → Float → Float → Float → Mixture
 hydrogenOf h sw15 z b28 db zhm xmm =
-    cond (not (ne sw15 0·0 && le z 320·0)) (record { dens = densityOf h z db 1·0 (neg 0·38); dm = 0·0 }) (
+    cond (not (hMixed sw15 z)) (record { dens = densityOf h z db 1·0 (neg 0·38); dm = 0·0 }) (
     let m = pdmT5 in
     let l = pdlT1 in
     let x = mixedOf h z db (m ‼ 2) 1·0 (neg 0·38) zhm xmm in
@@ -116,7 +107,7 @@ hydrogenOf h sw15 z b28 db zhm xmm =
 -- Atomic nitrogen, mixed at or below 450 km
 unfoldable pub nitrogenOf : Shape → Float → Float → Float → Float → Float → Float → Mixture
 nitrogenOf h sw15 z b28 db zhm xmm =
-    cond (not (ne sw15 0·0 && le z 450·0)) (record { dens = densityOf h z db 14·0 0·0; dm = 0·0 }) (
+    cond (not (nMixed sw15 z)) (record { dens = densityOf h z db 14·0 0·0; dm = 0·0 }) (
     let m = pdmT6 in
     let l = pdlT0 in
     let x = mixedOf h z db (m ‼ 2) 14·0 0·0 zhm xmm in

@@ -4,7 +4,7 @@ ghost use mathlib.Core.Bool.{_&&_};
 ghost use lib.Ieee.{lt, le, ne};
 ghost use Rattle.numbers.specs.Arithmetic.{_⊗_, _‼_};
 ghost use Rattle.numbers.specs.Literals.{0·0, 200·0, 320·0};
-ghost use Rattle.profile.specs.Thinning.{Logged, thinningOf};
+ghost use Rattle.places.specs.Thinning.{Logged, thinningOf};
 ghost use Rattle.tables.specs.Tables.{pdmT0, pdmT1, pdmT2, pdmT3, pdmT4, pdmT5, pdmT6};
 ghost use Rattle.species.specs.Places.{spineAt, placeAt, mixesAt, Turbopause, Mixes};
 ghost use Rattle.species.specs.Species.{densityOf, temperatureOf, mixedOf, heliumOf, oxygenOf, o2MixedOf, o2Of, argonOf, hydrogenOf, nitrogenOf, hotOf, n2Of};
@@ -14,16 +14,23 @@ use elementary::root::sqrt;
 use mixing::ccor;
 use mixing::ccor2;
 use mixing::dnet;
+use mixing::limits::ar_mixed;
+use mixing::limits::h_mixed;
+use mixing::limits::he_mixed;
+use mixing::limits::n_mixed;
+use mixing::limits::n2_mixed;
+use mixing::limits::o_mixed;
+use mixing::limits::o2_mixed;
+use places::place::Place;
+use places::place::Spine;
+use places::place::place_alone;
+use places::place::place_of;
+use places::place::spine_of;
+use places::place::warmth_of;
+use places::thinning::Thinning;
+use places::thinning::thin;
+use places::thinning::thinned;
 use profile::gravity::scalh;
-use profile::place::Place;
-use profile::place::Spine;
-use profile::place::place_alone;
-use profile::place::place_of;
-use profile::place::spine_of;
-use profile::place::warmth_of;
-use profile::thinning::Thinning;
-use profile::thinning::thin;
-use profile::thinning::thinned;
 use profile::unchecked::Shape;
 use tables::pdl0;
 use tables::pdl1;
@@ -179,7 +186,7 @@ pub fn n2(h: Shape, sw15: f64, z: f64, p: Place, w: Place, t: Thinning, db: f64,
     let l = pdl1();
     let d0 = density(h, z, p, db, 28.0, 0.0);
     let b = density(h, m[2] * zhf, w, db, 28.0 - m[4], 0.0 - 1.0);
-    if !((sw15 != 0.0) & (z <= 160.0)) {
+    if !n2_mixed(sw15, z) {
         return Blend {
             dens: d0,
             b: b,
@@ -211,7 +218,7 @@ pub fn helium(
     requires { ⌜ (p ≡ placeAt h z) × Turbopause h (ne sw15 0·0 && lt z 200·0) (pdmT0 ‼ 2) w × Mixes (mixesAt sw15 z) p xmm t ⌝ }
     ensures { λ r. ⌜ r ≡ heliumOf h sw15 z b28 db zhm xmm ⌝ }
 {
-    if !((sw15 != 0.0) & (z < 200.0)) {
+    if !he_mixed(sw15, z) {
         let d = density(h, z, p, db, 4.0, -0.38);
         return Mixture { dens: d, dm: 0.0 };
     }
@@ -242,7 +249,7 @@ pub fn oxygen(
     requires { ⌜ (p ≡ placeAt h z) × Turbopause h (mixesAt sw15 z) (pdmT1 ‼ 2) w × Mixes (mixesAt sw15 z) p xmm t ⌝ }
     ensures { λ r. ⌜ r ≡ oxygenOf h sw15 z db zhm xmm flux ⌝ }
 {
-    if !((sw15 != 0.0) & (z <= 300.0)) {
+    if !o_mixed(sw15, z) {
         let d = density(h, z, p, db, 16.0, 0.0);
         return Mixture { dens: d, dm: 0.0 };
     }
@@ -279,7 +286,7 @@ pub fn o2_mixed(
     requires { ⌜ (p ≡ placeAt h z) × Turbopause h (mixesAt sw15 z) (pdmT3 ‼ 2) w × Mixes (mixesAt sw15 z) p xmm t ⌝ }
     ensures { λ r. ⌜ r ≡ o2MixedOf h sw15 z b28 db zhm xmm ⌝ }
 {
-    if !((sw15 != 0.0) & (z <= 250.0)) {
+    if !o2_mixed(sw15, z) {
         let d = density(h, z, p, db, 32.0, 0.0);
         return Mixture { dens: d, dm: 0.0 };
     }
@@ -310,7 +317,7 @@ pub fn argon(
     requires { ⌜ (p ≡ placeAt h z) × Turbopause h (mixesAt sw15 z) (pdmT4 ‼ 2) w × Mixes (mixesAt sw15 z) p xmm t ⌝ }
     ensures { λ r. ⌜ r ≡ argonOf h sw15 z b28 db zhm xmm ⌝ }
 {
-    if !((sw15 != 0.0) & (z <= 240.0)) {
+    if !ar_mixed(sw15, z) {
         let d = density(h, z, p, db, 40.0, 0.17);
         return Mixture { dens: d, dm: 0.0 };
     }
@@ -341,7 +348,7 @@ pub fn hydrogen(
     requires { ⌜ (p ≡ placeAt h z) × Turbopause h (ne sw15 0·0 && le z 320·0) (pdmT5 ‼ 2) w × Mixes (mixesAt sw15 z) p xmm t ⌝ }
     ensures { λ r. ⌜ r ≡ hydrogenOf h sw15 z b28 db zhm xmm ⌝ }
 {
-    if !((sw15 != 0.0) & (z <= 320.0)) {
+    if !h_mixed(sw15, z) {
         let d = density(h, z, p, db, 1.0, -0.38);
         return Mixture { dens: d, dm: 0.0 };
     }
@@ -374,7 +381,7 @@ pub fn nitrogen(
     requires { ⌜ (p ≡ placeAt h z) × Turbopause h (mixesAt sw15 z) (pdmT6 ‼ 2) w × Mixes (mixesAt sw15 z) p xmm t ⌝ }
     ensures { λ r. ⌜ r ≡ nitrogenOf h sw15 z b28 db zhm xmm ⌝ }
 {
-    if !((sw15 != 0.0) & (z <= 450.0)) {
+    if !n_mixed(sw15, z) {
         let d = density(h, z, p, db, 14.0, 0.0);
         return Mixture { dens: d, dm: 0.0 };
     }

@@ -1,13 +1,13 @@
 -- gts7 in stages, as plans over the main effects sw, a Site and an altitude z, in the Rust's order.
-use mathlib.Core.Bool.{Bool, _&&_}
 use mathlib.Core.List.{List}
-use lib.Ieee.{Float, lt, le, ne}
+use lib.Ieee.{Float, lt}
 use Rattle.numbers.specs.Arithmetic.{_⊗_, _‼_}
-use Rattle.numbers.specs.Literals.{0·0, 2·0, 72·5, 160·0, 200·0, 240·0, 250·0, 300·0, 320·0, 450·0}
+use Rattle.numbers.specs.Literals.{2·0, 72·5, 300·0}
 use Rattle.elementary.specs.Pow.{powOf}
 use Rattle.elementary.specs.Root.{sqrtOf}
 use Rattle.profile.specs.Profile.{tn1Of, tgn1Of}
 use Rattle.profile.specs.declared.unchecked.Shape.{Shape}
+use Rattle.mixing.specs.Limits.{n2Mixed, heMixed, oMixed, o2Mixed, arMixed, hMixed, nMixed}
 use Rattle.species.specs.declared.Blend.{Blend}
 use Rattle.species.specs.declared.Mixture.{Mixture}
 use Rattle.species.specs.Species.{nodes, heliumOf, oxygenOf, o2Of, argonOf, hydrogenOf, nitrogenOf, hotOf, n2Of}
@@ -85,7 +85,7 @@ n2Plan sw h z zhf = do
   let b = n2Of h (sw ‼ 15) z (pdmT2 ‼ 0 ⊗ g ⊗ pdT2 ‼ 0) zhf
   densuSets h z
   densuSets h (pdmT2 ‼ 2 ⊗ zhf)
-  when (ne (sw ‼ 15) 0·0 && le z 160·0) (λ f. setDm28 (b .dm) (densuSets h z f))
+  when (n2Mixed (sw ‼ 15) z) (λ f. setDm28 (b .dm) (densuSets h z f))
   done b
 
 unfoldable pub heliumPlan : List Float → Shape → Float → Float → Float → Float → Plan Mixture
@@ -93,7 +93,7 @@ heliumPlan sw h z b28 zhm xmm = do
   g ← get (exp-globe7 (sw ‼ 21) PD0)
   let x = heliumOf h (sw ‼ 15) z b28 (pdmT0 ‼ 0 ⊗ g ⊗ pdT0 ‼ 0) zhm xmm
   densuSets h z
-  when (ne (sw ‼ 15) 0·0 && lt z 200·0) (mixedSets h z (pdmT0 ‼ 2) (setDm04 (x .dm)))
+  when (heMixed (sw ‼ 15) z) (mixedSets h z (pdmT0 ‼ 2) (setDm04 (x .dm)))
   done x
 
 unfoldable pub oxygenPlan : List Float → Shape → Float → Float → Float → Float → Plan Mixture
@@ -101,7 +101,7 @@ oxygenPlan sw h z zhm xmm flux = do
   g ← get (exp-globe7 (sw ‼ 21) PD1)
   let x = oxygenOf h (sw ‼ 15) z (pdmT1 ‼ 0 ⊗ g ⊗ pdT1 ‼ 0) zhm xmm flux
   densuSets h z
-  when (ne (sw ‼ 15) 0·0 && le z 300·0) (mixedSets h z (pdmT1 ‼ 2) (setDm16 (x .dm)))
+  when (oMixed (sw ‼ 15) z) (mixedSets h z (pdmT1 ‼ 2) (setDm16 (x .dm)))
   done x
 
 unfoldable pub o2Plan : List Float → Shape → Float → Float → Float → Float → Float → Plan Mixture
@@ -109,7 +109,7 @@ o2Plan sw h z b28 zhm xmm flux = do
   g ← get (exp-globe7 (sw ‼ 21) PD4)
   let x = o2Of h (sw ‼ 15) z b28 (pdmT3 ‼ 0 ⊗ g ⊗ pdT4 ‼ 0) zhm xmm flux
   densuSets h z
-  when (ne (sw ‼ 15) 0·0 && le z 250·0) (mixedSets h z (pdmT3 ‼ 2) (setDm32 (x .dm)))
+  when (o2Mixed (sw ‼ 15) z) (mixedSets h z (pdmT3 ‼ 2) (setDm32 (x .dm)))
   done x
 
 unfoldable pub argonPlan : List Float → Shape → Float → Float → Float → Float → Plan Mixture
@@ -117,7 +117,7 @@ argonPlan sw h z b28 zhm xmm = do
   g ← get (exp-globe7 (sw ‼ 21) PD5)
   let x = argonOf h (sw ‼ 15) z b28 (pdmT4 ‼ 0 ⊗ g ⊗ pdT5 ‼ 0) zhm xmm
   densuSets h z
-  when (ne (sw ‼ 15) 0·0 && le z 240·0) (mixedSets h z (pdmT4 ‼ 2) (setDm40 (x .dm)))
+  when (arMixed (sw ‼ 15) z) (mixedSets h z (pdmT4 ‼ 2) (setDm40 (x .dm)))
   done x
 
 unfoldable pub hydrogenPlan : List Float → Shape → Float → Float → Float → Float → Plan Mixture
@@ -125,7 +125,7 @@ hydrogenPlan sw h z b28 zhm xmm = do
   g ← get (exp-globe7 (sw ‼ 21) PD6)
   let x = hydrogenOf h (sw ‼ 15) z b28 (pdmT5 ‼ 0 ⊗ g ⊗ pdT6 ‼ 0) zhm xmm
   densuSets h z
-  when (ne (sw ‼ 15) 0·0 && le z 320·0) (mixedSets h z (pdmT5 ‼ 2) (setDm01 (x .dm)))
+  when (hMixed (sw ‼ 15) z) (mixedSets h z (pdmT5 ‼ 2) (setDm01 (x .dm)))
   done x
 
 unfoldable pub nitrogenPlan : List Float → Shape → Float → Float → Float → Float → Plan Mixture
@@ -133,7 +133,7 @@ nitrogenPlan sw h z b28 zhm xmm = do
   g ← get (exp-globe7 (sw ‼ 21) PD7)
   let x = nitrogenOf h (sw ‼ 15) z b28 (pdmT6 ‼ 0 ⊗ g ⊗ pdT7 ‼ 0) zhm xmm
   densuSets h z
-  when (ne (sw ‼ 15) 0·0 && le z 450·0) (mixedSets h z (pdmT6 ‼ 2) (setDm14 (x .dm)))
+  when (nMixed (sw ‼ 15) z) (mixedSets h z (pdmT6 ‼ 2) (setDm14 (x .dm)))
   done x
 
 -- anomalous oxygen: h has tho in the place of tinf and tlb

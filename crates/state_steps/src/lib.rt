@@ -10,10 +10,10 @@ ghost use Rattle.tables.specs.Tables.{pdmT0, pdmT1, pdmT2, pdmT3, pdmT4, pdmT5,
 ghost use Rattle.plan.specs.Fields.{fieldsOf, withFields, when, setGravity, setDd, setDm04, setDm16, setDm28, setDm32, setDm40, setDm01, setDm14, setNodes1, setTn2, setTn3, setTop3};
 ghost use Rattle.stages.specs.Stages.{densuSets, n2Plan, heliumPlan, oxygenPlan, o2Plan, argonPlan, hydrogenPlan, nitrogenPlan, hotPlan};
 use numbers::pick;
+use places::place::Place;
+use places::thinning::Thinning;
 use plan::Levels;
 use profile::gravity::zeta;
-use profile::place::Place;
-use profile::thinning::Thinning;
 use profile::unchecked::Shape;
 use profile::unchecked::bates;
 use profile::unchecked::gradient;

@@ -7,9 +7,9 @@ use Rattle.numbers.specs.Arithmetic.{_⊕_, _⊖_, _⊗_, _‼_}
 use Rattle.numbers.specs.Literals.{0·0, 1·0, 2·0, 300·0}
 use Rattle.elementary.specs.Pow.{powOf}
 use Rattle.profile.specs.declared.unchecked.Shape.{Shape}
-use Rattle.profile.specs.declared.place.Place.{Place}
-use Rattle.profile.specs.declared.thinning.Thinning.{Thinning}
-use Rattle.profile.specs.Thinning.{Logged, thinningOf, logged}
+use Rattle.places.specs.declared.place.Place.{Place}
+use Rattle.places.specs.declared.thinning.Thinning.{Thinning}
+use Rattle.places.specs.Thinning.{Logged, thinningOf, logged}
 use Rattle.species.specs.Species.{nodes}
 use Rattle.species.specs.Places.{placeAt, Turbopause, Mixes}
 use Rattle.species.specs.declared.Blend.{Blend}

@@ -1,8 +1,8 @@
 -- `over` meets its contract.
-use Rattle.profile.specs.Place.{overOf}
+use Rattle.places.specs.Place.{overOf}
 use borrow.Author.Needs.{needs}
-use Rattle.profile.proofs.place.over.Statement.{statement}
-use Rattle.profile.proofs.place.over.Tie as tie
+use Rattle.places.proofs.place.over.Statement.{statement}
+use Rattle.places.proofs.place.over.Tie as tie
 
 pick-requires : tie.Need-pick-requires
 pick-requires c κs = search needs

@@ -1,9 +1,9 @@
 -- `place_alone` meets its contract.
-use Rattle.profile.specs.Place.{placeOf}
-use Rattle.profile.proofs.Placed.{alone-law}
+use Rattle.places.specs.Place.{placeOf}
+use Rattle.places.proofs.Placed.{alone-law}
 use borrow.Author.Needs.{needs}
-use Rattle.profile.proofs.place.place_alone.Statement.{statement}
-use Rattle.profile.proofs.place.place_alone.Tie as tie
+use Rattle.places.proofs.place.place_alone.Statement.{statement}
+use Rattle.places.proofs.place.place_alone.Tie as tie
 
 array-read-za : tie.Need-array-read-za
 array-read-za c = search needs

@@ -1,8 +1,8 @@
 -- `place_of` meets its contract.
-use Rattle.profile.proofs.Placed.{under-law, over-law}
+use Rattle.places.proofs.Placed.{under-law, over-law}
 use borrow.Author.Needs.{needs}
-use Rattle.profile.proofs.place.place_of.Statement.{statement}
-use Rattle.profile.proofs.place.place_of.Tie as tie
+use Rattle.places.proofs.place.place_of.Statement.{statement}
+use Rattle.places.proofs.place.place_of.Tie as tie
 
 array-read-za : tie.Need-array-read-za
 array-read-za c = search needs

@@ -1,8 +1,8 @@
 -- `place_on` meets its contract.
-use Rattle.profile.proofs.Placed.{on-law}
+use Rattle.places.proofs.Placed.{on-law}
 use borrow.Author.Needs.{needs}
-use Rattle.profile.proofs.place.place_on.Statement.{statement}
-use Rattle.profile.proofs.place.place_on.Tie as tie
+use Rattle.places.proofs.place.place_on.Statement.{statement}
+use Rattle.places.proofs.place.place_on.Tie as tie
 
 pow-requires : tie.Need-pow-requires
 pow-requires c κs = search needs

@@ -1,8 +1,8 @@
 -- `read_at` meets its contract.
-use Rattle.profile.specs.Place.{readOf}
+use Rattle.places.specs.Place.{readOf}
 use borrow.Author.Needs.{needs}
-use Rattle.profile.proofs.place.read_at.Statement.{statement}
-use Rattle.profile.proofs.place.read_at.Tie as tie
+use Rattle.places.proofs.place.read_at.Statement.{statement}
+use Rattle.places.proofs.place.read_at.Tie as tie
 
 slice-aggregate-splint : tie.Need-slice-aggregate-splint
 slice-aggregate-splint c = search needs

@@ -1,8 +1,8 @@
 -- `spine_of` meets its contract.
-use Rattle.profile.specs.Place.{spineOf}
+use Rattle.places.specs.Place.{spineOf}
 use borrow.Author.Needs.{needs}
-use Rattle.profile.proofs.place.spine_of.Statement.{statement}
-use Rattle.profile.proofs.place.spine_of.Tie as tie
+use Rattle.places.proofs.place.spine_of.Statement.{statement}
+use Rattle.places.proofs.place.spine_of.Tie as tie
 
 array-read-za : tie.Need-array-read-za
 array-read-za c = search needs

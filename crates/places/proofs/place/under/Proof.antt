@@ -1,8 +1,8 @@
 -- `under` meets its contract.
-use Rattle.profile.specs.Place.{underOf}
+use Rattle.places.specs.Place.{underOf}
 use borrow.Author.Needs.{needs}
-use Rattle.profile.proofs.place.under.Statement.{statement}
-use Rattle.profile.proofs.place.under.Tie as tie
+use Rattle.places.proofs.place.under.Statement.{statement}
+use Rattle.places.proofs.place.under.Tie as tie
 
 pick-requires : tie.Need-pick-requires
 pick-requires c κs = search needs

@@ -1,10 +1,10 @@
 -- `warmth_of` meets its contract.
 use mathlib.Core.Path.{ap}
-use Rattle.profile.specs.declared.place.Place.{Place}
-use Rattle.profile.proofs.Placed.{warmth-law}
+use Rattle.places.specs.declared.place.Place.{Place}
+use Rattle.places.proofs.Placed.{warmth-law}
 use borrow.Author.Needs.{needs}
-use Rattle.profile.proofs.place.warmth_of.Statement.{statement}
-use Rattle.profile.proofs.place.warmth_of.Tie as tie
+use Rattle.places.proofs.place.warmth_of.Statement.{statement}
+use Rattle.places.proofs.place.warmth_of.Tie as tie
 
 array-read-za : tie.Need-array-read-za
 array-read-za c = search needs

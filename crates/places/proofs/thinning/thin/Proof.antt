@@ -1,11 +1,11 @@
 -- `thin` meets its contract.
-use Rattle.profile.proofs.Order.{chosen}
+use Rattle.places.proofs.Order.{chosen}
 use Rattle.elementary.specs.Log.{logOf}
 use Rattle.numbers.specs.Literals.{0·0}
-use Rattle.profile.specs.Thinning.{thinningOf}
+use Rattle.places.specs.Thinning.{thinningOf}
 use borrow.Author.Needs.{needs}
-use Rattle.profile.proofs.thinning.thin.Statement.{statement}
-use Rattle.profile.proofs.thinning.thin.Tie as tie
+use Rattle.places.proofs.thinning.thin.Statement.{statement}
+use Rattle.places.proofs.thinning.thin.Tie as tie
 
 exp-requires : tie.Need-exp-requires
 exp-requires c κs = search needs

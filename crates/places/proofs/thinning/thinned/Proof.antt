@@ -1,8 +1,8 @@
 -- `thinned` meets its contract.
-use Rattle.profile.specs.Thinning.{thinnedOf}
-use Rattle.profile.proofs.Placed.{thinned-law}
-use Rattle.profile.proofs.thinning.thinned.Statement.{statement}
-use Rattle.profile.proofs.thinning.thinned.Tie as tie
+use Rattle.places.specs.Thinning.{thinnedOf}
+use Rattle.places.proofs.Placed.{thinned-law}
+use Rattle.places.proofs.thinning.thinned.Statement.{statement}
+use Rattle.places.proofs.thinning.thinned.Tie as tie
 
 returns : tie.Need-returns
 unfolding thinnedOf
