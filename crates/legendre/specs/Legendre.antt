@@ -4,7 +4,7 @@ use lib.Ieee.{Float}
 use Rattle.numbers.specs.Arithmetic.{_⊕_, _⊖_, _⊗_, _⊘_, _‼_, at}
 use Rattle.numbers.specs.Literals.{0·5, 105·0, 11·0, 13·0, 14·0, 15·0, 1·0, 1·5, 1·875, 21·0, 2·0, 2·5, 30·0, 35·0, 3·0, 4·0, 5·0, 63·0, 6·0, 70·0, 7·0, 7·5, 8·0, 9·0}
 
--- plg[0] after globe7: five entries new, the others as they were
+-- plg[0] after globe7: six entries new, the others as they were
 unfoldable pub legendre0Of : Float → Float → List Float → List Float
 legendre0Of c s old =
     let c2 = c ⊗ c in

@@ -14,13 +14,13 @@ use elementary::root::sqrt;
 use mixing::ccor;
 use mixing::ccor2;
 use mixing::dnet;
-use mixing::limits::ar_mixed;
-use mixing::limits::h_mixed;
-use mixing::limits::he_mixed;
-use mixing::limits::n_mixed;
-use mixing::limits::n2_mixed;
-use mixing::limits::o_mixed;
-use mixing::limits::o2_mixed;
+use mixing::limits::ar_mixes;
+use mixing::limits::h_mixes;
+use mixing::limits::he_mixes;
+use mixing::limits::n_mixes;
+use mixing::limits::n2_mixes;
+use mixing::limits::o_mixes;
+use mixing::limits::o2_mixes;
 use places::place::Place;
 use places::place::Spine;
 use places::place::place_alone;
@@ -186,7 +186,7 @@ pub fn n2(h: Shape, sw15: f64, z: f64, p: Place, w: Place, t: Thinning, db: f64,
     let l = pdl1();
     let d0 = density(h, z, p, db, 28.0, 0.0);
     let b = density(h, m[2] * zhf, w, db, 28.0 - m[4], 0.0 - 1.0);
-    if !n2_mixed(sw15, z) {
+    if !n2_mixes(sw15, z) {
         return Blend {
             dens: d0,
             b: b,
@@ -218,7 +218,7 @@ pub fn helium(
     requires { ⌜ (p ≡ placeAt h z) × Turbopause h (ne sw15 0·0 && lt z 200·0) (pdmT0 ‼ 2) w × Mixes (mixesAt sw15 z) p xmm t ⌝ }
     ensures { λ r. ⌜ r ≡ heliumOf h sw15 z b28 db zhm xmm ⌝ }
 {
-    if !he_mixed(sw15, z) {
+    if !he_mixes(sw15, z) {
         let d = density(h, z, p, db, 4.0, -0.38);
         return Mixture { dens: d, dm: 0.0 };
     }
@@ -249,7 +249,7 @@ pub fn oxygen(
     requires { ⌜ (p ≡ placeAt h z) × Turbopause h (mixesAt sw15 z) (pdmT1 ‼ 2) w × Mixes (mixesAt sw15 z) p xmm t ⌝ }
     ensures { λ r. ⌜ r ≡ oxygenOf h sw15 z db zhm xmm flux ⌝ }
 {
-    if !o_mixed(sw15, z) {
+    if !o_mixes(sw15, z) {
         let d = density(h, z, p, db, 16.0, 0.0);
         return Mixture { dens: d, dm: 0.0 };
     }
@@ -286,7 +286,7 @@ pub fn o2_mixed(
     requires { ⌜ (p ≡ placeAt h z) × Turbopause h (mixesAt sw15 z) (pdmT3 ‼ 2) w × Mixes (mixesAt sw15 z) p xmm t ⌝ }
     ensures { λ r. ⌜ r ≡ o2MixedOf h sw15 z b28 db zhm xmm ⌝ }
 {
-    if !o2_mixed(sw15, z) {
+    if !o2_mixes(sw15, z) {
         let d = density(h, z, p, db, 32.0, 0.0);
         return Mixture { dens: d, dm: 0.0 };
     }
@@ -317,7 +317,7 @@ pub fn argon(
     requires { ⌜ (p ≡ placeAt h z) × Turbopause h (mixesAt sw15 z) (pdmT4 ‼ 2) w × Mixes (mixesAt sw15 z) p xmm t ⌝ }
     ensures { λ r. ⌜ r ≡ argonOf h sw15 z b28 db zhm xmm ⌝ }
 {
-    if !ar_mixed(sw15, z) {
+    if !ar_mixes(sw15, z) {
         let d = density(h, z, p, db, 40.0, 0.17);
         return Mixture { dens: d, dm: 0.0 };
     }
@@ -348,7 +348,7 @@ pub fn hydrogen(
     requires { ⌜ (p ≡ placeAt h z) × Turbopause h (ne sw15 0·0 && le z 320·0) (pdmT5 ‼ 2) w × Mixes (mixesAt sw15 z) p xmm t ⌝ }
     ensures { λ r. ⌜ r ≡ hydrogenOf h sw15 z b28 db zhm xmm ⌝ }
 {
-    if !h_mixed(sw15, z) {
+    if !h_mixes(sw15, z) {
         let d = density(h, z, p, db, 1.0, -0.38);
         return Mixture { dens: d, dm: 0.0 };
     }
@@ -381,7 +381,7 @@ pub fn nitrogen(
     requires { ⌜ (p ≡ placeAt h z) × Turbopause h (mixesAt sw15 z) (pdmT6 ‼ 2) w × Mixes (mixesAt sw15 z) p xmm t ⌝ }
     ensures { λ r. ⌜ r ≡ nitrogenOf h sw15 z b28 db zhm xmm ⌝ }
 {
-    if !n_mixed(sw15, z) {
+    if !n_mixes(sw15, z) {
         let d = density(h, z, p, db, 14.0, 0.0);
         return Mixture { dens: d, dm: 0.0 };
     }

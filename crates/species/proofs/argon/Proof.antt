@@ -17,7 +17,7 @@ density-requires c κs = search needs
 
 returns : tie.Need-returns
 unfolding argonOf
-returns c = simp (← c .density .ensures) (simp (ap not (sym (c .before .before .ar-mixed .ensures)) ∙ c .before .if1 .taken))
+returns c = simp (← c .density .ensures) (simp (ap not (sym (c .before .before .ar-mixes .ensures)) ∙ c .before .if1 .taken))
 
 pdm4-requires : tie.Need-pdm4-requires
 pdm4-requires c κs = search needs
@@ -31,7 +31,7 @@ array-read-mixed c = search needs
 mixed-requires : tie.Need-mixed-requires
 mixed-requires c κs = let A = (c .before .before .before .before .args) in
     ready (A .h) (A .z) (A .p) (A .w) (A .t) (A .xmm) (ne (A .sw15) 0·0 && le (A .z) 240·0) (mixesAt (A .sw15) (A .z)) (mixesAt (A .sw15) (A .z)) _ pdmT4
-    (c .before .before .before .before .pre) (ap not (sym (c .before .before .before .ar-mixed .ensures)) ∙ c .before .before .if1 .left) (mixes-240 (A .sw15) (A .z)) (mixes-240 (A .sw15) (A .z)) (c .before .pdm4 .ensures)
+    (c .before .before .before .before .pre) (ap not (sym (c .before .before .before .ar-mixes .ensures)) ∙ c .before .before .if1 .left) (mixes-240 (A .sw15) (A .z)) (mixes-240 (A .sw15) (A .z)) (c .before .pdm4 .ensures)
 
 array-read-log : tie.Need-array-read-log
 array-read-log c = search needs
@@ -56,7 +56,7 @@ ccor-requires c κs = search needs
 
 returns-2 : tie.Need-returns-2
 unfolding argonOf
-returns-2 c = simp (← c .before .ccor .ensures, ← c .before .before .log .ensures, ← c .before .before .before .before .mixed .ensures, ← c .before .before .before .before .before .pdl1 .ensures, ← c .before .before .before .before .before .before .pdm4 .ensures) (simp (ap not (sym (c .before .before .before .before .before .before .before .before .ar-mixed .ensures)) ∙ c .before .before .before .before .before .before .before .if1 .left))
+returns-2 c = simp (← c .before .ccor .ensures, ← c .before .before .log .ensures, ← c .before .before .before .before .mixed .ensures, ← c .before .before .before .before .before .pdl1 .ensures, ← c .before .before .before .before .before .before .pdm4 .ensures) (simp (ap not (sym (c .before .before .before .before .before .before .before .before .ar-mixes .ensures)) ∙ c .before .before .before .before .before .before .before .if1 .left))
 
 pub argon-spec : {M : Type 1} → statement M
 argon-spec =

@@ -17,7 +17,7 @@ density-requires c κs = search needs
 
 returns : tie.Need-returns
 unfolding heliumOf
-returns c = simp (← c .density .ensures) (simp (ap not (sym (c .before .before .he-mixed .ensures)) ∙ c .before .if1 .taken))
+returns c = simp (← c .density .ensures) (simp (ap not (sym (c .before .before .he-mixes .ensures)) ∙ c .before .if1 .taken))
 
 pdm0-requires : tie.Need-pdm0-requires
 pdm0-requires c κs = search needs
@@ -31,7 +31,7 @@ array-read-mixed c = search needs
 mixed-requires : tie.Need-mixed-requires
 mixed-requires c κs = let A = (c .before .before .before .before .args) in
     ready (A .h) (A .z) (A .p) (A .w) (A .t) (A .xmm) (ne (A .sw15) 0·0 && lt (A .z) 200·0) (ne (A .sw15) 0·0 && lt (A .z) 200·0) (mixesAt (A .sw15) (A .z)) _ pdmT0
-    (c .before .before .before .before .pre) (ap not (sym (c .before .before .before .he-mixed .ensures)) ∙ c .before .before .if1 .left) (λ e. e) (mixes-200 (A .sw15) (A .z)) (c .before .pdm0 .ensures)
+    (c .before .before .before .before .pre) (ap not (sym (c .before .before .before .he-mixes .ensures)) ∙ c .before .before .if1 .left) (λ e. e) (mixes-200 (A .sw15) (A .z)) (c .before .pdm0 .ensures)
 
 array-read-log : tie.Need-array-read-log
 array-read-log c = search needs
@@ -56,7 +56,7 @@ ccor-requires c κs = search needs
 
 returns-2 : tie.Need-returns-2
 unfolding heliumOf
-returns-2 c = simp (← c .before .ccor .ensures, ← c .before .before .log .ensures, ← c .before .before .before .before .mixed .ensures, ← c .before .before .before .before .before .pdl1 .ensures, ← c .before .before .before .before .before .before .pdm0 .ensures) (simp (ap not (sym (c .before .before .before .before .before .before .before .before .he-mixed .ensures)) ∙ c .before .before .before .before .before .before .before .if1 .left))
+returns-2 c = simp (← c .before .ccor .ensures, ← c .before .before .log .ensures, ← c .before .before .before .before .mixed .ensures, ← c .before .before .before .before .before .pdl1 .ensures, ← c .before .before .before .before .before .before .pdm0 .ensures) (simp (ap not (sym (c .before .before .before .before .before .before .before .before .he-mixes .ensures)) ∙ c .before .before .before .before .before .before .before .if1 .left))
 
 pub helium-spec : {M : Type 1} → statement M
 helium-spec =

@@ -17,7 +17,7 @@ density-requires c κs = search needs
 
 returns : tie.Need-returns
 unfolding hydrogenOf
-returns c = simp (← c .density .ensures) (simp (ap not (sym (c .before .before .h-mixed .ensures)) ∙ c .before .if1 .taken))
+returns c = simp (← c .density .ensures) (simp (ap not (sym (c .before .before .h-mixes .ensures)) ∙ c .before .if1 .taken))
 
 pdm5-requires : tie.Need-pdm5-requires
 pdm5-requires c κs = search needs
@@ -31,7 +31,7 @@ array-read-mixed c = search needs
 mixed-requires : tie.Need-mixed-requires
 mixed-requires c κs = let A = (c .before .before .before .before .args) in
     ready (A .h) (A .z) (A .p) (A .w) (A .t) (A .xmm) (ne (A .sw15) 0·0 && le (A .z) 320·0) (ne (A .sw15) 0·0 && le (A .z) 320·0) (mixesAt (A .sw15) (A .z)) _ pdmT5
-    (c .before .before .before .before .pre) (ap not (sym (c .before .before .before .h-mixed .ensures)) ∙ c .before .before .if1 .left) (λ e. e) (mixes-320 (A .sw15) (A .z)) (c .before .pdm5 .ensures)
+    (c .before .before .before .before .pre) (ap not (sym (c .before .before .before .h-mixes .ensures)) ∙ c .before .before .if1 .left) (λ e. e) (mixes-320 (A .sw15) (A .z)) (c .before .pdm5 .ensures)
 
 array-read-sqrt : tie.Need-array-read-sqrt
 array-read-sqrt c = search needs
@@ -86,7 +86,7 @@ ccor-requires-2 c κs = search needs
 
 returns-2 : tie.Need-returns-2
 unfolding hydrogenOf
-returns-2 c = simp (← c .before .ccor2 .ensures, ← c .before .before .ccor .ensures, ← c .before .before .before .log .ensures, ← c .before .before .before .before .before .sqrt .ensures, ← c .before .before .before .before .before .before .mixed .ensures, ← c .before .before .before .before .before .before .before .pdl1 .ensures, ← c .before .before .before .before .before .before .before .before .pdm5 .ensures) (simp (ap not (sym (c .before .before .before .before .before .before .before .before .before .before .h-mixed .ensures)) ∙ c .before .before .before .before .before .before .before .before .before .if1 .left))
+returns-2 c = simp (← c .before .ccor2 .ensures, ← c .before .before .ccor .ensures, ← c .before .before .before .log .ensures, ← c .before .before .before .before .before .sqrt .ensures, ← c .before .before .before .before .before .before .mixed .ensures, ← c .before .before .before .before .before .before .before .pdl1 .ensures, ← c .before .before .before .before .before .before .before .before .pdm5 .ensures) (simp (ap not (sym (c .before .before .before .before .before .before .before .before .before .before .h-mixes .ensures)) ∙ c .before .before .before .before .before .before .before .before .before .if1 .left))
 
 pub hydrogen-spec : {M : Type 1} → statement M
 hydrogen-spec =

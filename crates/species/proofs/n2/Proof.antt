@@ -34,14 +34,14 @@ density-requires-2 c κs = let A = (c .before .before .before .args) in
 
 returns : tie.Need-returns
 unfolding n2Of
-returns c = simp (← c .before .before .density2 .ensures, ← c .before .before .before .density .ensures, ← c .before .before .before .before .pdl1 .ensures, ← c .before .before .before .before .before .pdm2 .ensures) (simp (ap not (sym (c .before .n2-mixed .ensures)) ∙ c .if1 .taken))
+returns c = simp (← c .before .before .density2 .ensures, ← c .before .before .before .density .ensures, ← c .before .before .before .before .pdl1 .ensures, ← c .before .before .before .before .before .pdm2 .ensures) (simp (ap not (sym (c .before .n2-mixes .ensures)) ∙ c .if1 .taken))
 
 array-read-density-mixed : tie.Need-array-read-density-mixed
 array-read-density-mixed c = search needs
 
 density-mixed-requires : tie.Need-density-mixed-requires
 density-mixed-requires c κs = let A = (c .before .before .before .before .before .before .args) in
-    (c .before .before .before .before .before .before .pre .0, c .before .before .before .before .before .before .pre .2 (mixes-160 (A .sw15) (A .z) (holds (ne (A .sw15) 0·0 && le (A .z) 160·0) (ap not (sym (c .before .n2-mixed .ensures)) ∙ c .if1 .left))) ∙ ap (λ (x : List Float). thinningOf (A .p) (x ‼ 4) 0·0) (sym (c .before .before .before .before .before .pdm2 .ensures)))
+    (c .before .before .before .before .before .before .pre .0, c .before .before .before .before .before .before .pre .2 (mixes-160 (A .sw15) (A .z) (holds (ne (A .sw15) 0·0 && le (A .z) 160·0) (ap not (sym (c .before .n2-mixes .ensures)) ∙ c .if1 .left))) ∙ ap (λ (x : List Float). thinningOf (A .p) (x ‼ 4) 0·0) (sym (c .before .before .before .before .before .pdm2 .ensures)))
 
 array-read-dnet : tie.Need-array-read-dnet
 array-read-dnet c = search needs
@@ -57,7 +57,7 @@ dnet-requires c κs = search needs
 
 returns-2 : tie.Need-returns-2
 unfolding n2Of
-returns-2 c = simp (← c .dnet .ensures, ← c .before .density-mixed .ensures, ← c .before .before .before .before .density2 .ensures, ← c .before .before .before .before .before .density .ensures, ← c .before .before .before .before .before .before .pdl1 .ensures, ← c .before .before .before .before .before .before .before .pdm2 .ensures) (simp (ap not (sym (c .before .before .before .n2-mixed .ensures)) ∙ c .before .before .if1 .left))
+returns-2 c = simp (← c .dnet .ensures, ← c .before .density-mixed .ensures, ← c .before .before .before .before .density2 .ensures, ← c .before .before .before .before .before .density .ensures, ← c .before .before .before .before .before .before .pdl1 .ensures, ← c .before .before .before .before .before .before .before .pdm2 .ensures) (simp (ap not (sym (c .before .before .before .n2-mixes .ensures)) ∙ c .before .before .if1 .left))
 
 pub n2-spec : {M : Type 1} → statement M
 n2-spec =

@@ -16,7 +16,7 @@ density-requires c κs = search needs
 
 returns : tie.Need-returns
 unfolding nitrogenOf
-returns c = simp (← c .density .ensures) (simp (ap not (sym (c .before .before .n-mixed .ensures)) ∙ c .before .if1 .taken))
+returns c = simp (← c .density .ensures) (simp (ap not (sym (c .before .before .n-mixes .ensures)) ∙ c .before .if1 .taken))
 
 pdm6-requires : tie.Need-pdm6-requires
 pdm6-requires c κs = search needs
@@ -30,7 +30,7 @@ array-read-mixed c = search needs
 mixed-requires : tie.Need-mixed-requires
 mixed-requires c κs = let A = (c .before .before .before .before .args) in
     ready (A .h) (A .z) (A .p) (A .w) (A .t) (A .xmm) (ne (A .sw15) 0·0 && le (A .z) 450·0) (mixesAt (A .sw15) (A .z)) (mixesAt (A .sw15) (A .z)) _ pdmT6
-    (c .before .before .before .before .pre) (ap not (sym (c .before .before .before .n-mixed .ensures)) ∙ c .before .before .if1 .left) (λ e. e) (λ e. e) (c .before .pdm6 .ensures)
+    (c .before .before .before .before .pre) (ap not (sym (c .before .before .before .n-mixes .ensures)) ∙ c .before .before .if1 .left) (λ e. e) (λ e. e) (c .before .pdm6 .ensures)
 
 array-read-sqrt : tie.Need-array-read-sqrt
 array-read-sqrt c = search needs
@@ -85,7 +85,7 @@ ccor-requires-2 c κs = search needs
 
 returns-2 : tie.Need-returns-2
 unfolding nitrogenOf
-returns-2 c = simp (← c .before .ccor2 .ensures, ← c .before .before .ccor .ensures, ← c .before .before .before .log .ensures, ← c .before .before .before .before .before .sqrt .ensures, ← c .before .before .before .before .before .before .mixed .ensures, ← c .before .before .before .before .before .before .before .pdl0 .ensures, ← c .before .before .before .before .before .before .before .before .pdm6 .ensures) (simp (ap not (sym (c .before .before .before .before .before .before .before .before .before .before .n-mixed .ensures)) ∙ c .before .before .before .before .before .before .before .before .before .if1 .left))
+returns-2 c = simp (← c .before .ccor2 .ensures, ← c .before .before .ccor .ensures, ← c .before .before .before .log .ensures, ← c .before .before .before .before .before .sqrt .ensures, ← c .before .before .before .before .before .before .mixed .ensures, ← c .before .before .before .before .before .before .before .pdl0 .ensures, ← c .before .before .before .before .before .before .before .before .pdm6 .ensures) (simp (ap not (sym (c .before .before .before .before .before .before .before .before .before .before .n-mixes .ensures)) ∙ c .before .before .before .before .before .before .before .before .before .if1 .left))
 
 pub nitrogen-spec : {M : Type 1} → statement M
 nitrogen-spec =

@@ -17,7 +17,7 @@ density-requires c κs = search needs
 
 returns : tie.Need-returns
 unfolding o2MixedOf
-returns c = simp (← c .density .ensures) (simp (ap not (sym (c .before .before .o2-mixed .ensures)) ∙ c .before .if1 .taken))
+returns c = simp (← c .density .ensures) (simp (ap not (sym (c .before .before .o2-mixes .ensures)) ∙ c .before .if1 .taken))
 
 pdm3-requires : tie.Need-pdm3-requires
 pdm3-requires c κs = search needs
@@ -31,7 +31,7 @@ array-read-mixed c = search needs
 mixed-requires : tie.Need-mixed-requires
 mixed-requires c κs = let A = (c .before .before .before .before .args) in
     ready (A .h) (A .z) (A .p) (A .w) (A .t) (A .xmm) (ne (A .sw15) 0·0 && le (A .z) 250·0) (mixesAt (A .sw15) (A .z)) (mixesAt (A .sw15) (A .z)) _ pdmT3
-    (c .before .before .before .before .pre) (ap not (sym (c .before .before .before .o2-mixed .ensures)) ∙ c .before .before .if1 .left) (mixes-250 (A .sw15) (A .z)) (mixes-250 (A .sw15) (A .z)) (c .before .pdm3 .ensures)
+    (c .before .before .before .before .pre) (ap not (sym (c .before .before .before .o2-mixes .ensures)) ∙ c .before .before .if1 .left) (mixes-250 (A .sw15) (A .z)) (mixes-250 (A .sw15) (A .z)) (c .before .pdm3 .ensures)
 
 array-read-log : tie.Need-array-read-log
 array-read-log c = search needs
@@ -56,7 +56,7 @@ ccor-requires c κs = search needs
 
 returns-2 : tie.Need-returns-2
 unfolding o2MixedOf
-returns-2 c = simp (← c .before .ccor .ensures, ← c .before .before .log .ensures, ← c .before .before .before .before .mixed .ensures, ← c .before .before .before .before .before .pdl1 .ensures, ← c .before .before .before .before .before .before .pdm3 .ensures) (simp (ap not (sym (c .before .before .before .before .before .before .before .before .o2-mixed .ensures)) ∙ c .before .before .before .before .before .before .before .if1 .left))
+returns-2 c = simp (← c .before .ccor .ensures, ← c .before .before .log .ensures, ← c .before .before .before .before .mixed .ensures, ← c .before .before .before .before .before .pdl1 .ensures, ← c .before .before .before .before .before .before .pdm3 .ensures) (simp (ap not (sym (c .before .before .before .before .before .before .before .before .o2-mixes .ensures)) ∙ c .before .before .before .before .before .before .before .if1 .left))
 
 pub o2-mixed-spec : {M : Type 1} → statement M
 o2-mixed-spec =

@@ -17,7 +17,7 @@ density-requires c κs = search needs
 
 returns : tie.Need-returns
 unfolding oxygenOf
-returns c = simp (← c .density .ensures) (simp (ap not (sym (c .before .before .o-mixed .ensures)) ∙ c .before .if1 .taken))
+returns c = simp (← c .density .ensures) (simp (ap not (sym (c .before .before .o-mixes .ensures)) ∙ c .before .if1 .taken))
 
 pdm1-requires : tie.Need-pdm1-requires
 pdm1-requires c κs = search needs
@@ -31,7 +31,7 @@ array-read-mixed c = search needs
 mixed-requires : tie.Need-mixed-requires
 mixed-requires c κs = let A = (c .before .before .before .before .args) in
     ready (A .h) (A .z) (A .p) (A .w) (A .t) (A .xmm) (ne (A .sw15) 0·0 && le (A .z) 300·0) (mixesAt (A .sw15) (A .z)) (mixesAt (A .sw15) (A .z)) _ pdmT1
-    (c .before .before .before .before .pre) (ap not (sym (c .before .before .before .o-mixed .ensures)) ∙ c .before .before .if1 .left) (mixes-300 (A .sw15) (A .z)) (mixes-300 (A .sw15) (A .z)) (c .before .pdm1 .ensures)
+    (c .before .before .before .before .pre) (ap not (sym (c .before .before .before .o-mixes .ensures)) ∙ c .before .before .if1 .left) (mixes-300 (A .sw15) (A .z)) (mixes-300 (A .sw15) (A .z)) (c .before .pdm1 .ensures)
 
 array-read-ccor2 : tie.Need-array-read-ccor2
 array-read-ccor2 c = search needs
@@ -83,7 +83,7 @@ ccor-requires c κs = search needs
 
 returns-2 : tie.Need-returns-2
 unfolding oxygenOf
-returns-2 c = simp (← c .before .ccor .ensures, ← c .before .before .ccor2 .ensures, ← c .before .before .before .mixed .ensures, ← c .before .before .before .before .pdl1 .ensures, ← c .before .before .before .before .before .pdm1 .ensures) (simp (ap not (sym (c .before .before .before .before .before .before .before .o-mixed .ensures)) ∙ c .before .before .before .before .before .before .if1 .left))
+returns-2 c = simp (← c .before .ccor .ensures, ← c .before .before .ccor2 .ensures, ← c .before .before .before .mixed .ensures, ← c .before .before .before .before .pdl1 .ensures, ← c .before .before .before .before .before .pdm1 .ensures) (simp (ap not (sym (c .before .before .before .before .before .before .before .o-mixes .ensures)) ∙ c .before .before .before .before .before .before .if1 .left))
 
 pub oxygen-spec : {M : Type 1} → statement M
 oxygen-spec =
