@@ -4,12 +4,14 @@ use fixed_point::high;
 use fixed_point::offset;
 use fixed_point::scaled;
 ghost use mathlib.Core.Path.{_≡_};
+ghost use mathlib.Core.Bool.{false};
 ghost use Prim.Native.Nat.{ℕ, _+_, _*_, _/_, _^_, _<_, _≤_};
 ghost use lib.Dec.{T};
 ghost use lib.ListN.{getD};
-ghost use lib.Ieee.{Float, fin, binary64, isNan};
+ghost use lib.Ieee.{Float, fin, binary64, isNan, lt};
 ghost use lib.Ieee.Scale.{finite};
-ghost use Rattle.natural_exponential.specs.Exp.{coarse, fine, expm1Of, compoundedOf, kernelOf, assembledOf, reducedOf, expOf};
+ghost use Rattle.natural_exponential.specs.Exp.{coarse, fine, expm1Of, compoundedOf, kernelOf, assembledOf, timesOf, restOf, most, least, expOf};
+ghost use Rattle.fixed_point.specs.Fixed.{offsetOf};
 
 // The tables are functions that match on the index: an array constant that is indexed by a variable is built on the
 // stack at each use, and a match becomes a table in read-only memory.
@@ -173,18 +175,48 @@ pub fn assembled(v: u64, k: u64) -> f64
     f * f64::from_bits(k * 4503599627370496)
 }
 
-// e^m for a plus sign and e^-m for a minus sign, for m in units of 2^-53.
-pub fn reduced(s: u64, m: u64) -> f64
+// What is left of an argument for the kernel: t, and the exponent k.
+pub struct Rest {
+    pub t: u64,
+    pub k: u64,
+}
+
+// For |x| = m in units of 2^-53: n times log 2 is taken off m, or m off n times log 2, and 2^n or 2^-n is left to the exponent.
+pub fn reduced(s: u64, m: u64) -> Rest
     requires { ⌜ (s ≤ 1) × (m ≤ 709 * 2 ^ 53) × ((s ≡ 0 → ⊥) → m ≤ 708 * 2 ^ 53) ⌝ }
-    ensures { λ r. ⌜ r ≡ reducedOf s m ⌝ }
+    ensures { λ r. ⌜ (r .t ≡ restOf s m (timesOf m + s)) × (r .k ≡ offsetOf s 1023 (timesOf m + s)) × (r .t ≤ 2 ^ 59) × (1 ≤ r .k) × (r .k ≤ 2046) ⌝ }
 {
     let n = m / 4294967296 * 3098164009 / 4503599627370496 + s;
     let u = n * 6243314768165359;
     let d = 9007199254740992 + choose(s, m, u) - choose(s, u, m);
     let t = offset(1 - s, d * 32, n * 6);
-    assembled(kernel(t), offset(s, 1023, n))
+    let k = offset(s, 1023, n);
+    Rest { t: t, k: k }
 }
 
+// For |x| = m in units of 2^-58, at most 1: nothing is taken off.
+pub fn near(s: u64, m: u64) -> Rest
+    requires { ⌜ m ≤ 2 ^ 58 ⌝ }
+    ensures { λ r. ⌜ (r .t ≡ offsetOf s (2 ^ 58) m) × (r .k ≡ 1023) × (r .t ≤ 2 ^ 59) × (1 ≤ r .k) × (r .k ≤ 2046) ⌝ }
+{
+    let t = offset(s, 288230376151711744, m);
+    Rest { t: t, k: 1023 }
+}
+
+// What is left of x, from -708 to 709.
+pub fn rest_of(x: f64) -> Rest
+    requires { ⌜ (isNan x ≡ false) × (lt most x ≡ false) × (lt x least ≡ false) ⌝ }
+    ensures { λ r. ⌜ (assembledOf (kernelOf (r .t)) (r .k) ≡ expOf x) × (r .t ≤ 2 ^ 59) × (1 ≤ r .k) × (r .k ≤ 2046) ⌝ }
+{
+    let b = f64::to_bits(x);
+    let s = b / 9223372036854775808;
+    if 4607182418800017408 < b % 9223372036854775808 {
+        return reduced(s, scaled(x, 53));
+    }
+    near(s, scaled(x, 58))
+}
+
+// One call of the kernel for every x, so that it stands in line.
 pub fn exp(x: f64) -> f64
     ensures { λ r. ⌜ r ≡ expOf x ⌝ }
 {
@@ -197,10 +229,6 @@ pub fn exp(x: f64) -> f64
     if x < -708.0 {
         return 0.0;
     }
-    let b = f64::to_bits(x);
-    let s = b / 9223372036854775808;
-    if 4607182418800017408 < b % 9223372036854775808 {
-        return reduced(s, scaled(x, 53));
-    }
-    assembled(kernel(offset(s, 288230376151711744, scaled(x, 58))), 1023)
+    let r = rest_of(x);
+    assembled(kernel(r.t), r.k)
 }

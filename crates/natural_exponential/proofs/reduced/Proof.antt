@@ -74,12 +74,9 @@ offset-requires c κs =
 rest-is : (c : tie.After-offset) → c .offset .result ≡ restOf (c .before .before .before .args .s) (c .before .before .before .args .m) (timesOf (c .before .before .before .args .m) + c .before .before .before .args .s)
 rest-is c = let g = gap-is (c .before) in cc g
 
-kernel-requires : tie.Need-kernel-requires
-kernel-requires c κs = subst (λ (t : ℕ). t ≤ 2 ^ 59) (sym (rest-is c)) (laws (c .before .before .before) .inside)
-
 offset-requires-2 : tie.Need-offset-requires-2
 offset-requires-2 c κs =
-    let f = laws (c .before .before .before .before) .few in
+    let f = laws (c .before .before .before) .few in
     (omega (arith, f), λ z. omega (arith, f))
 
 exponent : (s n : ℕ) → n ≤ 1022 → (1 ≤ offsetOf s 1023 n) × (offsetOf s 1023 n ≤ 2046)
@@ -90,15 +87,17 @@ exponent s n h =
     let d : 1023 - n ≤ 2046 = omega arith in
     (either-ge (eqb s 0) a b, either-le (eqb s 0) c d)
 
-assembled-requires : tie.Need-assembled-requires
-assembled-requires c κs =
-    let k = c .before in
-    let s = k .before .before .before .before in
-    let e = exponent (s .args .s) (timesOf (s .args .m) + s .args .s) (laws s .few) in
-    (k .kernel .ensures .1, k .kernel .ensures .2, subst (λ (n : ℕ). 1 ≤ n) (sym (c .offset2 .ensures)) (e .0), subst (λ (n : ℕ). n ≤ 2046) (sym (c .offset2 .ensures)) (e .1))
-
 returns : tie.Need-returns
-returns c = let g = rest-is (c .before .before .before) in cc g
+returns c =
+    let s = c .before .before .before .before in
+    let n = timesOf (s .args .m) + s .args .s in
+    let e = exponent (s .args .s) n (laws s .few) in (
+      rest-is (c .before),
+      c .offset2 .ensures,
+      subst (λ (t : ℕ). t ≤ 2 ^ 59) (sym (rest-is (c .before))) (laws s .inside),
+      subst (λ (k : ℕ). 1 ≤ k) (sym (c .offset2 .ensures)) (e .0),
+      subst (λ (k : ℕ). k ≤ 2046) (sym (c .offset2 .ensures)) (e .1),
+    )
 
 pub reduced-spec : {M : Type 1} → statement M
 reduced-spec =
@@ -115,7 +114,5 @@ reduced-spec =
     mul-offset
     mul-offset-2
     offset-requires
-    kernel-requires
     offset-requires-2
-    assembled-requires
     returns)
