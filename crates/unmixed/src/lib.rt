@@ -1,0 +1,146 @@
+// gts7's row where nothing is mixed, above 450 km or where switch 15 is off: no turbopause is read there.
+ghost use mathlib.Core.Path.{_≡_};
+ghost use mathlib.Core.Bool.{false};
+ghost use lib.Ieee.{Float};
+ghost use Rattle.numbers.specs.Arithmetic.{_⊗_, _‼_};
+ghost use Rattle.numbers.specs.Literals.{0·0, 28·0};
+ghost use Rattle.elementary.specs.Exp.{expOf};
+ghost use Rattle.tables.specs.Tables.{pdT2, pdmT2};
+ghost use Rattle.plan.specs.Plan.{told, given};
+ghost use Rattle.species.specs.Species.{densityOf, temperatureOf};
+ghost use Rattle.species.specs.Places.{placeAt, mixesAt};
+ghost use Rattle.stages.specs.Stages.{speciesPlan, gts7Plan};
+ghost use Rattle.lower.specs.Lower.{aboveOf};
+ghost use Rattle.unmixed.specs.Unmixed.{rowOf};
+use elementary::exponential::exp;
+use elementary::root::sqrt;
+use places::place::Place;
+use places::thinning::Thinning;
+use plan::Levels;
+use profile::unchecked::Shape;
+use species::density;
+use species::place_alone_at;
+use stages::argon_stage;
+use stages::helium_stage;
+use stages::hot_stage;
+use stages::hydrogen_stage;
+use stages::nitrogen_stage;
+use stages::o2_stage;
+use stages::oxygen_stage;
+use tables::pd2;
+use tables::pdl1;
+use tables::pdm2;
+use thermosphere::shape_stage;
+use upper::Site;
+use upper::Six;
+use upper::anomalous;
+use upper::mass;
+use upper::units;
+
+// N2's density, not mixed.
+pub fn n2_alone(sw: [f64; 24], h: Shape, z: f64, p: Place, l: Levels) -> f64
+    requires { ⌜ p ≡ placeAt h z ⌝ }
+    ensures { λ r. ⌜ r ≡ densityOf h z (pdmT2 ‼ 0 ⊗ expOf (sw ‼ 21 ⊗ l .pd2) ⊗ pdT2 ‼ 0) 28·0 0·0 ⌝ }
+{
+    let c = pd2();
+    let m = pdm2();
+    let g = exp(sw[21] * l.pd2);
+    density(h, z, p, m[0] * g * c[0], 28.0, 0.0)
+}
+
+// The six other species, none of them mixed: whatever N2's density at its turbopause is, they do not read it.
+pub fn six_alone(sw: [f64; 24], h: Shape, z: f64, p: Place, flux: f64, l: Levels) -> Six
+    requires { ⌜ (p ≡ placeAt h z) × (mixesAt (sw ‼ 15) z ≡ false) ⌝ }
+    ensures { λ r. ⌜ ((b : Float) → r ≡ told (given l) (speciesPlan sw h z b flux)) ⌝ }
+{
+    let m = pdm2();
+    let d = pdl1();
+    let zhm = m[3] * d[5];
+    let xmm = m[4];
+    let t = Thinning {
+        none: true,
+        under: false,
+        tz: 0.0,
+        p: 0.0,
+        e: 0.0,
+        q: 0.0,
+        k: 0.0,
+    };
+    let he = helium_stage(sw, h, z, p, p, t, 0.0, zhm, xmm, l);
+    let o = oxygen_stage(sw, h, z, p, p, t, zhm, xmm, flux, l);
+    let o2 = o2_stage(sw, h, z, p, p, t, 0.0, zhm, xmm, flux, l);
+    let ar = argon_stage(sw, h, z, p, p, t, 0.0, zhm, xmm, l);
+    let hy = hydrogen_stage(sw, h, z, p, p, t, 0.0, zhm, xmm, l);
+    let n = nitrogen_stage(sw, h, z, p, p, t, 0.0, zhm, xmm, l);
+    Six {
+        he: he,
+        o: o,
+        o2: o2,
+        ar: ar,
+        h: hy,
+        n: n,
+    }
+}
+
+// The temperature at z, no other altitude of the shape being read.
+pub fn temperature_alone(h: Shape, z: f64) -> f64
+    ensures { λ r. ⌜ r ≡ temperatureOf h z ⌝ }
+{
+    let p = place_alone_at(h, z);
+    p.tz
+}
+
+// The densities in the units asked for, and the temperatures.
+pub fn row_from(sw0: f64, tinf: f64, n2: f64, y: Six, oh: f64, t1: f64) -> [f64; 11]
+    ensures { λ r. ⌜ r ≡ rowOf sw0 tinf n2 y oh t1 ⌝ }
+{
+    let all = mass(
+        y.he.dens,
+        y.o.dens,
+        n2,
+        y.o2.dens,
+        y.ar.dens,
+        y.h.dens,
+        y.n.dens,
+    );
+    let d = units(
+        sw0,
+        y.he.dens,
+        y.o.dens,
+        n2,
+        y.o2.dens,
+        y.ar.dens,
+        all,
+        y.h.dens,
+        y.n.dens,
+        oh,
+    );
+    [
+        d[0],
+        d[1],
+        d[2],
+        d[3],
+        d[4],
+        d[5],
+        d[6],
+        d[7],
+        d[8],
+        tinf,
+        t1,
+    ]
+}
+
+pub fn unmixed_row(sw: [f64; 24], x: Site, z: f64, l: Levels) -> [f64; 11]
+    requires { ⌜ mixesAt (sw ‼ 15) z ≡ false ⌝ }
+    ensures { λ r. ⌜ r ≡ aboveOf (told (given l) (gts7Plan sw x z)) .row ⌝ }
+{
+    let h = shape_stage(sw, x, z, l);
+    let p = place_alone_at(h, z);
+    let n2 = n2_alone(sw, h, z, p, l);
+    let y = six_alone(sw, h, z, p, x.flux, l);
+    let k = anomalous(h);
+    let oh = hot_stage(sw, k, z, l);
+    let r = sqrt(z * z);
+    let t1 = temperature_alone(h, r);
+    row_from(sw[0], h.tinf, n2, y, oh, t1)
+}
