@@ -27,7 +27,7 @@ use Rattle.upper.specs.declared.Upper.{Upper}
 use Rattle.stages.specs.Stages.{tinfPlan, gradientPlan, tlbPlan, nodesPlan, shapePlan, n2Plan, heliumPlan, oxygenPlan, o2Plan, argonPlan, hydrogenPlan, nitrogenPlan, hotPlan, speciesPlan, gts7Plan}
 use Rattle.lower.specs.declared.Meso.{Meso}
 use Rattle.lower.specs.declared.Whole.{Whole}
-use Rattle.lower.specs.Lower.{mesoPlan, lowerPlan}
+use Rattle.lower.specs.Lower.{mesoNodesPlan, mesoPlan, lowerPlan}
 use Rattle.atmosphere.specs.Atmosphere.{gtd7Plan}
 
 -- the sets that are worked out hold those that an altitude needs
@@ -260,7 +260,7 @@ module _ (v : View) (n : Need) where
   in-meso s h q = ap (glob7sOf v q) h ∙ glob7s-second v pdT7 pdT8 q
 
   meso-kept : n .meso ≡ true → (u : Upper) (s : State) → After8 s → Kept v (given (levelsOf v n)) After8 (mesoPlan (v .sw) u) s
-  unfolding mesoPlan _>>=_ levelsOf mesoOf
+  unfolding mesoPlan mesoNodesPlan _>>=_ levelsOf mesoOf
   meso-kept c u s h =
       let there : (i : ℕ) → mesoIn v (legendreIn v) (activeOf v pdT8 (activeOf v pdT7 (quietOf v))) ‼ i ≡ cond (not (n .meso)) (replicate 4 0·0) (mesoIn v (legendreIn v) (activeOf v pdT8 (activeOf v pdT7 (quietOf v)))) ‼ i = λ i. needed (n .meso) (replicate 4 0·0) _ i c in
       minus-s After8 (v .sw ‼ 20) PMA0 _ s (in-meso s h pmaT0 ∙ there 0)

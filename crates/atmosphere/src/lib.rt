@@ -1,18 +1,18 @@
 // gtd7 and the one-altitude call.
 ghost use mathlib.Core.Path.{_≡_};
 ghost use lib.ListN.{length};
-ghost use Rattle.plan.specs.Plan.{told, given};
-ghost use Rattle.atmosphere.specs.Atmosphere.{gtd7Plan, elevenFrom, elevenOf, answerOf, rowAfter};
+ghost use mathlib.Core.Bool.{true};
+ghost use lib.Ieee.{le};
+ghost use Rattle.numbers.specs.Literals.{72·5};
+ghost use Rattle.atmosphere.specs.Atmosphere.{elevenFrom, elevenOf, answerOf, rowAfter};
 use acceptance::Answer;
 use acceptance::accepted;
 use acceptance::judge;
+use footing::footing_of;
+use footing::row_below;
 use levels::levels_of;
 use levels::need_at;
-use lower::Whole;
 use lower::above;
-use lower::below;
-use lower::lower_stage;
-use lower::meso_stage;
 use numbers::pick;
 use plan::Levels;
 use setting::Input;
@@ -21,18 +21,27 @@ use thermosphere::gts7_stage;
 use upper::Site;
 use upper::site_of;
 
-// State::gtd7 over a Site and the values of its expansions.
-pub fn gtd7_stage(sw: [f64; 24], x: Site, alt: f64, l: Levels) -> Whole
-    ensures { λ r. ⌜ r ≡ told (given l) (gtd7Plan sw x alt) ⌝ }
+// The eleven numbers at or above 72.5 km: gts7's.
+pub fn row_above(sw: [f64; 24], x: Site, l: Levels, alt: f64) -> [f64; 11]
+    requires { ⌜ le 72·5 alt ≡ true ⌝ }
+    ensures { λ r. ⌜ r ≡ elevenFrom sw x l alt ⌝ }
 {
     let altt = pick(alt > 72.5, alt, 72.5);
     let u = gts7_stage(sw, x, altt, l);
+    let b = above(u);
+    let row = b.row;
+    row
+}
+
+// The eleven numbers at an altitude, by the way that it takes.
+pub fn eleven(sw: [f64; 24], x: Site, l: Levels, alt: f64) -> [f64; 11]
+    ensures { λ r. ⌜ r ≡ elevenFrom sw x l alt ⌝ }
+{
     if alt >= 72.5 {
-        return above(u);
+        return row_above(sw, x, l, alt);
     }
-    let m = meso_stage(sw, u, l);
-    let n = lower_stage(sw, alt, m, l);
-    below(sw[0], x, alt, u, n)
+    let f = footing_of(sw, x, l, alt < 32.5);
+    row_below(sw[0], f, alt)
 }
 
 // The eleven numbers into a row of eleven.
@@ -52,8 +61,7 @@ pub fn row_at(sw: [f64; 24], x: Site, l: Levels, alt: f64, out: &mut [f64])
     requires { ⌜ length (now out) ≡ 11 ⌝ }
     ensures { λ _. ⌜ now (out .exit) ≡ elevenFrom sw x l alt ⌝ }
 {
-    let b = gtd7_stage(sw, x, alt, l);
-    let row = b.row;
+    let row = eleven(sw, x, l, alt);
     put(out, row);
 }
 

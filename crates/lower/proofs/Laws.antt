@@ -7,6 +7,7 @@ use Rattle.numbers.specs.Arithmetic.{_⊕_, _⊖_, _⊗_, _⊘_, _‼_}
 use Rattle.numbers.specs.Literals.{0·0, 1·0, 2·0, 32·5}
 use Rattle.elementary.specs.Pow.{powOf}
 use Rattle.profile.specs.declared.unchecked.Profile.{Profile}
+use Rattle.profile.specs.declared.unchecked.Shape.{Shape}
 use Rattle.profile.specs.Profile.{densityIn, temperatureIn}
 use Rattle.plan.specs.declared.Levels.{Levels}
 use Rattle.plan.specs.Plan.{_>>=_, told, given}
@@ -17,10 +18,10 @@ use Rattle.upper.specs.Upper.{massOf}
 use Rattle.lower.specs.declared.Meso.{Meso}
 use Rattle.lower.specs.declared.Nodes.{Nodes}
 use Rattle.lower.specs.declared.Whole.{Whole}
-use Rattle.lower.specs.Lower.{mesosphereOf, troposphereOf, unsetOf, mesoPlan, lowerPlan, dmcOf, dm28mOf, n2Of, warmthOf, fullOf, kilogramsOf, belowOf}
+use Rattle.lower.specs.Lower.{mesosphereOf, troposphereOf, unsetOf, mesoNodesPlan, lowerPlan, dmcOf, dm28mOf, n2Of, warmthOf, fullOf, kilogramsOf, belowOf}
 
-pub meso-law : (sw : List Float) (u : Upper) (l : Levels) (x : Meso) (k : Float) (p9 p2 p1 p0 q : List Float)
-    → x ≡ mesosphereOf u q (p0 ‼ 0) (p1 ‼ 0) (p2 ‼ 0) (p9 ‼ 0) k (1·0 ⊖ sw ‼ 20 ⊗ l .pma0) (1·0 ⊖ sw ‼ 20 ⊗ l .pma1) (1·0 ⊖ sw ‼ 20 ⊗ sw ‼ 22 ⊗ l .pma2)
+pub meso-law : (sw : List Float) (h : Shape) (l : Levels) (x : Meso) (k : Float) (p9 p2 p1 p0 q : List Float)
+    → x ≡ mesosphereOf h q (p0 ‼ 0) (p1 ‼ 0) (p2 ‼ 0) (p9 ‼ 0) k (1·0 ⊖ sw ‼ 20 ⊗ l .pma0) (1·0 ⊖ sw ‼ 20 ⊗ l .pma1) (1·0 ⊖ sw ‼ 20 ⊗ sw ‼ 22 ⊗ l .pma2)
     (1·0 ⊕ sw ‼ 20 ⊗ sw ‼ 22 ⊗ l .pma9)
     → k ≡ powOf (p2 ‼ 0 ⊗ q ‼ 2) 2·0
     → p9 ≡ pmaT9
@@ -28,9 +29,9 @@ pub meso-law : (sw : List Float) (u : Upper) (l : Levels) (x : Meso) (k : Float)
     → p1 ≡ pmaT1
     → p0 ≡ pmaT0
     → q ≡ pavgmT
-    → x ≡ told (given l) (mesoPlan sw u)
-unfolding told mesoPlan _>>=_
-meso-law sw u l x k p9 p2 p1 p0 q e0 e1 e2 e3 e4 e5 e6 = simp (e0, e1, e2, e3, e4, e5, e6)
+    → x ≡ told (given l) (mesoNodesPlan sw h)
+unfolding told mesoNodesPlan _>>=_
+meso-law sw h l x k p9 p2 p1 p0 q e0 e1 e2 e3 e4 e5 e6 = simp (e0, e1, e2, e3, e4, e5, e6)
 
 pub lower-above : (sw : List Float) (alt : Float) (m : Meso) (l : Levels) (x : Nodes)
     → x ≡ unsetOf m

@@ -6,6 +6,7 @@ use Rattle.numbers.specs.Arithmetic.{_⊕_, _⊖_, _⊗_, _⊘_, _‼_}
 use Rattle.numbers.specs.Literals.{0·0, 1·0, 2·0, 10·0, 15·0, 20·0, 32·5, 45·0, 55·0, 62·5, 72·5, 1000·0, 1·0E6}
 use Rattle.elementary.specs.Pow.{powOf}
 use Rattle.profile.specs.declared.unchecked.Profile.{Profile}
+use Rattle.profile.specs.declared.unchecked.Shape.{Shape}
 use Rattle.profile.specs.Profile.{densmOf, densityIn, temperatureIn}
 use Rattle.plan.specs.Fields.{setTn2, setTn3, setTop3}
 use Rattle.plan.specs.Plan.{Plan, done, ask, keep, get, either, _>>=_, _>>_, one-plus-glob7s, one-minus-glob7s}
@@ -19,12 +20,12 @@ use Rattle.lower.specs.declared.Nodes.{Nodes}
 use Rattle.lower.specs.declared.Whole.{Whole}
 
 -- meso_tn2 and meso_tgn2: q is PAVGM, p0 to p9 the first coefficients, k the last denominator, a to e the answers
-unfoldable pub mesosphereOf : Upper → List Float → Float → Float → Float → Float → Float → Float → Float → Float → Float → Meso
-mesosphereOf u q p0 p1 p2 p9 k a b c e =
+unfoldable pub mesosphereOf : Shape → List Float → Float → Float → Float → Float → Float → Float → Float → Float → Float → Meso
+mesosphereOf h q p0 p1 p2 p9 k a b c e =
     let t3 = p2 ⊗ q ‼ 2 ⊘ c in
     record {
-      tn2 = (u .shape .tn ‼ 4) ∷ (p0 ⊗ q ‼ 0 ⊘ a) ∷ (p1 ⊗ q ‼ 1 ⊘ b) ∷ t3 ∷ [];
-      tgn2 = (u .shape .tgn ‼ 1) ∷ (q ‼ 8 ⊗ p9 ⊗ e ⊗ t3 ⊗ t3 ⊘ k) ∷ [];
+      tn2 = (h .tn ‼ 4) ∷ (p0 ⊗ q ‼ 0 ⊘ a) ∷ (p1 ⊗ q ‼ 1 ⊘ b) ∷ t3 ∷ [];
+      tgn2 = (h .tgn ‼ 1) ∷ (q ‼ 8 ⊗ p9 ⊗ e ⊗ t3 ⊗ t3 ⊘ k) ∷ [];
     }
 
 -- meso_tn3 and meso_tgn3 below 32.5 km
@@ -43,17 +44,20 @@ unfoldable pub unsetOf : Meso → Nodes
 unsetOf m =
     record { tn2 = m .tn2; tgn2 = m .tgn2; tn3 = (m .tn2 ‼ 3) ∷ 0·0 ∷ 0·0 ∷ 0·0 ∷ 0·0 ∷ []; tgn3 = 0·0 ∷ 0·0 ∷ [] }
 
--- the questions from 72.5 km down
-unfoldable pub mesoPlan : List Float → Upper → Plan Meso
-mesoPlan sw u = do
+-- the questions from 72.5 km down, over the shape of the profile above
+unfoldable pub mesoNodesPlan : List Float → Shape → Plan Meso
+mesoNodesPlan sw h = do
   a ← get (one-minus-glob7s (sw ‼ 20) PMA0)
   b ← get (one-minus-glob7s (sw ‼ 20) PMA1)
   c ← get (one-minus-glob7s (sw ‼ 20 ⊗ sw ‼ 22) PMA2)
   e ← get (one-plus-glob7s (sw ‼ 20 ⊗ sw ‼ 22) PMA9)
-  let m = mesosphereOf u pavgmT (pmaT0 ‼ 0) (pmaT1 ‼ 0) (pmaT2 ‼ 0) (pmaT9 ‼ 0) (powOf (pmaT2 ‼ 0 ⊗ pavgmT ‼ 2) 2·0) a b c e
+  let m = mesosphereOf h pavgmT (pmaT0 ‼ 0) (pmaT1 ‼ 0) (pmaT2 ‼ 0) (pmaT9 ‼ 0) (powOf (pmaT2 ‼ 0 ⊗ pavgmT ‼ 2) 2·0) a b c e
   setTn2 (m .tn2) (m .tgn2)
   setTop3 (m .tn2 ‼ 3)
   done m
+
+unfoldable pub mesoPlan : List Float → Upper → Plan Meso
+mesoPlan sw u = mesoNodesPlan sw (u .shape)
 
 -- the questions from 32.5 km down
 unfoldable pub lowerPlan : List Float → Float → Meso → Plan Nodes

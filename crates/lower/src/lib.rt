@@ -1,11 +1,12 @@
 // gtd7 below 72.5 km: its nodes from the expansions, its densities and temperature.
 ghost use mathlib.Core.Path.{_≡_};
 ghost use Rattle.plan.specs.Plan.{told, given};
-ghost use Rattle.lower.specs.Lower.{mesosphereOf, troposphereOf, unsetOf, dmcOf, dm28mOf, n2Of, fullOf, kilogramsOf, warmthOf, belowOf, aboveOf, mesoPlan, lowerPlan};
+ghost use Rattle.lower.specs.Lower.{mesosphereOf, troposphereOf, unsetOf, dmcOf, dm28mOf, n2Of, fullOf, kilogramsOf, warmthOf, belowOf, aboveOf, mesoNodesPlan, mesoPlan, lowerPlan};
 use elementary::power::pow;
 use numbers::pick;
 use plan::Levels;
 use profile::unchecked::Profile;
+use profile::unchecked::Shape;
 use profile::unchecked::density_in;
 use profile::unchecked::densm54;
 use profile::unchecked::temperature_in;
@@ -49,7 +50,7 @@ pub struct Whole {
 
 // The nodes from 72.5 to 32.5 km: q is PAVGM, p0 to p9 the first coefficients, k the last denominator, a to e the answers.
 pub fn mesosphere(
-    u: Upper,
+    h: Shape,
     q: [f64; 10],
     p0: f64,
     p1: f64,
@@ -61,9 +62,8 @@ pub fn mesosphere(
     c: f64,
     e: f64,
 ) -> Meso
-    ensures { λ r. ⌜ r ≡ mesosphereOf u q p0 p1 p2 p9 k a b c e ⌝ }
+    ensures { λ r. ⌜ r ≡ mesosphereOf h q p0 p1 p2 p9 k a b c e ⌝ }
 {
-    let h = u.shape;
     let t3 = p2 * q[2] / c;
     Meso {
         tn2: [h.tn[4], p0 * q[0] / a, p1 * q[1] / b, t3],
@@ -114,8 +114,9 @@ pub fn unset(m: Meso) -> Nodes
     }
 }
 
-pub fn meso_stage(sw: [f64; 24], u: Upper, l: Levels) -> Meso
-    ensures { λ r. ⌜ r ≡ told (given l) (mesoPlan sw u) ⌝ }
+// The nodes of the mesosphere, over the shape of the profile above.
+pub fn meso_nodes(sw: [f64; 24], h: Shape, l: Levels) -> Meso
+    ensures { λ r. ⌜ r ≡ told (given l) (mesoNodesPlan sw h) ⌝ }
 {
     let q = pavgm();
     let p0 = pma0();
@@ -127,7 +128,14 @@ pub fn meso_stage(sw: [f64; 24], u: Upper, l: Levels) -> Meso
     let b = 1.0 - sw[20] * l.pma1;
     let c = 1.0 - sw[20] * sw[22] * l.pma2;
     let e = 1.0 + sw[20] * sw[22] * l.pma9;
-    mesosphere(u, q, p0[0], p1[0], p2[0], p9[0], k, a, b, c, e)
+    mesosphere(h, q, p0[0], p1[0], p2[0], p9[0], k, a, b, c, e)
+}
+
+pub fn meso_stage(sw: [f64; 24], u: Upper, l: Levels) -> Meso
+    ensures { λ r. ⌜ r ≡ told (given l) (mesoPlan sw u) ⌝ }
+{
+    let h = u.shape;
+    meso_nodes(sw, h, l)
 }
 
 pub fn lower_stage(sw: [f64; 24], alt: f64, m: Meso, l: Levels) -> Nodes

@@ -29,7 +29,7 @@ use Rattle.state_steps.proofs.Laws.{step}
 use Rattle.lower.specs.declared.Meso.{Meso}
 use Rattle.lower.specs.declared.Nodes as lower
 use Rattle.lower.specs.declared.Whole.{Whole}
-use Rattle.lower.specs.Lower.{mesoPlan, lowerPlan, aboveOf, belowOf}
+use Rattle.lower.specs.Lower.{mesoNodesPlan, mesoPlan, lowerPlan, aboveOf, belowOf}
 use Rattle.atmosphere.specs.Atmosphere.{gtd7Plan}
 use Rattle.atmosphere.specs.Answers.{gtd7-left}
 
@@ -65,7 +65,7 @@ nodes-sets sw z l f = either-nodes (given l) f (lt z 300·0) _ _ refl refl
 
 meso-sets : (sw : List Float) (u : Upper) (l : Levels) (f : Fields)
     → kept (given l) (mesoPlan sw u) f ≡ setTop3 ((told (given l) (mesoPlan sw u)) .tn2 ‼ 3) (setTn2 ((told (given l) (mesoPlan sw u)) .tn2) ((told (given l) (mesoPlan sw u)) .tgn2) f)
-unfolding told kept mesoPlan _>>=_
+unfolding told kept mesoPlan mesoNodesPlan _>>=_
 meso-sets sw u l f = refl
 
 lower-sets-none : (sw : List Float) (alt : Float) (m : Meso) (l : Levels) (f : Fields) → not (lt alt 32·5) ≡ true → kept (given l) (lowerPlan sw alt m) f ≡ f

@@ -1,0 +1,99 @@
+-- The footing, from what each stage gives.
+use mathlib.Core.Path.{_≡_, refl, ap, sym, _∙_}
+use mathlib.Core.Bool.{Bool, cond}
+use mathlib.Core.List.{List, [], _∷_}
+use lib.Ieee.{Float}
+use Rattle.numbers.specs.Arithmetic.{_⊕_, _⊖_, _⊗_, _⊘_, _‼_}
+use Rattle.numbers.specs.Literals.{0·0, 1·0, 32·5, 72·5}
+use Rattle.places.specs.declared.place.Place.{Place}
+use Rattle.places.specs.declared.thinning.Thinning.{Thinning}
+use Rattle.places.specs.Thinning.{Logged, thinningOf, logged}
+use Rattle.profile.specs.declared.unchecked.Shape.{Shape}
+use Rattle.profile.specs.declared.unchecked.Profile.{Profile}
+use Rattle.profile.specs.Profile.{densityIn, temperatureIn}
+use Rattle.plan.specs.declared.Levels.{Levels}
+use Rattle.plan.specs.Plan.{told, given}
+use Rattle.species.specs.Species.{nodes}
+use Rattle.species.specs.Places.{placeAt, Turbopause, Mixes}
+use Rattle.species.specs.declared.Blend.{Blend}
+use Rattle.species.specs.declared.Mixture.{Mixture}
+use Rattle.tables.specs.Tables.{ptmT, pdmT0, pdmT1, pdmT2, pdmT3, pdmT4, pdlT1}
+use Rattle.upper.specs.declared.Site.{Site}
+use Rattle.upper.specs.Upper.{massOf}
+use Rattle.stages.specs.Stages.{shapePlan, n2Plan, heliumPlan, o2Plan, argonPlan}
+use Rattle.lower.specs.declared.Meso.{Meso}
+use Rattle.lower.specs.declared.Nodes.{Nodes}
+use Rattle.lower.specs.Lower.{mesoNodesPlan, lowerPlan, dmcOf, n2Of, fullOf, kilogramsOf}
+use Rattle.footing.specs.declared.Footing.{Footing}
+use Rattle.footing.specs.declared.Three.{Three}
+use Rattle.footing.specs.Footing.{threeOf, standingOf, footingOf, nodesAt, rowBelowOf}
+
+-- what a stage asks, from the shared places: m is the row of PDM that has xmm
+pub stage-ready : (h : Shape) (z : Float) (p w : Place) (t : Thinning) (on mix : Bool) (zh zh' : Float) (m : List Float)
+    → p ≡ placeAt h z
+    → Turbopause h on zh w
+    → zh ≡ zh'
+    → Mixes mix p (pdmT2 ‼ 4) t
+    → m ≡ pdmT2
+    → (p ≡ placeAt h z) × Turbopause h on zh' w × Mixes mix p (m ‼ 4) t
+stage-ready h z p w t on mix zh zh' m e f q g k =
+    (e, λ o. f o ∙ ap (placeAt h) q, λ o. g o ∙ ap (λ (x : List Float). thinningOf p (x ‼ 4) 0·0) (sym k))
+
+-- the entry that a species has, from the row that was read
+pub third : (m row : List Float) → m ≡ row → m ‼ 2 ≡ row ‼ 2
+third m row e = ap (λ (x : List Float). x ‼ 2) e
+
+pub o2-too : pdmT1 ‼ 2 ≡ pdmT3 ‼ 2
+unfolding pdmT1 pdmT3
+o2-too = refl
+
+pub argon-too : pdmT1 ‼ 2 ≡ pdmT4 ‼ 2
+unfolding pdmT1 pdmT4
+argon-too = refl
+
+pub mixes-row : (mix : Bool) (p : Place) (t : Thinning) (m : List Float) → Mixes mix p (m ‼ 4) t → m ≡ pdmT2 → Mixes mix p (pdmT2 ‼ 4) t
+mixes-row mix p t m f e = λ o. f o ∙ ap (λ (x : List Float). thinningOf p (x ‼ 4) 0·0) e
+
+pub logged-at : (h : Shape) (z : Float) (p : Place) → p ≡ placeAt h z → Logged p
+logged-at h z p e = logged h z (ptmT ‼ 5) nodes p e
+
+pub three-law : (sw : List Float) (h : Shape) (b28 flux : Float) (l : Levels) (ar o2 he : Mixture) (d m : List Float)
+    → ar ≡ told (given l) (argonPlan sw h 72·5 b28 (m ‼ 3 ⊗ d ‼ 5) (m ‼ 4))
+    → o2 ≡ told (given l) (o2Plan sw h 72·5 b28 (m ‼ 3 ⊗ d ‼ 5) (m ‼ 4) flux)
+    → he ≡ told (given l) (heliumPlan sw h 72·5 b28 (m ‼ 3 ⊗ d ‼ 5) (m ‼ 4))
+    → d ≡ pdlT1
+    → m ≡ pdmT2
+    → _≡_ {A = Three} (record { he = he; o2 = o2; ar = ar }) (threeOf sw h b28 flux l)
+unfolding threeOf
+three-law sw h b28 flux l ar o2 he d m e0 e1 e2 e3 e4 = rw (e0, e1, e2, e3, e4)
+
+pub footing-law : (sw : List Float) (x : Site) (l : Levels) (tropo : Bool) (f : Footing) (w : Nodes) (z : Float) (e : Meso) (y : Three) (b : Blend) (h : Shape)
+    → f ≡ standingOf (sw ‼ 0) x h b y w
+    → w ≡ told (given l) (lowerPlan sw z e)
+    → z ≡ cond tropo 0·0 32·5
+    → e ≡ told (given l) (mesoNodesPlan sw h)
+    → y ≡ threeOf sw h (b .b) (x .flux) l
+    → b ≡ told (given l) (n2Plan sw h 72·5 (x .zhf))
+    → h ≡ told (given l) (shapePlan sw x 72·5)
+    → f ≡ footingOf sw x l tropo
+unfolding footingOf
+footing-law sw x l tropo f w z e y b h e0 e1 e2 e3 e4 e5 e6 = rw (e0, e1, e2, e3, e4, e5, e6)
+
+pub row-law : (sw0 : Float) (f : Footing) (alt : Float) (all g ar o2 he t1 n : Float) (a : Profile) (w : Nodes) (c : Float) (m4 m3 m0 : List Float)
+    → all ≡ kilogramsOf sw0 g
+    → g ≡ massOf he 0·0 (n ⊗ (1·0 ⊕ (f .n2 ⊘ f .dm28m ⊖ 1·0) ⊗ c)) o2 ar 0·0 0·0
+    → ar ≡ fullOf (n ⊗ (1·0 ⊕ (f .n2 ⊘ f .dm28m ⊖ 1·0) ⊗ c)) (m4 ‼ 1) (f .ar) (f .n2) c
+    → o2 ≡ fullOf (n ⊗ (1·0 ⊕ (f .n2 ⊘ f .dm28m ⊖ 1·0) ⊗ c)) (m3 ‼ 1) (f .o2) (f .n2) c
+    → he ≡ fullOf (n ⊗ (1·0 ⊕ (f .n2 ⊘ f .dm28m ⊖ 1·0) ⊗ c)) (m0 ‼ 1) (f .he) (f .n2) c
+    → t1 ≡ temperatureIn a
+    → n ≡ densityIn a
+    → a ≡ n2Of (f .x) alt (f .dm28m) w
+    → w ≡ nodesAt f alt
+    → c ≡ dmcOf alt
+    → m4 ≡ pdmT4
+    → m3 ≡ pdmT3
+    → m0 ≡ pdmT0
+    → he ∷ 0·0 ∷ (n ⊗ (1·0 ⊕ (f .n2 ⊘ f .dm28m ⊖ 1·0) ⊗ c)) ∷ o2 ∷ ar ∷ all ∷ 0·0 ∷ 0·0 ∷ 0·0 ∷ f .tinf ∷ t1 ∷ [] ≡ rowBelowOf sw0 f alt
+unfolding rowBelowOf
+row-law sw0 f alt all g ar o2 he t1 n a w c m4 m3 m0 e0 e1 e2 e3 e4 e5 e6 e7 e8 e9 e10 e11 e12 =
+    simp (e0, e1, e2, e3, e4, e5, e6, e7, e8, e9, e10, e11, e12)

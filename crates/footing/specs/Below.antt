@@ -1,0 +1,209 @@
+-- The row that a footing gives below 72.5 km is gtd7's.
+use Prim.Native.Nat.{ℕ}
+use mathlib.Core.Path.{_≡_, refl, sym, ap, _∙_}
+use mathlib.Core.Bool.{Bool, true, false, cond, not}
+use mathlib.Core.List.{List}
+use lib.Ieee.{Float, lt, eq, ne, ofBits}
+use Rattle.numbers.specs.Arithmetic.{_⊗_, _‼_}
+use Rattle.numbers.specs.Literals.{0·0, 1·0, 32·5, 72·5, 1·0E6}
+use Rattle.profile.specs.Curve.{layerOf, flooredOf}
+use Rattle.profile.specs.Profile.{densmOf, answerOf, densityIn, temperatureIn}
+use Rattle.profile.specs.declared.unchecked.Profile.{Profile}
+use Rattle.profile.specs.declared.unchecked.Profile.the-variants.{Temperature, Density}
+use Rattle.profile.specs.declared.unchecked.Shape.{Shape}
+use Rattle.plan.specs.declared.Levels.{Levels}
+use Rattle.plan.specs.Plan.{either, _>>=_, told, given, then, last, told-keep}
+use Rattle.species.specs.declared.Blend.{Blend}
+use Rattle.tables.specs.Tables.{pdmT2, pdlT1}
+use Rattle.upper.specs.declared.Site.{Site}
+use Rattle.upper.specs.declared.Six.{Six}
+use Rattle.upper.specs.declared.Upper.{Upper}
+use Rattle.upper.specs.Upper.{anomalousOf, unitsOf, gatherOf}
+use Rattle.stages.specs.Stages.{shapePlan, n2Plan, heliumPlan, oxygenPlan, o2Plan, argonPlan, hydrogenPlan, nitrogenPlan, hotPlan, speciesPlan, gts7Plan}
+use Rattle.lower.specs.declared.Meso.{Meso}
+use Rattle.lower.specs.declared.Nodes.{Nodes}
+use Rattle.lower.specs.declared.Whole.{Whole}
+use Rattle.lower.specs.Lower.{troposphereOf, unsetOf, mesoNodesPlan, mesoPlan, lowerPlan, dm28mOf, zn2, zn3, n2Of, warmthOf, belowOf}
+use Rattle.footing.specs.declared.Footing.{Footing}
+use Rattle.footing.specs.declared.Three.{Three}
+use Rattle.footing.specs.Footing.{threeOf, inUnitsOf, standingOf, footingOf, nodesAt, rowBelowOf}
+
+-- ---- densm's temperature does not depend on the gas
+
+in-answer : (b : Bool) (d t : Float) → temperatureIn (cond b (Temperature t) (Density d t)) ≡ t
+in-answer true d t = refl
+in-answer false d t = refl
+
+answer-warmth : (xm d t : Float) → temperatureIn (answerOf xm d t) ≡ t
+unfolding answerOf
+answer-warmth xm d t = in-answer (eq xm 0·0) d t
+
+one-of : (b : Bool) (x y : Profile) (s t : Float) → temperatureIn x ≡ s → temperatureIn y ≡ t → temperatureIn (cond b x y) ≡ cond b s t
+one-of true x y s t e f = e
+one-of false x y s t e f = f
+
+densm-warmth : (gsurf re alt d0 xm tz : Float) (mn3 : ℕ) (zn3 tn3 tgn3 : List Float) (mn2 : ℕ) (zn2 tn2 tgn2 : List Float)
+    → temperatureIn (densmOf gsurf re alt d0 xm tz mn3 zn3 tn3 tgn3 mn2 zn2 tn2 tgn2)
+    ≡ cond (lt (zn2 ‼ 0) alt) tz (cond (lt (zn3 ‼ 0) alt) ((flooredOf re zn2 tn2 mn2 tgn2 alt) .tz) ((layerOf re zn3 tn3 mn3 tgn3 alt) .tz))
+unfolding densmOf
+densm-warmth gsurf re alt d0 xm tz mn3 zn3 tn3 tgn3 mn2 zn2 tn2 tgn2 =
+    one-of (lt (zn2 ‼ 0) alt) _ _ _ _ (answer-warmth xm d0 tz)
+    (one-of (lt (zn3 ‼ 0) alt) _ _ _ _ (answer-warmth xm _ _) (answer-warmth xm _ _))
+
+twice : (b : Bool) (x y : Float) → cond b (cond b x y) y ≡ cond b x y
+twice true x y = refl
+twice false x y = refl
+
+warmth-is : (x : Site) (alt d : Float) (w : Nodes) → temperatureIn (warmthOf x alt (temperatureIn (n2Of x alt d w)) w) ≡ temperatureIn (n2Of x alt d w)
+unfolding n2Of warmthOf
+warmth-is x alt d w =
+    let in-layers = cond (lt (zn3 ‼ 0) alt) ((flooredOf (x .re) zn2 (w .tn2) 4 (w .tgn2) alt) .tz) ((layerOf (x .re) zn3 (w .tn3) 5 (w .tgn3) alt) .tz) in
+    let of-n2 = densm-warmth (x .gsurf) (x .re) alt d (pdmT2 ‼ 4) 0·0 5 zn3 (w .tn3) (w .tgn3) 4 zn2 (w .tn2) (w .tgn2) in
+    densm-warmth (x .gsurf) (x .re) alt 1·0 0·0 _ 5 zn3 (w .tn3) (w .tgn3) 4 zn2 (w .tn2) (w .tgn2)
+    ∙ ap (λ (t : Float). cond (lt (zn2 ‼ 0) alt) t in-layers) of-n2
+    ∙ twice (lt (zn2 ‼ 0) alt) 0·0 in-layers
+    ∙ sym of-n2
+
+-- ---- the row, from what it reads of gts7
+
+below-is : (sw0 : Float) (x : Site) (alt : Float) (u : Upper) (w : Nodes) (f : Footing)
+    → f .x ≡ x
+    → f .tinf ≡ u .shape .tinf
+    → f .dm28m ≡ dm28mOf sw0 (u .base .dm)
+    → f .he ≡ u .d ‼ 0
+    → f .n2 ≡ u .d ‼ 2
+    → f .o2 ≡ u .d ‼ 3
+    → f .ar ≡ u .d ‼ 4
+    → nodesAt f alt ≡ w
+    → rowBelowOf sw0 f alt ≡ (belowOf sw0 x alt u w) .row
+unfolding belowOf rowBelowOf
+below-is sw0 x alt u w f e0 e1 e2 e3 e4 e5 e6 e7 =
+    rw (e7, e0, e1, e2, e3, e4, e5, e6, warmth-is x alt (dm28mOf sw0 (u .base .dm)) w)
+
+-- ---- what gts7 gives
+
+scaled : (b : Bool) (xs ys : List Float) (i : ℕ) → cond b (ys ‼ i) (xs ‼ i) ≡ cond (not b) xs ys ‼ i
+scaled true xs ys i = refl
+scaled false xs ys i = refl
+
+module _ (sw0 he o n2 o2 ar all h n oh : Float) where
+  units-he : inUnitsOf sw0 he ≡ unitsOf sw0 he o n2 o2 ar all h n oh ‼ 0
+  unfolding inUnitsOf unitsOf
+  units-he = scaled (ne sw0 0·0) _ _ 0
+
+  units-n2 : inUnitsOf sw0 n2 ≡ unitsOf sw0 he o n2 o2 ar all h n oh ‼ 2
+  unfolding inUnitsOf unitsOf
+  units-n2 = scaled (ne sw0 0·0) _ _ 2
+
+  units-o2 : inUnitsOf sw0 o2 ≡ unitsOf sw0 he o n2 o2 ar all h n oh ‼ 3
+  unfolding inUnitsOf unitsOf
+  units-o2 = scaled (ne sw0 0·0) _ _ 3
+
+  units-ar : inUnitsOf sw0 ar ≡ unitsOf sw0 he o n2 o2 ar all h n oh ‼ 4
+  unfolding inUnitsOf unitsOf
+  units-ar = scaled (ne sw0 0·0) _ _ 4
+
+six-is : (sw : List Float) (h : Shape) (z b28 flux : Float) (l : Levels)
+    → let zhm = pdmT2 ‼ 3 ⊗ pdlT1 ‼ 5 in
+    let xmm = pdmT2 ‼ 4 in
+    told (given l) (speciesPlan sw h z b28 flux)
+    ≡ record {
+      he = told (given l) (heliumPlan sw h z b28 zhm xmm);
+      o = told (given l) (oxygenPlan sw h z zhm xmm flux);
+      o2 = told (given l) (o2Plan sw h z b28 zhm xmm flux);
+      ar = told (given l) (argonPlan sw h z b28 zhm xmm);
+      h = told (given l) (hydrogenPlan sw h z b28 zhm xmm);
+      n = told (given l) (nitrogenPlan sw h z b28 zhm xmm);
+    }
+unfolding speciesPlan
+six-is sw h z b28 flux l =
+    let zhm = pdmT2 ‼ 3 ⊗ pdlT1 ‼ 5 in
+    let xmm = pdmT2 ‼ 4 in
+    then (given l) (heliumPlan sw h z b28 zhm xmm) _ _ refl
+    ∙ then (given l) (oxygenPlan sw h z zhm xmm flux) _ _ refl
+    ∙ then (given l) (o2Plan sw h z b28 zhm xmm flux) _ _ refl
+    ∙ then (given l) (argonPlan sw h z b28 zhm xmm) _ _ refl
+    ∙ then (given l) (hydrogenPlan sw h z b28 zhm xmm) _ _ refl
+    ∙ then (given l) (nitrogenPlan sw h z b28 zhm xmm) _ _ refl
+    ∙ last (given l) _
+
+gts7-is : (sw : List Float) (x : Site) (z : Float) (l : Levels) (h : Shape) (b : Blend)
+    → h ≡ told (given l) (shapePlan sw x z)
+    → b ≡ told (given l) (n2Plan sw h z (x .zhf))
+    → told (given l) (gts7Plan sw x z)
+    ≡ gatherOf (sw ‼ 0) h z b (told (given l) (speciesPlan sw h z (b .b) (x .flux))) (told (given l) (hotPlan sw (anomalousOf h) z))
+unfolding gts7Plan
+gts7-is sw x z l h b e f =
+    then (given l) (shapePlan sw x z) _ h e
+    ∙ then (given l) (n2Plan sw h z (x .zhf)) _ b f
+    ∙ then (given l) (speciesPlan sw h z (b .b) (x .flux)) _ _ refl
+    ∙ then (given l) (hotPlan sw (anomalousOf h) z) _ _ refl
+    ∙ told-keep (given l) _ _
+    ∙ last (given l) _
+
+-- ---- the nodes
+
+under-32 : lt 0·0 32·5 ≡ true
+unfolding lt ofBits
+under-32 = refl
+
+at-32 : lt 32·5 32·5 ≡ false
+unfolding lt ofBits
+at-32 = refl
+
+module _ (sw : List Float) (l : Levels) (m : Meso) where
+  -- lowerPlan reads of the altitude whether it is below 32.5 km
+  same-nodes : (y z : Float) → lt y 32·5 ≡ lt z 32·5 → told (given l) (lowerPlan sw y m) ≡ told (given l) (lowerPlan sw z m)
+  unfolding lowerPlan
+  same-nodes y z e = rw e
+
+  no-nodes : (z : Float) → lt z 32·5 ≡ false → unsetOf m ≡ told (given l) (lowerPlan sw z m)
+  unfolding lowerPlan told
+  no-nodes z e = rw e
+
+  topmost : (tropo : Bool) → _≡_ {A = Meso}
+      (record { tn2 = (told (given l) (lowerPlan sw (cond tropo 0·0 32·5) m)) .tn2; tgn2 = (told (given l) (lowerPlan sw (cond tropo 0·0 32·5) m)) .tgn2 }) m
+  unfolding lowerPlan told _>>=_ troposphereOf unsetOf lt ofBits
+  topmost true = refl
+  topmost false = refl
+
+  nodes-by : (alt : Float) (tropo b : Bool) (f : Footing) → f .nodes ≡ told (given l) (lowerPlan sw (cond tropo 0·0 32·5) m)
+      → lt alt 32·5 ≡ b → (b ≡ true → tropo ≡ true)
+      → nodesAt f alt ≡ told (given l) (lowerPlan sw alt m)
+  unfolding nodesAt
+  nodes-by alt tropo true f e t c =
+      rw t
+      (e
+      ∙ ap (λ (a : Bool). told (given l) (lowerPlan sw (cond a 0·0 32·5) m)) (c refl)
+      ∙ same-nodes 0·0 alt (under-32 ∙ sym t))
+  nodes-by alt tropo false f e t c =
+      rw t
+      (ap (λ (w : Nodes). unsetOf (record { tn2 = w .tn2; tgn2 = w .tgn2 })) e
+      ∙ ap unsetOf (topmost tropo)
+      ∙ no-nodes alt t)
+
+-- From the footing at 72.5 km the row is that of gtd7, whose nodes of the troposphere are there where the altitude asks for them
+pub row-is : (sw : List Float) (x : Site) (l : Levels) (tropo : Bool) (alt : Float) → (lt alt 32·5 ≡ true → tropo ≡ true)
+    → let u = told (given l) (gts7Plan sw x 72·5) in
+    rowBelowOf (sw ‼ 0) (footingOf sw x l tropo) alt
+    ≡ (belowOf (sw ‼ 0) x alt u (told (given l) (lowerPlan sw alt (told (given l) (mesoPlan sw u))))) .row
+unfolding footingOf standingOf threeOf mesoPlan gatherOf
+row-is sw x l tropo alt c =
+    let h = told (given l) (shapePlan sw x 72·5) in
+    let b = told (given l) (n2Plan sw h 72·5 (x .zhf)) in
+    let y = told (given l) (speciesPlan sw h 72·5 (b .b) (x .flux)) in
+    let o = told (given l) (hotPlan sw (anomalousOf h) 72·5) in
+    let u = gatherOf (sw ‼ 0) h 72·5 b y o in
+    let m = told (given l) (mesoNodesPlan sw h) in
+    let s = six-is sw h 72·5 (b .b) (x .flux) l in
+    below-is (sw ‼ 0) x alt u (told (given l) (lowerPlan sw alt m)) (footingOf sw x l tropo)
+    refl
+    refl
+    refl
+    (ap (λ (k : Six). inUnitsOf (sw ‼ 0) (k .he .dens)) (sym s) ∙ units-he (sw ‼ 0) _ _ _ _ _ _ _ _ _)
+    (units-n2 (sw ‼ 0) _ _ _ _ _ _ _ _ _)
+    (ap (λ (k : Six). inUnitsOf (sw ‼ 0) (k .o2 .dens)) (sym s) ∙ units-o2 (sw ‼ 0) _ _ _ _ _ _ _ _ _)
+    (ap (λ (k : Six). inUnitsOf (sw ‼ 0) (k .ar .dens)) (sym s) ∙ units-ar (sw ‼ 0) _ _ _ _ _ _ _ _ _)
+    (nodes-by sw l m alt tropo (lt alt 32·5) (footingOf sw x l tropo) refl refl c)
+    ∙ ap (λ (g : Upper). (belowOf (sw ‼ 0) x alt g (told (given l) (lowerPlan sw alt (told (given l) (mesoNodesPlan sw (g .shape)))))) .row)
+    (sym (gts7-is sw x 72·5 l h b refl refl))

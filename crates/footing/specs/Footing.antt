@@ -1,0 +1,74 @@
+-- What gts7 at 72.5 km gives to every altitude below it, and the row there.
+use mathlib.Core.Bool.{Bool, cond}
+use mathlib.Core.List.{List, [], _∷_}
+use lib.Ieee.{Float, lt, ne}
+use Rattle.numbers.specs.Arithmetic.{_⊕_, _⊖_, _⊗_, _⊘_, _‼_}
+use Rattle.numbers.specs.Literals.{0·0, 1·0, 32·5, 72·5, 1·0E6}
+use Rattle.profile.specs.Profile.{densityIn, temperatureIn}
+use Rattle.profile.specs.declared.unchecked.Shape.{Shape}
+use Rattle.plan.specs.declared.Levels.{Levels}
+use Rattle.plan.specs.Plan.{told, given}
+use Rattle.species.specs.declared.Blend.{Blend}
+use Rattle.tables.specs.Tables.{pdmT0, pdmT2, pdmT3, pdmT4, pdlT1}
+use Rattle.upper.specs.declared.Site.{Site}
+use Rattle.upper.specs.Upper.{massOf}
+use Rattle.stages.specs.Stages.{shapePlan, n2Plan, heliumPlan, o2Plan, argonPlan}
+use Rattle.lower.specs.declared.Meso.{Meso}
+use Rattle.lower.specs.declared.Nodes.{Nodes}
+use Rattle.lower.specs.Lower.{mesoNodesPlan, lowerPlan, unsetOf, dmcOf, dm28mOf, n2Of, fullOf, kilogramsOf}
+use Rattle.footing.specs.declared.Footing.{Footing}
+use Rattle.footing.specs.declared.Three.{Three}
+
+-- helium, O2 and argon at 72.5 km
+unfoldable pub threeOf : List Float → Shape → Float → Float → Levels → Three
+threeOf sw h b28 flux l =
+    let zhm = pdmT2 ‼ 3 ⊗ pdlT1 ‼ 5 in
+    let xmm = pdmT2 ‼ 4 in
+    record {
+      he = told (given l) (heliumPlan sw h 72·5 b28 zhm xmm);
+      o2 = told (given l) (o2Plan sw h 72·5 b28 zhm xmm flux);
+      ar = told (given l) (argonPlan sw h 72·5 b28 zhm xmm);
+    }
+
+-- a density in the units asked for
+unfoldable pub inUnitsOf : Float → Float → Float
+inUnitsOf sw0 d = cond (ne sw0 0·0) (d ⊗ 1·0E6) d
+
+unfoldable pub standingOf : Float → Site → Shape → Blend → Three → Nodes → Footing
+standingOf sw0 x h b y w =
+    record {
+      x = x;
+      tinf = h .tinf;
+      dm28m = dm28mOf sw0 (b .dm);
+      he = inUnitsOf sw0 (y .he .dens);
+      n2 = inUnitsOf sw0 (b .dens);
+      o2 = inUnitsOf sw0 (y .o2 .dens);
+      ar = inUnitsOf sw0 (y .ar .dens);
+      nodes = w;
+    }
+
+-- the nodes of the troposphere are those of 0 km, or not set, as at 32.5 km
+unfoldable pub footingOf : List Float → Site → Levels → Bool → Footing
+footingOf sw x l tropo =
+    let h = told (given l) (shapePlan sw x 72·5) in
+    let b = told (given l) (n2Plan sw h 72·5 (x .zhf)) in
+    let y = threeOf sw h (b .b) (x .flux) l in
+    let m = told (given l) (mesoNodesPlan sw h) in
+    let w = told (given l) (lowerPlan sw (cond tropo 0·0 32·5) m) in
+    standingOf (sw ‼ 0) x h b y w
+
+-- the nodes at an altitude
+unfoldable pub nodesAt : Footing → Float → Nodes
+nodesAt f alt = cond (lt alt 32·5) (f .nodes) (unsetOf (record { tn2 = f .nodes .tn2; tgn2 = f .nodes .tgn2 }))
+
+-- the eleven numbers at an altitude
+unfoldable pub rowBelowOf : Float → Footing → Float → List Float
+rowBelowOf sw0 f alt =
+    let c = dmcOf alt in
+    let a = n2Of (f .x) alt (f .dm28m) (nodesAt f alt) in
+    let d2 = densityIn a ⊗ (1·0 ⊕ (f .n2 ⊘ f .dm28m ⊖ 1·0) ⊗ c) in
+    let he = fullOf d2 (pdmT0 ‼ 1) (f .he) (f .n2) c in
+    let o2 = fullOf d2 (pdmT3 ‼ 1) (f .o2) (f .n2) c in
+    let ar = fullOf d2 (pdmT4 ‼ 1) (f .ar) (f .n2) c in
+    let all = kilogramsOf sw0 (massOf he 0·0 d2 o2 ar 0·0 0·0) in
+    he ∷ 0·0 ∷ d2 ∷ o2 ∷ ar ∷ all ∷ 0·0 ∷ 0·0 ∷ 0·0 ∷ f .tinf ∷ temperatureIn a ∷ []

@@ -1,0 +1,180 @@
+// gtd7 below 72.5 km: what gts7 at 72.5 km gives to every altitude there, worked out once, and the row of an altitude.
+ghost use mathlib.Core.Path.{_≡_};
+ghost use Rattle.numbers.specs.Arithmetic.{_‼_};
+ghost use Rattle.numbers.specs.Literals.{72·5};
+ghost use Rattle.species.specs.Places.{spineAt, placeAt, mixesAt, Mixes};
+ghost use Rattle.tables.specs.Tables.{pdmT2};
+ghost use Rattle.footing.specs.Footing.{inUnitsOf, threeOf, standingOf, footingOf, nodesAt, rowBelowOf};
+use lower::Meso;
+use lower::Nodes;
+use lower::dm28m;
+use lower::dmc;
+use lower::full;
+use lower::kilograms;
+use lower::lower_stage;
+use lower::meso_nodes;
+use lower::n2;
+use lower::unset;
+use numbers::pick;
+use places::place::Place;
+use places::place::Spine;
+use places::thinning::Thinning;
+use plan::Levels;
+use profile::unchecked::Shape;
+use profile::unchecked::density_in;
+use profile::unchecked::temperature_in;
+use species::Blend;
+use species::Mixture;
+use species::mixing;
+use species::place_at;
+use species::spine_at;
+use species::turbopause;
+use stages::argon_stage;
+use stages::helium_stage;
+use stages::n2_stage;
+use stages::o2_stage;
+use tables::pdl1;
+use tables::pdm0;
+use tables::pdm1;
+use tables::pdm2;
+use tables::pdm3;
+use tables::pdm4;
+use thermosphere::shape_stage;
+use upper::Site;
+use upper::mass;
+
+// What every altitude below 72.5 km reads of gts7 there: t[0], the mixed density of N2 and d[0], d[2], d[3], d[4] in the units asked for; and
+// the nodes from there down.
+pub struct Footing {
+    pub x: Site,
+    pub tinf: f64,
+    pub dm28m: f64,
+    pub he: f64,
+    pub n2: f64,
+    pub o2: f64,
+    pub ar: f64,
+    pub nodes: Nodes,
+}
+
+// The species at 72.5 km whose share of N2 the altitudes below carry on.
+pub struct Three {
+    pub he: Mixture,
+    pub o2: Mixture,
+    pub ar: Mixture,
+}
+
+// s is the spine of h, p the place of 72.5 km, t thins out what is mixed there.
+pub fn three_of(
+    sw: [f64; 24],
+    h: Shape,
+    s: Spine,
+    p: Place,
+    t: Thinning,
+    b28: f64,
+    flux: f64,
+    l: Levels,
+) -> Three
+    requires { ⌜ (s ≡ spineAt h) × (p ≡ placeAt h 72·5) × Mixes (mixesAt (sw ‼ 15) 72·5) p (pdmT2 ‼ 4) t ⌝ }
+    ensures { λ r. ⌜ r ≡ threeOf sw h b28 flux l ⌝ }
+{
+    let m = pdm2();
+    let d = pdl1();
+    let m0 = pdm0();
+    let m1 = pdm1();
+    let zhm = m[3] * d[5];
+    let xmm = m[4];
+    let on = sw[15] != 0.0;
+    let w = turbopause(h, s, on & (72.5 < 200.0), m0[2], p);
+    let he = helium_stage(sw, h, 72.5, p, w, t, b28, zhm, xmm, l);
+    let y = turbopause(h, s, on & (72.5 <= 450.0), m1[2], p);
+    let o2 = o2_stage(sw, h, 72.5, p, y, t, b28, zhm, xmm, flux, l);
+    let ar = argon_stage(sw, h, 72.5, p, y, t, b28, zhm, xmm, l);
+    Three {
+        he: he,
+        o2: o2,
+        ar: ar,
+    }
+}
+
+// A density in the units asked for.
+pub fn in_units(sw0: f64, d: f64) -> f64
+    ensures { λ r. ⌜ r ≡ inUnitsOf sw0 d ⌝ }
+{
+    pick(sw0 != 0.0, d * 1.0E6, d)
+}
+
+pub fn standing(sw0: f64, x: Site, h: Shape, b: Blend, y: Three, w: Nodes) -> Footing
+    ensures { λ r. ⌜ r ≡ standingOf sw0 x h b y w ⌝ }
+{
+    let a = y.he;
+    let c = y.o2;
+    let e = y.ar;
+    let d = dm28m(sw0, b.dm);
+    let he = in_units(sw0, a.dens);
+    let n2 = in_units(sw0, b.dens);
+    let o2 = in_units(sw0, c.dens);
+    let ar = in_units(sw0, e.dens);
+    Footing {
+        x: x,
+        tinf: h.tinf,
+        dm28m: d,
+        he: he,
+        n2: n2,
+        o2: o2,
+        ar: ar,
+        nodes: w,
+    }
+}
+
+// The nodes of the troposphere are set where they are asked for.
+pub fn footing_of(sw: [f64; 24], x: Site, l: Levels, tropo: bool) -> Footing
+    ensures { λ r. ⌜ r ≡ footingOf sw x l tropo ⌝ }
+{
+    let h = shape_stage(sw, x, 72.5, l);
+    let s = spine_at(h);
+    let p = place_at(h, s, 72.5);
+    let m = pdm2();
+    let v = place_at(h, s, m[2] * x.zhf);
+    let t = mixing((sw[15] != 0.0) & (72.5 <= 450.0), p, m[4]);
+    let b = n2_stage(sw, h, 72.5, p, v, t, x.zhf, l);
+    let y = three_of(sw, h, s, p, t, b.b, x.flux, l);
+    let e = meso_nodes(sw, h, l);
+    let z = pick(tropo, 0.0, 32.5);
+    let w = lower_stage(sw, z, e, l);
+    standing(sw[0], x, h, b, y, w)
+}
+
+// The nodes at an altitude: at or above 32.5 km those of the troposphere are not set.
+pub fn nodes_at(f: Footing, alt: f64) -> Nodes
+    ensures { λ r. ⌜ r ≡ nodesAt f alt ⌝ }
+{
+    let w = f.nodes;
+    if alt < 32.5 {
+        return w;
+    }
+    let t = w.tn2;
+    let g = w.tgn2;
+    let m = Meso { tn2: t, tgn2: g };
+    unset(m)
+}
+
+// The eleven numbers at an altitude below 72.5 km; one densm gives density and temperature.
+pub fn row_below(sw0: f64, f: Footing, alt: f64) -> [f64; 11]
+    ensures { λ r. ⌜ r ≡ rowBelowOf sw0 f alt ⌝ }
+{
+    let m0 = pdm0();
+    let m3 = pdm3();
+    let m4 = pdm4();
+    let c = dmc(alt);
+    let w = nodes_at(f, alt);
+    let a = n2(f.x, alt, f.dm28m, w);
+    let n = density_in(a);
+    let t1 = temperature_in(a);
+    let d2 = n * (1.0 + (f.n2 / f.dm28m - 1.0) * c);
+    let he = full(d2, m0[1], f.he, f.n2, c);
+    let o2 = full(d2, m3[1], f.o2, f.n2, c);
+    let ar = full(d2, m4[1], f.ar, f.n2, c);
+    let g = mass(he, 0.0, d2, o2, ar, 0.0, 0.0);
+    let all = kilograms(sw0, g);
+    [he, 0.0, d2, o2, ar, all, 0.0, 0.0, 0.0, f.tinf, t1]
+}
