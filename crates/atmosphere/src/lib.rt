@@ -18,15 +18,19 @@ use plan::Levels;
 use setting::Input;
 use setting::views::view_of;
 use thermosphere::gts7_stage;
+use unmixed::unmixed_row;
 use upper::Site;
 use upper::site_of;
 
-// The eleven numbers at or above 72.5 km: gts7's.
+// The eleven numbers at or above 72.5 km: gts7's; above 450 km, or where switch 15 is off, nothing is mixed.
 pub fn row_above(sw: [f64; 24], x: Site, l: Levels, alt: f64) -> [f64; 11]
     requires { ⌜ le 72·5 alt ≡ true ⌝ }
     ensures { λ r. ⌜ r ≡ elevenFrom sw x l alt ⌝ }
 {
     let altt = pick(alt > 72.5, alt, 72.5);
+    if !((sw[15] != 0.0) & (altt <= 450.0)) {
+        return unmixed_row(sw, x, altt, l);
+    }
     let u = gts7_stage(sw, x, altt, l);
     let b = above(u);
     let row = b.row;
