@@ -16,12 +16,11 @@ use Rattle.levels.specs.declared.Need.{Need}
 use Rattle.levels.specs.Levels.{needAt, levelsOf}
 use Rattle.upper.specs.declared.Site.{Site}
 use Rattle.upper.specs.Upper.{siteOf}
-use Rattle.lower.specs.declared.Whole.{Whole}
 use Rattle.acceptance.specs.declared.Answer.{Answer}
 use Rattle.acceptance.specs.declared.Answer.the-variants.{Refused}
 use Rattle.acceptance.specs.Acceptance.{acceptedOf}
-use Rattle.atmosphere.specs.Atmosphere.{elevenFrom, elevenAtOf, elevenOf, answerOf, rowAfter}
-use Rattle.atmosphere.specs.Answers.{gtd7-told}
+use Rattle.atmosphere.specs.Atmosphere.{elevenFrom, elevenOf, answerOf, rowAfter}
+use Rattle.atmosphere.specs.Answers.{eleven-told}
 
 -- an accepted answer passed the first test
 first-passed : (b : Bool) (a : Answer) → acceptedOf (cond (not b) (Refused 4 11) a) ≡ true → b ≡ true
@@ -51,8 +50,8 @@ pub row-of-law : (w : List ℤ) (n : Input) (row : List Float) (l : Levels) (a :
     → x ≡ siteOf (v .sw) (n .«g_lat») (v .doy) (n .f107a)
     → v ≡ viewOf w n
     → row ≡ elevenOf w n
-unfolding elevenFrom elevenOf elevenAtOf
+unfolding elevenOf
 row-of-law w n row l a x v e0 e1 e2 e3 e4 =
     rw (e1, e2) at e0
-    ∙ ap (λ (b : Whole). b .row) (sym (gtd7-told v x (n .alt)))
+    ∙ sym (eleven-told v x (n .alt))
     ∙ rw (e3, e4)

@@ -19,7 +19,7 @@ use Rattle.tables.specs.Tables.{ptT, psT, pdT0, pdT1, pdT2, pdT3, pdT4, pdT5, p
 use Rattle.plan.specs.Fields.{Fields, fieldsOf, withFields}
 use Rattle.plan.specs.Plan.{Plan, done, ask, keep, either, _>>=_, Ask, one-plus-globe7, exp-globe7, one-plus-glob7s, one-minus-glob7s, onePlusGlobe7Of, expGlobe7Of, onePlusGlob7sOf, oneMinusGlob7sOf, answer, run, Ran, ends, told, kept, stepped, given, wideIn, narrowIn}
 use Rattle.levels.specs.declared.Need.{Need}
-use Rattle.levels.specs.Levels.{legendreIn, quietOf, activeOf, wideOf, warmOf, lightOf, heavyOf, nodesIn, nodesOf, mesoIn, mesoOf, tropoIn, tropoOf, needAt, levelsOf}
+use Rattle.levels.specs.Levels.{legendreIn, quietOf, activeOf, wideOf, warmOf, lightOf, heavyOf, highIn, highOf, nodesIn, nodesOf, mesoIn, mesoOf, tropoIn, tropoOf, needAt, withHigh, levelsOf}
 use Rattle.levels.specs.Settled.{Settled, fresh-settled, after-settled, globe7-first, globe7-second, glob7s-first, glob7s-second, Kept, kept-done, kept-ask, kept-keep, kept-then, kept-either}
 use Rattle.profile.specs.declared.unchecked.Shape.{Shape}
 use Rattle.upper.specs.declared.Site.{Site}
@@ -28,10 +28,15 @@ use Rattle.stages.specs.Stages.{tinfPlan, gradientPlan, tlbPlan, nodesPlan, sha
 use Rattle.lower.specs.declared.Meso.{Meso}
 use Rattle.lower.specs.declared.Whole.{Whole}
 use Rattle.lower.specs.Lower.{mesoNodesPlan, mesoPlan, lowerPlan}
-use Rattle.atmosphere.specs.Atmosphere.{gtd7Plan}
+use Rattle.footing.specs.declared.Footing.{Footing}
+use Rattle.footing.specs.Footing.{rowBelowOf}
+use Rattle.footing.specs.Same.{Same, footing-same}
+use Rattle.atmosphere.specs.Atmosphere.{gtd7Plan, elevenFrom, elevenAtOf}
+use Rattle.atmosphere.specs.Rows.{eleven-below}
 
 -- the sets that are worked out hold those that an altitude needs
 pub record Covers (n a : Need) : Type 0 where
+  pub high : a .high ≡ true → n .high ≡ true
   pub pt : a .pt ≡ true → n .pt ≡ true
   pub ps : a .ps ≡ true → n .ps ≡ true
   pub nodes : a .nodes ≡ true → n .nodes ≡ true
@@ -39,7 +44,11 @@ pub record Covers (n a : Need) : Type 0 where
   pub tropo : a .tropo ≡ true → n .tropo ≡ true
 
 pub itself : (a : Need) → Covers a a
-itself a = record { pt = λ e. e; ps = λ e. e; nodes = λ e. e; meso = λ e. e; tropo = λ e. e }
+itself a = record { high = λ e. e; pt = λ e. e; ps = λ e. e; nodes = λ e. e; meso = λ e. e; tropo = λ e. e }
+
+pub highest-covers : (n a : Need) → Covers n a → Covers (withHigh n) a
+unfolding withHigh
+highest-covers n a c = record { high = λ e. refl; pt = c .pt; ps = c .ps; nodes = c .nodes; meso = c .meso; tropo = c .tropo }
 
 not-of-false : {b : Bool} → b ≡ false → not b ≡ true
 not-of-false e = ap not e
@@ -85,7 +94,11 @@ same-globe7 : (v : View) (p : List Float) (s : State) → afterOf v p s ≡ afte
 unfolding globe7Of
 same-globe7 v p s e = cc e
 
-module _ (v : View) (n : Need) where
+-- gts7 asks for O, H, N and anomalous O at every altitude
+module _ (v : View) (n : Need) (hi : n .high ≡ true) where
+  abbrev highest : List Float
+  highest = highIn v (legendreIn v) (quietOf v) (activeOf v pdT7 (quietOf v)) (activeOf v pdT8 (activeOf v pdT7 (quietOf v)))
+
   -- a step that sets fields
   sets : {A : Type 0} {Q : State → Type 0} {u : Fields → Fields} {m : Plan A} {s : State} → Kept v (given (levelsOf v n)) Q m s → Kept v (given (levelsOf v n)) Q (keep u m) s
   sets h = kept-keep v (given (levelsOf v n)) h
@@ -200,8 +213,8 @@ module _ (v : View) (n : Need) where
     helium-kept s e = expo (Settled v) (v .sw ‼ 21) PD0 _ s e refl refl (sets (sets (kept-done v (given (levelsOf v n)) (Settled v) _ _ (after-settled v pdT0 _ refl))))
 
     oxygen-kept : (s : State) → Settled v s → Kept v (given (levelsOf v n)) (Settled v) (oxygenPlan (v .sw) h z zhm xmm flux) s
-    unfolding oxygenPlan _>>=_ levelsOf lightOf
-    oxygen-kept s e = expo (Settled v) (v .sw ‼ 21) PD1 _ s e refl refl (sets (sets (kept-done v (given (levelsOf v n)) (Settled v) _ _ (after-settled v pdT1 _ refl))))
+    unfolding oxygenPlan _>>=_ levelsOf highOf
+    oxygen-kept s e = expo (Settled v) (v .sw ‼ 21) PD1 _ s e refl (needed (n .high) (replicate 4 0·0) highest 0 hi) (sets (sets (kept-done v (given (levelsOf v n)) (Settled v) _ _ (after-settled v pdT1 _ refl))))
 
     o2-kept : (s : State) → Settled v s → Kept v (given (levelsOf v n)) (Settled v) (o2Plan (v .sw) h z b28 zhm xmm flux) s
     unfolding o2Plan _>>=_ levelsOf heavyOf
@@ -212,12 +225,12 @@ module _ (v : View) (n : Need) where
     argon-kept s e = expo (Settled v) (v .sw ‼ 21) PD5 _ s e refl refl (sets (sets (kept-done v (given (levelsOf v n)) (Settled v) _ _ (after-settled v pdT5 _ refl))))
 
     hydrogen-kept : (s : State) → Settled v s → Kept v (given (levelsOf v n)) (Settled v) (hydrogenPlan (v .sw) h z b28 zhm xmm) s
-    unfolding hydrogenPlan _>>=_ levelsOf heavyOf
-    hydrogen-kept s e = expo (Settled v) (v .sw ‼ 21) PD6 _ s e refl refl (sets (sets (kept-done v (given (levelsOf v n)) (Settled v) _ _ (after-settled v pdT6 _ refl))))
+    unfolding hydrogenPlan _>>=_ levelsOf highOf
+    hydrogen-kept s e = expo (Settled v) (v .sw ‼ 21) PD6 _ s e refl (needed (n .high) (replicate 4 0·0) highest 1 hi) (sets (sets (kept-done v (given (levelsOf v n)) (Settled v) _ _ (after-settled v pdT6 _ refl))))
 
     nitrogen-kept : (s : State) → Settled v s → Kept v (given (levelsOf v n)) After7 (nitrogenPlan (v .sw) h z b28 zhm xmm) s
-    unfolding nitrogenPlan _>>=_ levelsOf wideOf
-    nitrogen-kept s e = expo After7 (v .sw ‼ 21) PD7 _ s e refl refl (sets (sets (kept-done v (given (levelsOf v n)) After7 _ _ refl)))
+    unfolding nitrogenPlan _>>=_ levelsOf highOf wideOf
+    nitrogen-kept s e = expo After7 (v .sw ‼ 21) PD7 _ s e refl (needed (n .high) (replicate 4 0·0) highest 2 hi) (sets (sets (kept-done v (given (levelsOf v n)) After7 _ _ refl)))
 
   species-kept : (h : Shape) (z b28 flux : Float) (s : State) → Settled v s → Kept v (given (levelsOf v n)) After7 (speciesPlan (v .sw) h z b28 flux) s
   unfolding speciesPlan
@@ -237,10 +250,10 @@ module _ (v : View) (n : Need) where
   After8 t = t ≡ afterOf v pdT8 (afterOf v pdT7 freshOf)
 
   hot-kept : (h : Shape) (z : Float) (s : State) → After7 s → Kept v (given (levelsOf v n)) After8 (hotPlan (v .sw) h z) s
-  unfolding hotPlan _>>=_ answer expGlobe7Of globe7Of levelsOf
+  unfolding hotPlan _>>=_ answer expGlobe7Of globe7Of levelsOf highOf
   hot-kept h z s e =
       kept-ask v (given (levelsOf v n)) After8 (exp-globe7 (v .sw ‼ 21) PD8) _ s (afterOf v pdT8 (afterOf v pdT7 freshOf))
-      (ap (λ (t : State). expOf (v .sw ‼ 21 ⊗ (globe7Of v pdT8 t) .value)) e ∙ ap (λ (y : Float). expOf (v .sw ‼ 21 ⊗ y)) (globe7-second v pdT7 pdT8))
+      (ap (λ (t : State). expOf (v .sw ‼ 21 ⊗ (globe7Of v pdT8 t) .value)) e ∙ ap (λ (y : Float). expOf (v .sw ‼ 21 ⊗ y)) (globe7-second v pdT7 pdT8 ∙ needed (n .high) (replicate 4 0·0) highest 3 hi))
       (ap (afterOf v pdT8) e)
       (sets (kept-done v (given (levelsOf v n)) After8 _ _ refl))
 
@@ -295,27 +308,71 @@ module _ (v : View) (n : Need) where
       (λ s2 e2. kept-then v (given (levelsOf v n)) After8 After8 (lowerPlan (v .sw) alt _) _ s2 (lower-kept alt (c .tropo) _ s2 e2)
       (λ s3 e3. sets (kept-done v (given (levelsOf v n)) After8 _ s3 e3))))))
 
--- From a fresh State gtd7 gives what it makes of the Levels that hold what its altitude needs, and leaves what PD[7] and PD[8] leave, with the
--- fields that its steps set
-pub gtd7-runs : (v : View) (n : Need) (x : Site) (alt : Float) → Covers n (needAt alt)
+-- From a fresh State gtd7 gives what it makes of the Levels that hold what its altitude needs and those of O, H, N and anomalous O, and leaves
+-- what PD[7] and PD[8] leave, with the fields that its steps set
+pub gtd7-runs : (v : View) (n : Need) (x : Site) (alt : Float) → n .high ≡ true → Covers n (needAt alt)
     → run v (gtd7Plan (v .sw) x alt) freshOf ≡ stepped (given (levelsOf v n)) (gtd7Plan (v .sw) x alt) (afterOf v pdT8 (afterOf v pdT7 freshOf))
 unfolding stepped afterOf
-gtd7-runs v n x alt c =
+gtd7-runs v n x alt hi c =
     let g = given (levelsOf v n) in
-    let k = gtd7-kept v n x alt c in
+    let k = gtd7-kept v n hi x alt c in
     k .ran (fieldsOf freshOf)
     ∙ ap (λ (t : State). ends (told g (gtd7Plan (v .sw) x alt)) (withFields t (kept g (gtd7Plan (v .sw) x alt) (fieldsOf freshOf)))) (k .fits)
 
-pub gtd7-covered : (v : View) (n : Need) (x : Site) (alt : Float) → Covers n (needAt alt)
-    → (run v (gtd7Plan (v .sw) x alt) freshOf) .result ≡ told (given (levelsOf v n)) (gtd7Plan (v .sw) x alt)
-unfolding stepped
-gtd7-covered v n x alt c = ap (λ (r : Ran Whole). r .result) (gtd7-runs v n x alt c)
-
-pub gtd7-told : (v : View) (x : Site) (alt : Float)
-    → (run v (gtd7Plan (v .sw) x alt) freshOf) .result ≡ told (given (levelsOf v (needAt alt))) (gtd7Plan (v .sw) x alt)
-gtd7-told v x alt = gtd7-covered v (needAt alt) x alt (itself (needAt alt))
-
--- The State that gtd7 leaves, with the result
+-- the State that gtd7 leaves, with the result
 pub gtd7-left : (v : View) (x : Site) (alt : Float)
-    → run v (gtd7Plan (v .sw) x alt) freshOf ≡ stepped (given (levelsOf v (needAt alt))) (gtd7Plan (v .sw) x alt) (afterOf v pdT8 (afterOf v pdT7 freshOf))
-gtd7-left v x alt = gtd7-runs v (needAt alt) x alt (itself (needAt alt))
+    → run v (gtd7Plan (v .sw) x alt) freshOf
+    ≡ stepped (given (levelsOf v (withHigh (needAt alt)))) (gtd7Plan (v .sw) x alt) (afterOf v pdT8 (afterOf v pdT7 freshOf))
+unfolding withHigh
+gtd7-left v x alt = gtd7-runs v (withHigh (needAt alt)) x alt refl (highest-covers (needAt alt) (needAt alt) (itself (needAt alt)))
+
+-- ---- the eleven numbers; below 72.5 km they do not depend on O, H, N and anomalous O
+
+four-apart : (v : View) (n : Need) → Same (levelsOf v n) (levelsOf v (withHigh n))
+unfolding levelsOf withHigh warmOf
+four-apart v n =
+    record {
+      pt = refl;
+      ps = refl;
+      pd0 = refl;
+      pd2 = refl;
+      pd3 = refl;
+      pd4 = refl;
+      pd5 = refl;
+      ptl0 = refl;
+      ptl1 = refl;
+      ptl2 = refl;
+      ptl3 = refl;
+      pma0 = refl;
+      pma1 = refl;
+      pma2 = refl;
+      pma3 = refl;
+      pma4 = refl;
+      pma5 = refl;
+      pma6 = refl;
+      pma7 = refl;
+      pma8 = refl;
+      pma9 = refl;
+    }
+
+eleven-by : (v : View) (n : Need) (x : Site) (alt : Float) → n .high ≡ true → Covers n (needAt alt) → elevenAtOf v x alt ≡ elevenFrom (v .sw) x (levelsOf v n) alt
+unfolding elevenAtOf elevenFrom stepped
+eleven-by v n x alt hi c = ap (λ (r : Ran Whole). r .result .row) (gtd7-runs v n x alt hi c)
+
+eleven-there : (v : View) (n : Need) (x : Site) (alt : Float) (b : Bool) → le 72·5 alt ≡ b → (b ≡ true → n .high ≡ true) → Covers n (needAt alt)
+    → elevenAtOf v x alt ≡ elevenFrom (v .sw) x (levelsOf v n) alt
+unfolding withHigh
+eleven-there v n x alt true t h c = eleven-by v n x alt (h refl) c
+eleven-there v n x alt false t h c =
+    eleven-by v (withHigh n) x alt refl (highest-covers n (needAt alt) c)
+    ∙ sym (eleven-below (v .sw) x (levelsOf v (withHigh n)) alt true _ _ refl refl (λ e. refl) t)
+    ∙ ap (λ (f : Footing). rowBelowOf (v .sw ‼ 0) f alt) (sym (footing-same (levelsOf v n) (levelsOf v (withHigh n)) (four-apart v n) (v .sw) x true))
+    ∙ eleven-below (v .sw) x (levelsOf v n) alt true _ _ refl refl (λ e. refl) t
+
+-- From a fresh State gtd7 gives the eleven numbers that it makes of the Levels that hold what its altitude needs
+pub eleven-covered : (v : View) (n : Need) (x : Site) (alt : Float) → Covers n (needAt alt) → elevenAtOf v x alt ≡ elevenFrom (v .sw) x (levelsOf v n) alt
+unfolding needAt
+eleven-covered v n x alt c = eleven-there v n x alt (le 72·5 alt) refl (c .high) c
+
+pub eleven-told : (v : View) (x : Site) (alt : Float) → elevenAtOf v x alt ≡ elevenFrom (v .sw) x (levelsOf v (needAt alt)) alt
+eleven-told v x alt = eleven-covered v (needAt alt) x alt (itself (needAt alt))

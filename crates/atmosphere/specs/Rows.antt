@@ -79,6 +79,10 @@ not-above : (x y : Float) → le x y ≡ false → lt x y ≡ false
 unfolding le
 not-above x y e = neither (lt x y) (eq x y) e
 
+-- f is the footing of an altitude, where it lies below 72.5 km; below 32.5 km with the nodes of the troposphere
+abbrev pub Founded : List Float → Site → Levels → Footing → Float → Type 0
+Founded sw x l f alt = le 72·5 alt ≡ false → (tropo : Bool) × (f ≡ footingOf sw x l tropo) × (lt alt 32·5 ≡ true → tropo ≡ true)
+
 pub eleven-below : (sw : List Float) (x : Site) (l : Levels) (alt : Float) (tropo : Bool) (f : Footing) (row : List Float)
     → row ≡ rowBelowOf (sw ‼ 0) f alt
     → f ≡ footingOf sw x l tropo

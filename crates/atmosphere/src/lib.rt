@@ -5,9 +5,11 @@ ghost use mathlib.Core.Bool.{true};
 ghost use lib.Ieee.{le};
 ghost use Rattle.numbers.specs.Literals.{72·5};
 ghost use Rattle.atmosphere.specs.Atmosphere.{elevenFrom, elevenOf, answerOf, rowAfter};
+ghost use Rattle.atmosphere.specs.Rows.{Founded};
 use acceptance::Answer;
 use acceptance::accepted;
 use acceptance::judge;
+use footing::Footing;
 use footing::footing_of;
 use footing::row_below;
 use levels::levels_of;
@@ -48,6 +50,17 @@ pub fn eleven(sw: [f64; 24], x: Site, l: Levels, alt: f64) -> [f64; 11]
     row_below(sw[0], f, alt)
 }
 
+// The same with its footing at hand.
+pub fn eleven_on(sw: [f64; 24], x: Site, l: Levels, f: Footing, alt: f64) -> [f64; 11]
+    requires { ⌜ Founded sw x l f alt ⌝ }
+    ensures { λ r. ⌜ r ≡ elevenFrom sw x l alt ⌝ }
+{
+    if alt >= 72.5 {
+        return row_above(sw, x, l, alt);
+    }
+    row_below(sw[0], f, alt)
+}
+
 // The eleven numbers into a row of eleven.
 pub fn put(out: &mut [f64], v: [f64; 11])
     requires { ⌜ length (now out) ≡ 11 ⌝ }
@@ -60,12 +73,21 @@ pub fn put(out: &mut [f64], v: [f64; 11])
     }
 }
 
-// The eleven numbers at an altitude into a lent row, from what was worked out before; the one-altitude call and the column fill their rows by it.
+// The eleven numbers at an altitude into a lent row, from what was worked out before.
 pub fn row_at(sw: [f64; 24], x: Site, l: Levels, alt: f64, out: &mut [f64])
     requires { ⌜ length (now out) ≡ 11 ⌝ }
     ensures { λ _. ⌜ now (out .exit) ≡ elevenFrom sw x l alt ⌝ }
 {
     let row = eleven(sw, x, l, alt);
+    put(out, row);
+}
+
+// The same with its footing at hand, as the column has it.
+pub fn row_on(sw: [f64; 24], x: Site, l: Levels, f: Footing, alt: f64, out: &mut [f64])
+    requires { ⌜ (length (now out) ≡ 11) × Founded sw x l f alt ⌝ }
+    ensures { λ _. ⌜ now (out .exit) ≡ elevenFrom sw x l alt ⌝ }
+{
+    let row = eleven_on(sw, x, l, f, alt);
     put(out, row);
 }
 

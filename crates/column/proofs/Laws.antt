@@ -2,8 +2,9 @@
 use mathlib.Core.Path.{_≡_, refl, sym, ap, ap₂, _∙_}
 use mathlib.Core.Bool.{Bool, true, false, cond, not, _||_, false≢true}
 use mathlib.Core.List.{List, [], _∷_, _++_, append-assoc, append-nil}
-use Prim.Native.Nat.{ℕ, suc, _+_, _*_, _-_, _<_, _≤_}
+use Prim.Native.Nat.{ℕ, zero, suc, _+_, _*_, _-_, _<_, _≤_}
 use native.Mathlib.Numerals.{add-one}
+use native.Mathlib.Nat.{not-suc-le-zero}
 use native.Mathlib.Omega.{arith}
 use borrow.Author.Tests.{lt-ltb, le-ltb}
 use borrow.Rule.Slice.PartMut.{putMid}
@@ -24,9 +25,12 @@ use Rattle.acceptance.specs.Acceptance.{withinOf, judgedOf, acceptedOf, withAlt
 use Rattle.plan.specs.declared.Levels.{Levels}
 use Rattle.levels.specs.declared.Need.{Need}
 use Rattle.levels.specs.Levels.{needAt, bothOf, levelsOf}
-use Rattle.lower.specs.declared.Whole.{Whole}
-use Rattle.atmosphere.specs.Atmosphere.{elevenFrom, elevenAtOf, elevenOf}
-use Rattle.atmosphere.specs.Answers.{Covers, itself, gtd7-covered}
+use Rattle.footing.specs.declared.Footing.{Footing}
+use Rattle.footing.specs.Footing.{footingOf}
+use Rattle.atmosphere.specs.Atmosphere.{elevenFrom, elevenOf}
+use Rattle.atmosphere.specs.Rows.{Founded}
+use Rattle.atmosphere.specs.Answers.{Covers, itself, eleven-covered}
+use Rattle.column.specs.Needs.{FoundedAll}
 use Rattle.column.specs.Column.{altitudesFrom, afterRecord, columnAnswer, noneOf, needsFrom, rowsAt, columnRows, columnAfter}
 
 -- ---- the altitudes
@@ -80,6 +84,7 @@ first-of : (n a b : Need) → Covers n (bothOf a b) → Covers n a
 unfolding bothOf
 first-of n a b c =
     record {
+      high = λ e. c .high (or-l (a .high) (b .high) e);
       pt = λ e. c .pt (or-l (a .pt) (b .pt) e);
       ps = λ e. c .ps (or-l (a .ps) (b .ps) e);
       nodes = λ e. c .nodes (or-l (a .nodes) (b .nodes) e);
@@ -91,6 +96,7 @@ second-of : (n a b : Need) → Covers n (bothOf a b) → Covers n b
 unfolding bothOf
 second-of n a b c =
     record {
+      high = λ e. c .high (or-r (a .high) (b .high) e);
       pt = λ e. c .pt (or-r (a .pt) (b .pt) e);
       ps = λ e. c .ps (or-r (a .ps) (b .ps) e);
       nodes = λ e. c .nodes (or-r (a .nodes) (b .nodes) e);
@@ -103,6 +109,21 @@ first-covered : (m : Need) (alts : List Float) → Covers (needsFrom m alts) m
 unfolding needsFrom
 first-covered m [] = itself m
 first-covered m (z ∷ zs) = first-of _ m (needAt z) (first-covered (bothOf m (needAt z)) zs)
+
+-- the sets that the altitudes need hold those of each
+each-covered : (m : Need) (alts : List Float) (k : ℕ) → k < length alts → Covers (needsFrom m alts) (needAt (getD alts k nan))
+unfolding needsFrom
+each-covered m [] k h = absurd (not-suc-le-zero h)
+each-covered m (z ∷ zs) zero h = second-of _ m (needAt z) (first-covered (bothOf m (needAt z)) zs)
+each-covered m (z ∷ zs) (suc k) h = each-covered (bothOf m (needAt z)) zs k (omega (arith, h))
+
+founded : (sw : List Float) (x : Site) (l : Levels) (a : Need) (f : Footing) (z : Float) → Covers a (needAt z) → (a .meso ≡ true → f ≡ footingOf sw x l (a .tropo)) → Founded sw x l f z
+unfolding needAt
+founded sw x l a f z c h = λ t. (a .tropo, h (c .meso (ap not t)), c .tropo)
+
+pub founded-all : (sw : List Float) (x : Site) (l : Levels) (a : Need) (f : Footing) (alts : List Float) → a ≡ needsFrom noneOf alts
+    → (a .meso ≡ true → f ≡ footingOf sw x l (a .tropo)) → FoundedAll sw x l f alts
+founded-all sw x l a f alts e h = λ k i. founded sw x l a f (getD alts k nan) (rw e (each-covered noneOf alts k i)) h
 
 -- ---- the rows
 
@@ -141,10 +162,10 @@ module _ (sw : List Float) (x : Site) (l : Levels) where
 -- nothing of the View and the Site depends on the record's own altitude
 row-is : (w : List ℤ) (n : Input) (m : Need) (z : Float) → Covers m (needAt z)
     → elevenFrom ((viewOf w n) .sw) (siteOf ((viewOf w n) .sw) (n .«g_lat») ((viewOf w n) .doy) (n .f107a)) (levelsOf (viewOf w n) m) z ≡ elevenOf w (withAltOf n z)
-unfolding elevenFrom elevenOf elevenAtOf withAltOf viewOf turnedOf
+unfolding elevenOf withAltOf viewOf turnedOf
 row-is w n m z c =
     let v = viewOf w n in
-    sym (ap (λ (r : Whole). r .row) (gtd7-covered v m (siteOf (v .sw) (n .«g_lat») (v .doy) (n .f107a)) z c))
+    sym (eleven-covered v m (siteOf (v .sw) (n .«g_lat») (v .doy) (n .f107a)) z c)
 
 rows-covered : (w : List ℤ) (n : Input) (m : Need) (alts : List Float)
     → rowsAt ((viewOf w n) .sw) (siteOf ((viewOf w n) .sw) (n .«g_lat») ((viewOf w n) .doy) (n .f107a)) (levelsOf (viewOf w n) (needsFrom m alts)) alts ≡ columnRows w n alts

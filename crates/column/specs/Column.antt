@@ -38,7 +38,7 @@ columnAnswer w n alts len =
     (afterRecord (judgedOf w (withAltOf n 0·0)) alts))
 
 unfoldable pub noneOf : Need
-noneOf = record { pt = false; ps = false; nodes = false; meso = false; tropo = false }
+noneOf = record { high = false; pt = false; ps = false; nodes = false; meso = false; tropo = false }
 
 -- the coefficient sets that one of the altitudes needs, or that were needed before
 unfoldable pub needsFrom : Need → List Float → Need

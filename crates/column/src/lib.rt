@@ -4,12 +4,15 @@ ghost use mathlib.Core.List.{_++_};
 ghost use Prim.Native.Nat.{_*_, _≤_};
 ghost use lib.ListN.{length, drop};
 ghost use Rattle.column.specs.Column.{altitudesFrom, columnAnswer, columnAfter, noneOf, needsFrom, rowsAt, columnRows};
+ghost use Rattle.column.specs.Needs.{FoundedAll};
 use acceptance::Answer;
 use acceptance::accepted;
 use acceptance::judge;
 use acceptance::with_alt;
 use acceptance::within;
-use atmosphere::row_at;
+use atmosphere::row_on;
+use footing::Footing;
+use footing::footing_where;
 use levels::Need;
 use levels::both;
 use levels::levels_of;
@@ -63,6 +66,7 @@ pub fn none() -> Need
     ensures { λ r. ⌜ r ≡ noneOf ⌝ }
 {
     Need {
+        high: false,
         pt: false,
         ps: false,
         nodes: false,
@@ -86,8 +90,8 @@ pub fn needs(alts: &[f64]) -> Need
 }
 
 // Each altitude's row into its own part of the buffer.
-pub fn rows_at(sw: [f64; 24], x: Site, l: Levels, alts: &[f64], out: &mut [f64])
-    requires { ⌜ 11 * length (now alts) ≤ length (now out) ⌝ }
+pub fn rows_at(sw: [f64; 24], x: Site, l: Levels, f: Footing, alts: &[f64], out: &mut [f64])
+    requires { ⌜ (11 * length (now alts) ≤ length (now out)) × FoundedAll sw x l f (now alts) ⌝ }
     ensures { λ _. ⌜ now (out .exit) ≡ rowsAt sw x l (now (alts .entry)) ++ drop (11 * length (now (alts .entry))) (now (out .entry)) ⌝ }
 {
     let mut i: usize = 0;
@@ -95,12 +99,12 @@ pub fn rows_at(sw: [f64; 24], x: Site, l: Levels, alts: &[f64], out: &mut [f64])
         let z = alts[i];
         let lo = 11 * i;
         let hi = lo + 11;
-        row_at(sw, x, l, z, &mut out[lo..hi]);
+        row_on(sw, x, l, f, z, &mut out[lo..hi]);
         i += 1;
     }
 }
 
-// The rows of a record; what does not depend on the altitude, the expansions above all, is worked out once.
+// The rows of a record; what does not depend on the altitude, the expansions above all and what gts7 at 72.5 km gives to those below, is worked out once.
 pub fn rows(w: [i32; 24], n: Input, alts: &[f64], out: &mut [f64])
     requires { ⌜ 11 * length (now alts) ≤ length (now out) ⌝ }
     ensures { λ _. ⌜ now (out .exit) ≡ columnRows w n (now (alts .entry)) ++ drop (11 * length (now (alts .entry))) (now (out .entry)) ⌝ }
@@ -110,7 +114,8 @@ pub fn rows(w: [i32; 24], n: Input, alts: &[f64], out: &mut [f64])
     let x = site_of(sw, n.g_lat, v.doy, n.f107a);
     let a = needs(alts);
     let l = levels_of(v, a);
-    rows_at(sw, x, l, alts, out);
+    let f = footing_where(a.meso, sw, x, l, a.tropo);
+    rows_at(sw, x, l, f, alts, out);
 }
 
 // The column call: refused, the buffer as it was; accepted, the rows and the rest of the buffer as it was.

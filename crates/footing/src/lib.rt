@@ -1,5 +1,6 @@
 // gtd7 below 72.5 km: what gts7 at 72.5 km gives to every altitude there, worked out once, and the row of an altitude.
 ghost use mathlib.Core.Path.{_≡_};
+ghost use mathlib.Core.Bool.{true};
 ghost use Rattle.numbers.specs.Arithmetic.{_‼_};
 ghost use Rattle.numbers.specs.Literals.{72·5};
 ghost use Rattle.species.specs.Places.{spineAt, placeAt, mixesAt, Mixes};
@@ -142,6 +143,31 @@ pub fn footing_of(sw: [f64; 24], x: Site, l: Levels, tropo: bool) -> Footing
     let z = pick(tropo, 0.0, 32.5);
     let w = lower_stage(sw, z, e, l);
     standing(sw[0], x, h, b, y, w)
+}
+
+// The same where an altitude below 72.5 km is asked for; elsewhere nothing reads it.
+pub fn footing_where(on: bool, sw: [f64; 24], x: Site, l: Levels, tropo: bool) -> Footing
+    ensures { λ r. ⌜ (on ≡ true → r ≡ footingOf sw x l tropo) ⌝ }
+{
+    if on {
+        return footing_of(sw, x, l, tropo);
+    }
+    let w = Nodes {
+        tn2: [0.0; 4],
+        tgn2: [0.0; 2],
+        tn3: [0.0; 5],
+        tgn3: [0.0; 2],
+    };
+    Footing {
+        x: x,
+        tinf: 0.0,
+        dm28m: 0.0,
+        he: 0.0,
+        n2: 0.0,
+        o2: 0.0,
+        ar: 0.0,
+        nodes: w,
+    }
 }
 
 // The nodes at an altitude: at or above 32.5 km those of the troposphere are not set.

@@ -1,17 +1,19 @@
 -- The Levels from the values of the calls.
-use mathlib.Core.Path.{_≡_, _∙_}
-use mathlib.Core.List.{List}
+use mathlib.Core.Path.{_≡_, ap, _∙_}
+use mathlib.Core.Bool.{Bool, false, not}
+use mathlib.Core.List.{List, [], _∷_}
 use lib.ListN.{replicate}
 use lib.Ieee.{Float}
 use Rattle.numbers.specs.Arithmetic.{_‼_}
 use Rattle.numbers.specs.Literals.{0·0}
 use Rattle.setting.specs.declared.View.{View}
-use Rattle.tables.specs.Tables.{ptT, pdT3, pdT7, pdT8}
+use Rattle.tables.specs.Tables.{ptT, pdT1, pdT3, pdT6, pdT7, pdT8}
 use Rattle.legendre.specs.Legendre.{legendreOf}
 use Rattle.expansion.specs.declared.Carried.{Carried}
+use Rattle.expansion.specs.Expansion.{level7Of}
 use Rattle.plan.specs.declared.Levels.{Levels}
 use Rattle.levels.specs.declared.Need.{Need}
-use Rattle.levels.specs.Levels.{legendreIn, quietOf, activeOf, warmOf, lightOf, heavyOf, lastOf, nodesOf, mesoOf, tropoOf, levelsOf}
+use Rattle.levels.specs.Levels.{legendreIn, quietOf, activeOf, wideOf, warmOf, lightOf, heavyOf, highOf, nodesOf, mesoOf, tropoOf, levelsOf}
 use Rattle.levels.specs.Activities.{activityIn, activeFrom, active-from, over, in-pd3, in-pd7, in-pd8}
 use Rattle.levels.specs.declared.Activity.{Activity}
 
@@ -21,7 +23,7 @@ pub levels-law : (v : View) (n : Need)
     → t ≡ tropoOf v g c8 (n .tropo)
     → m ≡ mesoOf v g c8 (n .meso)
     → a ≡ nodesOf v g c3 (n .nodes)
-    → b ≡ lastOf v g c7 c8
+    → b ≡ highOf v g c c7 c8 (n .high)
     → h ≡ heavyOf v g c
     → l ≡ lightOf v g c
     → w ≡ warmOf v g c c3 n
@@ -39,14 +41,14 @@ pub levels-law : (v : View) (n : Need)
       pt = w ‼ 0;
       ps = w ‼ 1;
       pd0 = l ‼ 0;
-      pd1 = l ‼ 1;
-      pd2 = l ‼ 2;
+      pd1 = b ‼ 0;
+      pd2 = l ‼ 1;
       pd3 = w ‼ 2;
       pd4 = h ‼ 0;
       pd5 = h ‼ 1;
-      pd6 = h ‼ 2;
-      pd7 = b ‼ 0;
-      pd8 = b ‼ 1;
+      pd6 = b ‼ 1;
+      pd7 = b ‼ 2;
+      pd8 = b ‼ 3;
       ptl0 = a ‼ 0;
       ptl1 = a ‼ 1;
       ptl2 = a ‼ 2;
@@ -63,9 +65,24 @@ pub levels-law : (v : View) (n : Need)
       pma9 = m ‼ 3;
     })
     (levelsOf v n)
-unfolding levelsOf legendreIn lastOf
+unfolding levelsOf legendreIn
 levels-law v n t m a b h l w c8 p8 c7 p7 c3 p3 k c g e0 e1 e2 e3 e4 e5 e6 f8 e9 f7 e11 f3 f3p ek e12 e13 =
     let e8 : c8 ≡ activeOf v p8 c7 = f8 ∙ active-from v p8 c7 k (over v k pdT8 p8 (ek ∙ in-pd8 v) e9) in
     let e10 : c7 ≡ activeOf v p7 c = f7 ∙ active-from v p7 c k (over v k pdT7 p7 (ek ∙ in-pd7 v) e11) in
     let e14 : c3 ≡ activeOf v p3 c = f3 ∙ active-from v p3 c k (over v k pdT3 p3 (ek ∙ in-pd3 v) f3p) in
     rw (e0, e1, e2, e3, e4, e5, e6, e8, e9, e10, e11, e14, f3p, e12, e13)
+
+-- a list that is there where it is asked for
+pub high-law : (v : View) (g : List (List Float)) (c c7 c8 : Carried) (on : Bool) (x y z w : Float)
+    → x ≡ wideOf v g c pdT1
+    → y ≡ wideOf v g c pdT6
+    → z ≡ level7Of v pdT7 g c7
+    → w ≡ level7Of v pdT8 g c8
+    → not on ≡ false
+    → x ∷ y ∷ z ∷ w ∷ [] ≡ highOf v g c c7 c8 on
+unfolding highOf
+high-law v g c c7 c8 on x y z w e0 e1 e2 e3 t = rw (e0, e1, e2, e3, t)
+
+-- globe7 over a set that was read
+pub over-set : (v : View) (g : List (List Float)) (c : Carried) (x : Float) (p t : List Float) → x ≡ level7Of v p g c → p ≡ t → x ≡ level7Of v t g c
+over-set v g c x p t e f = e ∙ ap (λ (q : List Float). level7Of v q g c) f

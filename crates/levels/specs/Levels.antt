@@ -1,5 +1,5 @@
 -- The values of the expansions that gtd7 asks for from a fresh State, each worked out once.
-use mathlib.Core.Bool.{Bool, cond, not, _||_}
+use mathlib.Core.Bool.{Bool, true, cond, not, _||_}
 use mathlib.Core.List.{List, [], _∷_}
 use lib.ListN.{replicate}
 use lib.Ieee.{Float, lt, le}
@@ -58,17 +58,21 @@ wideOf v g c p = level7Of v p g (activeOf v p c)
 unfoldable pub warmOf : View → List (List Float) → Carried → Carried → Need → List Float
 warmOf v g c c3 n = cond (n .pt) (wideOf v g c ptT) 0·0 ∷ cond (n .ps) (wideOf v g c psT) 0·0 ∷ level7Of v pdT3 g c3 ∷ []
 
--- PD[0], PD[1], PD[2]
+-- PD[0] and PD[2]
 unfoldable pub lightOf : View → List (List Float) → Carried → List Float
-lightOf v g c = wideOf v g c pdT0 ∷ wideOf v g c pdT1 ∷ wideOf v g c pdT2 ∷ []
+lightOf v g c = wideOf v g c pdT0 ∷ wideOf v g c pdT2 ∷ []
 
--- PD[4], PD[5], PD[6]
+-- PD[4] and PD[5]
 unfoldable pub heavyOf : View → List (List Float) → Carried → List Float
-heavyOf v g c = wideOf v g c pdT4 ∷ wideOf v g c pdT5 ∷ wideOf v g c pdT6 ∷ []
+heavyOf v g c = wideOf v g c pdT4 ∷ wideOf v g c pdT5 ∷ []
 
--- PD[7] and PD[8], whose activities are c7 and c8
-unfoldable pub lastOf : View → List (List Float) → Carried → Carried → List Float
-lastOf v g c7 c8 = level7Of v pdT7 g c7 ∷ level7Of v pdT8 g c8 ∷ []
+-- PD[1], PD[6], PD[7] and PD[8], the activities of the last two c7 and c8
+abbrev pub highIn : View → List (List Float) → Carried → Carried → Carried → List Float
+highIn v g c c7 c8 = wideOf v g c pdT1 ∷ wideOf v g c pdT6 ∷ level7Of v pdT7 g c7 ∷ level7Of v pdT8 g c8 ∷ []
+
+-- the same where O, H, N and anomalous O count
+unfoldable pub highOf : View → List (List Float) → Carried → Carried → Carried → Bool → List Float
+highOf v g c c7 c8 on = cond (not on) (replicate 4 0·0) (highIn v g c c7 c8)
 
 -- PTL and PMA[8]
 abbrev pub nodesIn : View → List (List Float) → Carried → List Float
@@ -98,12 +102,16 @@ tropoOf v g c on = cond (not on) (replicate 5 0·0) (tropoIn v g c)
 unfoldable pub needAt : Float → Need
 needAt alt =
     let z = cond (lt 72·5 alt) alt 72·5 in
-    record { pt = lt (pdlT1 ‼ 15) z; ps = lt 72·5 z; nodes = lt z 300·0; meso = not (le 72·5 alt); tropo = lt alt 32·5 }
+    record { high = le 72·5 alt; pt = lt (pdlT1 ‼ 15) z; ps = lt 72·5 z; nodes = lt z 300·0; meso = not (le 72·5 alt); tropo = lt alt 32·5 }
 
 -- which sets one or the other needs
 unfoldable pub bothOf : Need → Need → Need
 bothOf a b =
-    record { pt = a .pt || b .pt; ps = a .ps || b .ps; nodes = a .nodes || b .nodes; meso = a .meso || b .meso; tropo = a .tropo || b .tropo }
+    record { high = a .high || b .high; pt = a .pt || b .pt; ps = a .ps || b .ps; nodes = a .nodes || b .nodes; meso = a .meso || b .meso; tropo = a .tropo || b .tropo }
+
+-- the same with those of O, H, N and anomalous O, which gts7 asks for at every altitude
+unfoldable pub withHigh : Need → Need
+withHigh a = record { high = true; pt = a .pt; ps = a .ps; nodes = a .nodes; meso = a .meso; tropo = a .tropo }
 
 -- the values that are needed, from a fresh State: the nodes of the lower thermosphere are asked for after PD[3], the lower ones after PD[7]
 -- and PD[8]; a value that is not needed is 0
@@ -117,6 +125,7 @@ levelsOf v n =
     let w = warmOf v g c c3 n in
     let l = lightOf v g c in
     let h = heavyOf v g c in
+    let b = highOf v g c c7 c8 (n .high) in
     let a = nodesOf v g c3 (n .nodes) in
     let m = mesoOf v g c8 (n .meso) in
     let t = tropoOf v g c8 (n .tropo) in
@@ -124,14 +133,14 @@ levelsOf v n =
       pt = w ‼ 0;
       ps = w ‼ 1;
       pd0 = l ‼ 0;
-      pd1 = l ‼ 1;
-      pd2 = l ‼ 2;
+      pd1 = b ‼ 0;
+      pd2 = l ‼ 1;
       pd3 = w ‼ 2;
       pd4 = h ‼ 0;
       pd5 = h ‼ 1;
-      pd6 = h ‼ 2;
-      pd7 = level7Of v pdT7 g c7;
-      pd8 = level7Of v pdT8 g c8;
+      pd6 = b ‼ 1;
+      pd7 = b ‼ 2;
+      pd8 = b ‼ 3;
       ptl0 = a ‼ 0;
       ptl1 = a ‼ 1;
       ptl2 = a ‼ 2;

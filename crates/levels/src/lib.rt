@@ -7,7 +7,7 @@ ghost use Rattle.numbers.specs.Literals.{0·0};
 ghost use Rattle.tables.specs.Tables.{ptT, psT, pdT0, pdT1};
 ghost use Rattle.setting.specs.Shared.{Shared};
 ghost use Rattle.levels.specs.Activities.{activityOf, activityIn, activeFrom};
-ghost use Rattle.levels.specs.Levels.{quietOf, wideOf, warmOf, lightOf, heavyOf, lastOf, nodesOf, mesoOf, tropoOf, needAt, bothOf, levelsOf};
+ghost use Rattle.levels.specs.Levels.{quietOf, wideOf, warmOf, lightOf, heavyOf, highOf, nodesOf, mesoOf, tropoOf, needAt, bothOf, withHigh, levelsOf};
 use activity::Responses;
 use activity::apdf_from;
 use activity::apt_from;
@@ -48,8 +48,10 @@ use tables::ptl1;
 use tables::ptl2;
 use tables::ptl3;
 
-// Which sets are needed: PT, PS, those of the nodes of the lower thermosphere, of the mesosphere, of the troposphere. The others always are.
+// Which sets are needed: those of O, H, N and anomalous O, PT, PS, those of the nodes of the lower thermosphere, of the mesosphere, of the troposphere.
+// The others always are.
 pub struct Need {
+    pub high: bool,
     pub pt: bool,
     pub ps: bool,
     pub nodes: bool,
@@ -64,6 +66,7 @@ pub fn need_at(alt: f64) -> Need
     let z = pick(alt > 72.5, alt, 72.5);
     let l = pdl1();
     Need {
+        high: alt >= 72.5,
         pt: z > l[15],
         ps: z > 72.5,
         nodes: z < 300.0,
@@ -77,11 +80,26 @@ pub fn both(a: Need, b: Need) -> Need
     ensures { λ r. ⌜ r ≡ bothOf a b ⌝ }
 {
     Need {
+        high: a.high | b.high,
         pt: a.pt | b.pt,
         ps: a.ps | b.ps,
         nodes: a.nodes | b.nodes,
         meso: a.meso | b.meso,
         tropo: a.tropo | b.tropo,
+    }
+}
+
+// The same with those of O, H, N and anomalous O, which gts7 asks for at every altitude.
+pub fn with_high(a: Need) -> Need
+    ensures { λ r. ⌜ r ≡ withHigh a ⌝ }
+{
+    Need {
+        high: true,
+        pt: a.pt,
+        ps: a.ps,
+        nodes: a.nodes,
+        meso: a.meso,
+        tropo: a.tropo,
     }
 }
 
@@ -219,30 +237,25 @@ pub fn warm(v: View, g: [[f64; 9]; 4], c: Carried, a: Activity, c3: Carried, n: 
 
 // A local for all sets of a function: one table at a time lies on the stack.
 
-// PD[0], PD[1], PD[2].
-pub fn light(v: View, g: [[f64; 9]; 4], c: Carried, a: Activity) -> [f64; 3]
+// PD[0] and PD[2].
+pub fn light(v: View, g: [[f64; 9]; 4], c: Carried, a: Activity) -> [f64; 2]
     requires { ⌜ Shared v × (a ≡ activityIn v ptT) ⌝ }
     ensures { λ r. ⌜ r ≡ lightOf v g c ⌝ }
 {
     let a0 = activity0(v);
-    let a1 = activity1(v);
     let q0 = pd0();
     let c0 = active(v, a0, q0[51], q0[138], c);
-    let q1 = pd1();
-    let c1 = active(v, a1, q1[51], q1[138], c);
     let q2 = pd2();
     let c2 = active(v, a, q2[51], q2[138], c);
     let mut p = pd0();
     let x = level7(v, &p, g, c0);
-    p = pd1();
-    let y = level7(v, &p, g, c1);
     p = pd2();
-    let z = level7(v, &p, g, c2);
-    [x, y, z]
+    let y = level7(v, &p, g, c2);
+    [x, y]
 }
 
-// PD[4], PD[5], PD[6].
-pub fn heavy(v: View, g: [[f64; 9]; 4], c: Carried, a: Activity) -> [f64; 3]
+// PD[4] and PD[5].
+pub fn heavy(v: View, g: [[f64; 9]; 4], c: Carried, a: Activity) -> [f64; 2]
     requires { ⌜ Shared v × (a ≡ activityIn v ptT) ⌝ }
     ensures { λ r. ⌜ r ≡ heavyOf v g c ⌝ }
 {
@@ -250,27 +263,43 @@ pub fn heavy(v: View, g: [[f64; 9]; 4], c: Carried, a: Activity) -> [f64; 3]
     let c4 = active(v, a, q4[51], q4[138], c);
     let q5 = pd5();
     let c5 = active(v, a, q5[51], q5[138], c);
-    let q6 = pd6();
-    let c6 = active(v, a, q6[51], q6[138], c);
     let mut p = pd4();
     let x = level7(v, &p, g, c4);
     p = pd5();
     let y = level7(v, &p, g, c5);
-    p = pd6();
-    let z = level7(v, &p, g, c6);
-    [x, y, z]
+    [x, y]
 }
 
-// PD[7] and PD[8], whose activities are c7 and c8.
-pub fn last(v: View, g: [[f64; 9]; 4], c7: Carried, c8: Carried) -> [f64; 2]
-    requires { ⌜ Shared v ⌝ }
-    ensures { λ r. ⌜ r ≡ lastOf v g c7 c8 ⌝ }
+// PD[1], PD[6], PD[7] and PD[8], where O, H, N and anomalous O count; the activities of the last two are c7 and c8.
+pub fn high(
+    v: View,
+    g: [[f64; 9]; 4],
+    c: Carried,
+    a: Activity,
+    c7: Carried,
+    c8: Carried,
+    on: bool,
+) -> [f64; 4]
+    requires { ⌜ Shared v × (a ≡ activityIn v ptT) ⌝ }
+    ensures { λ r. ⌜ r ≡ highOf v g c c7 c8 on ⌝ }
 {
-    let mut p = pd7();
-    let x = level7(v, &p, g, c7);
+    if !on {
+        return [0.0; 4];
+    }
+    let a1 = activity1(v);
+    let q1 = pd1();
+    let c1 = active(v, a1, q1[51], q1[138], c);
+    let q6 = pd6();
+    let c6 = active(v, a, q6[51], q6[138], c);
+    let mut p = pd1();
+    let x = level7(v, &p, g, c1);
+    p = pd6();
+    let y = level7(v, &p, g, c6);
+    p = pd7();
+    let z = level7(v, &p, g, c7);
     p = pd8();
-    let y = level7(v, &p, g, c8);
-    [x, y]
+    let w = level7(v, &p, g, c8);
+    [x, y, z, w]
 }
 
 // PTL and PMA[8], where the nodes of the lower thermosphere count.
@@ -351,7 +380,7 @@ pub fn levels_of(v: View, n: Need) -> Levels
     let w = warm(v, g, c, k, c3, n);
     let l = light(v, g, c, k);
     let h = heavy(v, g, c, k);
-    let b = last(v, g, c7, c8);
+    let b = high(v, g, c, k, c7, c8, n.high);
     let a = nodes(v, g, c3, n.nodes);
     let m = meso(v, g, c8, n.meso);
     let t = tropo(v, g, c8, n.tropo);
@@ -359,14 +388,14 @@ pub fn levels_of(v: View, n: Need) -> Levels
         pt: w[0],
         ps: w[1],
         pd0: l[0],
-        pd1: l[1],
-        pd2: l[2],
+        pd1: b[0],
+        pd2: l[1],
         pd3: w[2],
         pd4: h[0],
         pd5: h[1],
-        pd6: h[2],
-        pd7: b[0],
-        pd8: b[1],
+        pd6: b[1],
+        pd7: b[2],
+        pd8: b[3],
         ptl0: a[0],
         ptl1: a[1],
         ptl2: a[2],

@@ -14,7 +14,7 @@ use Rattle.plan.specs.declared.Levels.{Levels}
 use Rattle.plan.specs.Fields.{Fields, fieldsOf, withFields, setGravity, setDd, setNodes1, setTn2, setTn3, setTop3}
 use Rattle.plan.specs.Plan.{Plan, Ask, either, _>>=_, Ran, ends, told, kept, given, run, stepped, stepped-done, stepped-keep, stepped-then}
 use Rattle.levels.specs.declared.Need.{Need}
-use Rattle.levels.specs.Levels.{needAt, levelsOf}
+use Rattle.levels.specs.Levels.{needAt, withHigh, levelsOf}
 use Rattle.profile.specs.declared.unchecked.Shape.{Shape}
 use Rattle.species.specs.declared.Blend.{Blend}
 use Rattle.species.specs.declared.Mixture.{Mixture}
@@ -210,7 +210,7 @@ gtd7-steps-below sw x alt l s s1 s2 s3 s4 s5 w n m u altt e0 e1 e2 e3 e4 e5 e6 t
     ∙ ap (λ (r : Whole). ends r (withFields s4 (setDd (r .dd) (fieldsOf s4)))) (sym e1)
     ∙ ap (λ (c : State). ends w c) (sym e0)
 
-pub from-fresh : (v : View) (x : Site) (alt : Float) (w : Whole) (t s8 s7 s : State) (p8 p7 : List Float) (l : Levels) (a : Need)
+pub from-fresh : (v : View) (x : Site) (alt : Float) (w : Whole) (t s8 s7 s : State) (p8 p7 : List Float) (l : Levels) (a b : Need)
     → stepped (given l) (gtd7Plan (v .sw) x alt) s8 ≡ ends w t
     → s8 ≡ afterOf v p8 s7
     → p8 ≡ pdT8
@@ -218,6 +218,7 @@ pub from-fresh : (v : View) (x : Site) (alt : Float) (w : Whole) (t s8 s7 s : St
     → p7 ≡ pdT7
     → s ≡ freshOf
     → l ≡ levelsOf v a
-    → a ≡ needAt alt
+    → a ≡ withHigh b
+    → b ≡ needAt alt
     → run v (gtd7Plan (v .sw) x alt) freshOf ≡ ends w t
-from-fresh v x alt w t s8 s7 s p8 p7 l a e0 e1 e2 e3 e4 e5 e6 e7 = gtd7-left v x alt ∙ (rw (e6, e7, e1, e2, e3, e4, e5) at e0)
+from-fresh v x alt w t s8 s7 s p8 p7 l a b e0 e1 e2 e3 e4 e5 e6 e7 e8 = gtd7-left v x alt ∙ (rw (e6, e7, e8, e1, e2, e3, e4, e5) at e0)

@@ -17,6 +17,7 @@ use elementary::root::sqrt;
 use expansion::after;
 use levels::levels_of;
 use levels::need_at;
+use levels::with_high;
 use lower::Meso;
 use lower::Whole;
 use lower::above;
@@ -305,7 +306,8 @@ pub fn gtd7_from_fresh(v: View, x: Site, alt: f64) -> WholeLeft
     requires { ⌜ Shared v ⌝ }
     ensures { λ r. ⌜ run v (gtd7Plan (v .sw) x alt) freshOf ≡ ends (r .value) (r .state) ⌝ }
 {
-    let a = need_at(alt);
+    let b = need_at(alt);
+    let a = with_high(b);
     let l = levels_of(v, a);
     let s = fresh();
     let p7 = pd7();

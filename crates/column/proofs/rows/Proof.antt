@@ -1,6 +1,6 @@
 -- `rows` meets its contract.
 use mathlib.Core.Path.{_∙_}
-use Rattle.column.proofs.Laws.{rows-are}
+use Rattle.column.proofs.Laws.{rows-are, founded-all}
 use Rattle.setting.specs.Shared.{shared}
 use borrow.Author.Needs.{needs}
 use Rattle.column.proofs.rows.Statement.{statement}
@@ -18,15 +18,20 @@ needs-requires c κs = search needs
 levels-of-requires : tie.Need-levels-of-requires
 levels-of-requires c κs = shared _ _ _ (c .before .before .before .view-of .ensures)
 
+footing-where-requires : tie.Need-footing-where-requires
+footing-where-requires c κs = search needs
+
 rows-at-requires : tie.Need-rows-at-requires
-rows-at-requires c κs = search needs
+rows-at-requires c κs =
+    let made = c .before .before in
+    (search needs, founded-all _ _ (made .levels-of .result) (made .before .needs .result) (c .before .footing-where .result) _ (made .before .needs .ensures) (c .before .footing-where .ensures))
 
 same-length : tie.Need-same-length
 same-length c = search needs
 
 returns : tie.Need-returns
 returns c =
-    let made = c .before .before .before .before in
+    let made = c .before .before .before .before .before in
     let at = made .before .before in
     let args = at .before .before .before .before .before .args in
     c .before .before .rows-at .ensures
@@ -40,6 +45,7 @@ rows-spec =
     site-of-requires
     needs-requires
     levels-of-requires
+    footing-where-requires
     rows-at-requires
     same-length
     returns)

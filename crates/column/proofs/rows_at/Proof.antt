@@ -12,11 +12,11 @@ use Rattle.column.proofs.rows_at.Statement.{statement}
 use Rattle.column.proofs.rows_at.Tie as tie
 
 abbrev Inv-loop : tie.InvT-loop
-Inv-loop sw x l alts out₀ i₀ out i =
+Inv-loop sw x l f alts out₀ i₀ out i =
     (i ≤ length alts) × (length out ≡ length out₀) × (length (rowsAt sw x l (take i alts)) ≡ 11 * i) × (out ≡ rowsAt sw x l (take i alts) ++ drop (11 * i) out₀)
 
 abbrev μ-loop : tie.MeasureT-loop
-μ-loop sw x l alts out₀ i₀ out i = length alts - i
+μ-loop sw x l f alts out₀ i₀ out i = length alts - i
 
 loop-holds : tie.Need-loop-holds Inv-loop μ-loop
 unfolding rowsAt
@@ -34,20 +34,20 @@ mul-lo c = search needs
 add-hi : tie.Need-add-hi Inv-loop μ-loop
 add-hi c = search needs
 
-mul-row-at : tie.Need-mul-row-at Inv-loop μ-loop
-mul-row-at c = search needs
+mul-row-on : tie.Need-mul-row-on Inv-loop μ-loop
+mul-row-on c = search needs
 
-sub-row-at : tie.Need-sub-row-at Inv-loop μ-loop
-sub-row-at c = search needs
+sub-row-on : tie.Need-sub-row-on Inv-loop μ-loop
+sub-row-on c = search needs
 
-part-row-at-start : tie.Need-part-row-at-start Inv-loop μ-loop
-part-row-at-start c = search needs
+part-row-on-start : tie.Need-part-row-on-start Inv-loop μ-loop
+part-row-on-start c = search needs
 
-part-row-at-end : tie.Need-part-row-at-end Inv-loop μ-loop
-part-row-at-end c = search needs
+part-row-on-end : tie.Need-part-row-on-end Inv-loop μ-loop
+part-row-on-end c = search needs
 
-row-at-requires : tie.Need-row-at-requires Inv-loop μ-loop
-row-at-requires c κs = omega (arith, c .row-at-arg .given .1)
+row-on-requires : tie.Need-row-on-requires Inv-loop μ-loop
+row-on-requires c κs = (omega (arith, c .row-on-arg .given .1), c .before .before .before .before .before .before .pre .1 (c .before .before .before .loop .i) (c .before .before .loop-test .taken))
 
 add-i : tie.Need-add-i Inv-loop μ-loop
 add-i c = search needs
@@ -57,7 +57,7 @@ loop-less c = search needs
 
 loop-again : tie.Need-loop-again Inv-loop μ-loop
 loop-again c =
-    let row = c .before .before .row-at in
+    let row = c .before .before .row-on in
     let test = c .before .before .before .before .before in
     let at = test .before .loop in (
       search needs,
@@ -87,11 +87,11 @@ rows-at-spec =
     shared-slice-read-z
     mul-lo
     add-hi
-    mul-row-at
-    sub-row-at
-    part-row-at-start
-    part-row-at-end
-    row-at-requires
+    mul-row-on
+    sub-row-on
+    part-row-on-start
+    part-row-on-end
+    row-on-requires
     add-i
     loop-less
     loop-again

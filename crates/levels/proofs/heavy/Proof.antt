@@ -1,20 +1,18 @@
 -- `heavy` meets its contract.
 use mathlib.Core.Path.{_∙_}
-use Rattle.tables.specs.Tables.{pdT4, pdT5, pdT6}
+use Rattle.tables.specs.Tables.{pdT4, pdT5}
 use Rattle.levels.specs.Levels.{heavyOf}
-use Rattle.levels.specs.Activities.{wide-from, in-pd4, in-pd5, in-pd6}
+use Rattle.levels.specs.Activities.{wide-from, in-pd4, in-pd5}
 use borrow.Author.Needs.{needs}
 use Rattle.levels.proofs.heavy.Statement.{statement}
 use Rattle.levels.proofs.heavy.Tie as tie
 
 returns : tie.Need-returns
 unfolding heavyOf
-returns c =
-    let A = c .before .before .before .before .before .before .before .before .before .before .before .before .before .before .before .args in
+returns c = let A = c .before .before .before .before .before .before .before .before .before .before .args in
     cc (
-      (c .before .before .before .before .before .before .level7 .ensures ∙ wide-from (A .v) (A .g) (A .c) _ _ pdT4 _ _ (c .before .before .before .before .before .before .before .before .before .before .before .before .before .active .ensures) (c .before .before .before .before .before .before .before .before .pd42 .ensures) (c .before .before .before .before .before .before .before .before .before .before .before .before .before .before .pd4 .ensures) (c .before .before .before .before .before .before .before .before .before .before .before .before .before .before .before .pre .1 ∙ in-pd4 (A .v))),
-      (c .before .before .before .level72 .ensures ∙ wide-from (A .v) (A .g) (A .c) _ _ pdT5 _ _ (c .before .before .before .before .before .before .before .before .before .before .before .active2 .ensures) (c .before .before .before .before .before .pd52 .ensures) (c .before .before .before .before .before .before .before .before .before .before .before .before .pd5 .ensures) (c .before .before .before .before .before .before .before .before .before .before .before .before .before .before .before .pre .1 ∙ in-pd5 (A .v))),
-      (c .level73 .ensures ∙ wide-from (A .v) (A .g) (A .c) _ _ pdT6 _ _ (c .before .before .before .before .before .before .before .before .before .active3 .ensures) (c .before .before .pd62 .ensures) (c .before .before .before .before .before .before .before .before .before .before .pd6 .ensures) (c .before .before .before .before .before .before .before .before .before .before .before .before .before .before .before .pre .1 ∙ in-pd6 (A .v))),
+      (c .before .before .before .level7 .ensures ∙ wide-from (A .v) (A .g) (A .c) _ _ pdT4 _ _ (c .before .before .before .before .before .before .before .before .active .ensures) (c .before .before .before .before .before .pd42 .ensures) (c .before .before .before .before .before .before .before .before .before .pd4 .ensures) (c .before .before .before .before .before .before .before .before .before .before .pre .1 ∙ in-pd4 (A .v))),
+      (c .level72 .ensures ∙ wide-from (A .v) (A .g) (A .c) _ _ pdT5 _ _ (c .before .before .before .before .before .before .active2 .ensures) (c .before .before .pd52 .ensures) (c .before .before .before .before .before .before .before .pd5 .ensures) (c .before .before .before .before .before .before .before .before .before .before .pre .1 ∙ in-pd5 (A .v))),
     )
 
 pub heavy-spec : {M : Type 1} → statement M
@@ -22,6 +20,5 @@ heavy-spec =
     tie.close
     (tie.spec
     (λ c κs. search needs) (λ c. search needs) (λ c. search needs) (λ c κs. search needs) (λ c κs. search needs) (λ c. search needs)
-    (λ c. search needs) (λ c κs. search needs) (λ c κs. search needs) (λ c. search needs) (λ c. search needs) (λ c κs. search needs)
-    (λ c κs. search needs) (λ c. search needs) (λ c κs. search needs) (λ c κs. search needs) (λ c. search needs) (λ c κs. search needs)
-    (λ c κs. search needs) (λ c. search needs) (λ c κs. search needs) returns)
+    (λ c. search needs) (λ c κs. search needs) (λ c κs. search needs) (λ c. search needs) (λ c κs. search needs) (λ c κs. search needs)
+    (λ c. search needs) (λ c κs. search needs) returns)

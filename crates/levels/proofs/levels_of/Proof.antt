@@ -4,8 +4,8 @@ use borrow.Author.Needs.{needs}
 use Rattle.levels.proofs.levels_of.Statement.{statement}
 use Rattle.levels.proofs.levels_of.Tie as tie
 
-last-requires : tie.Need-last-requires
-last-requires c κs = c .before .before .before .before .before .before .before .before .before .before .before .before .pre
+high-requires : tie.Need-high-requires
+high-requires c κs = (c .before .before .before .before .before .before .before .before .before .before .before .before .pre, c .before .before .before .before .before .before .before .before .before .common .ensures)
 
 nodes-requires : tie.Need-nodes-requires
 nodes-requires c κs = c .before .before .before .before .before .before .before .before .before .before .before .before .before .pre
@@ -23,7 +23,7 @@ returns c =
     (c .tropo .result)
     (c .before .meso .result)
     (c .before .before .nodes .result)
-    (c .before .before .before .last .result)
+    (c .before .before .before .high .result)
     (c .before .before .before .before .heavy .result)
     (c .before .before .before .before .before .light .result)
     (c .before .before .before .before .before .before .warm .result)
@@ -39,7 +39,7 @@ returns c =
     (c .tropo .ensures)
     (c .before .meso .ensures)
     (c .before .before .nodes .ensures)
-    (c .before .before .before .last .ensures)
+    (c .before .before .before .high .ensures)
     (c .before .before .before .before .heavy .ensures)
     (c .before .before .before .before .before .light .ensures)
     (c .before .before .before .before .before .before .warm .ensures)
@@ -59,7 +59,7 @@ levels-of-spec =
     (tie.spec
     (λ c κs. search needs) (λ c κs. search needs) (λ c κs. search needs) (λ c κs. search needs) (λ c. search needs) (λ c. search needs)
     (λ c κs. search needs) (λ c κs. search needs) (λ c. search needs) (λ c. search needs) (λ c κs. search needs) (λ c κs. search needs)
-    (λ c. search needs) (λ c. search needs) (λ c κs. search needs) (λ c κs. search needs) (λ c κs. search needs) (λ c κs. search needs) last-requires
+    (λ c. search needs) (λ c. search needs) (λ c κs. search needs) (λ c κs. search needs) (λ c κs. search needs) (λ c κs. search needs) high-requires
     nodes-requires meso-requires tropo-requires (λ c. search needs) (λ c. search needs) (λ c. search needs) (λ c. search needs) (λ c. search needs)
     (λ c. search needs) (λ c. search needs) (λ c. search needs) (λ c. search needs) (λ c. search needs) (λ c. search needs) (λ c. search needs)
     (λ c. search needs) (λ c. search needs) (λ c. search needs) (λ c. search needs) (λ c. search needs) (λ c. search needs) (λ c. search needs)

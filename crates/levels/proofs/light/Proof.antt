@@ -1,6 +1,6 @@
 -- `light` meets its contract.
 use mathlib.Core.Path.{_∙_}
-use Rattle.tables.specs.Tables.{pdT0, pdT1, pdT2}
+use Rattle.tables.specs.Tables.{pdT0, pdT2}
 use Rattle.levels.specs.Levels.{lightOf}
 use Rattle.levels.specs.Activities.{wide-from, in-pd2}
 use borrow.Author.Needs.{needs}
@@ -9,19 +9,16 @@ use Rattle.levels.proofs.light.Tie as tie
 
 returns : tie.Need-returns
 unfolding lightOf
-returns c =
-    let A = c .before .before .before .before .before .before .before .before .before .before .before .before .before .before .before .before .before .args in
+returns c = let A = c .before .before .before .before .before .before .before .before .before .before .before .args in
     cc (
-      (c .before .before .before .before .before .before .level7 .ensures ∙ wide-from (A .v) (A .g) (A .c) _ _ pdT0 _ _ (c .before .before .before .before .before .before .before .before .before .before .before .before .before .active .ensures) (c .before .before .before .before .before .before .before .before .pd02 .ensures) (c .before .before .before .before .before .before .before .before .before .before .before .before .before .before .pd0 .ensures) (c .before .before .before .before .before .before .before .before .before .before .before .before .before .before .before .before .activity0 .ensures)),
-      (c .before .before .before .level72 .ensures ∙ wide-from (A .v) (A .g) (A .c) _ _ pdT1 _ _ (c .before .before .before .before .before .before .before .before .before .before .before .active2 .ensures) (c .before .before .before .before .before .pd12 .ensures) (c .before .before .before .before .before .before .before .before .before .before .before .before .pd1 .ensures) (c .before .before .before .before .before .before .before .before .before .before .before .before .before .before .before .activity1 .ensures)),
-      (c .level73 .ensures ∙ wide-from (A .v) (A .g) (A .c) _ _ pdT2 _ _ (c .before .before .before .before .before .before .before .before .before .active3 .ensures) (c .before .before .pd22 .ensures) (c .before .before .before .before .before .before .before .before .before .before .pd2 .ensures) (c .before .before .before .before .before .before .before .before .before .before .before .before .before .before .before .before .before .pre .1 ∙ in-pd2 (A .v))),
+      (c .before .before .before .level7 .ensures ∙ wide-from (A .v) (A .g) (A .c) _ _ pdT0 _ _ (c .before .before .before .before .before .before .before .before .active .ensures) (c .before .before .before .before .before .pd02 .ensures) (c .before .before .before .before .before .before .before .before .before .pd0 .ensures) (c .before .before .before .before .before .before .before .before .before .before .activity0 .ensures)),
+      (c .level72 .ensures ∙ wide-from (A .v) (A .g) (A .c) _ _ pdT2 _ _ (c .before .before .before .before .before .before .active2 .ensures) (c .before .before .pd22 .ensures) (c .before .before .before .before .before .before .before .pd2 .ensures) (c .before .before .before .before .before .before .before .before .before .before .before .pre .1 ∙ in-pd2 (A .v))),
     )
 
 pub light-spec : {M : Type 1} → statement M
 light-spec =
     tie.close
     (tie.spec
-    (λ c κs. search needs) (λ c κs. search needs) (λ c κs. search needs) (λ c. search needs) (λ c. search needs) (λ c κs. search needs)
-    (λ c κs. search needs) (λ c. search needs) (λ c. search needs) (λ c κs. search needs) (λ c κs. search needs) (λ c. search needs)
-    (λ c. search needs) (λ c κs. search needs) (λ c κs. search needs) (λ c. search needs) (λ c κs. search needs) (λ c κs. search needs)
-    (λ c. search needs) (λ c κs. search needs) (λ c κs. search needs) (λ c. search needs) (λ c κs. (search needs, c .before .before .before .before .before .before .before .before .before .before .before .before .before .before .before .before .pre .0)) returns)
+    (λ c κs. search needs) (λ c κs. search needs) (λ c. search needs) (λ c. search needs) (λ c κs. search needs) (λ c κs. search needs)
+    (λ c. search needs) (λ c. search needs) (λ c κs. search needs) (λ c κs. search needs) (λ c. search needs) (λ c κs. search needs)
+    (λ c κs. search needs) (λ c. search needs) (λ c κs. search needs) returns)

@@ -1,0 +1,18 @@
+-- `eleven_on` meets its contract.
+use Rattle.atmosphere.specs.Rows.{eleven-below}
+use borrow.Author.Needs.{needs}
+use Rattle.atmosphere.proofs.eleven_on.Statement.{statement}
+use Rattle.atmosphere.proofs.eleven_on.Tie as tie
+
+returns-2 : tie.Need-returns-2
+returns-2 c =
+    let A = c .before .before .args in
+    let k = c .before .before .pre (c .before .if1 .left) in
+    eleven-below (A .t1) (A .x) (A .l) (A .alt) (k .0) (A .f) (c .row-below .result)
+    (c .row-below .ensures) (k .1) (k .2) (c .before .if1 .left)
+
+pub eleven-on-spec : {M : Type 1} → statement M
+eleven-on-spec =
+    tie.close
+    (tie.spec
+    (λ c κs. search needs) (λ c. search needs) (λ c. search needs) (λ c κs. search needs) returns-2)

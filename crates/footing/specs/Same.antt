@@ -1,0 +1,111 @@
+-- A footing reads no value of PD[1], PD[6], PD[7] and PD[8].
+use mathlib.Core.Path.{_≡_, refl, sym, ap, _∙_}
+use mathlib.Core.Bool.{Bool, true, false, not}
+use mathlib.Core.List.{List}
+use lib.Ieee.{Float, lt}
+use Rattle.numbers.specs.Arithmetic.{_⊗_, _‼_}
+use Rattle.numbers.specs.Literals.{32·5, 72·5, 300·0}
+use Rattle.profile.specs.declared.unchecked.Shape.{Shape}
+use Rattle.plan.specs.declared.Levels.{Levels}
+use Rattle.plan.specs.Plan.{Plan, Ask, either, _>>=_, told, given, then, last}
+use Rattle.species.specs.declared.Blend.{Blend}
+use Rattle.tables.specs.Tables.{pdlT1}
+use Rattle.upper.specs.declared.Site.{Site}
+use Rattle.upper.specs.declared.Nodes.{Nodes}
+use Rattle.upper.specs.Upper.{shapeOf}
+use Rattle.stages.specs.Stages.{tinfPlan, gradientPlan, tlbPlan, nodesPlan, shapePlan, n2Plan, heliumPlan, o2Plan, argonPlan}
+use Rattle.lower.specs.declared.Meso.{Meso}
+use Rattle.lower.specs.Lower.{mesoNodesPlan, lowerPlan}
+use Rattle.footing.specs.Footing.{threeOf, footingOf}
+
+-- the values but for those four are the same
+pub record Same (l m : Levels) : Type 0 where
+  pub pt : l .pt ≡ m .pt
+  pub ps : l .ps ≡ m .ps
+  pub pd0 : l .pd0 ≡ m .pd0
+  pub pd2 : l .pd2 ≡ m .pd2
+  pub pd3 : l .pd3 ≡ m .pd3
+  pub pd4 : l .pd4 ≡ m .pd4
+  pub pd5 : l .pd5 ≡ m .pd5
+  pub ptl0 : l .ptl0 ≡ m .ptl0
+  pub ptl1 : l .ptl1 ≡ m .ptl1
+  pub ptl2 : l .ptl2 ≡ m .ptl2
+  pub ptl3 : l .ptl3 ≡ m .ptl3
+  pub pma0 : l .pma0 ≡ m .pma0
+  pub pma1 : l .pma1 ≡ m .pma1
+  pub pma2 : l .pma2 ≡ m .pma2
+  pub pma3 : l .pma3 ≡ m .pma3
+  pub pma4 : l .pma4 ≡ m .pma4
+  pub pma5 : l .pma5 ≡ m .pma5
+  pub pma6 : l .pma6 ≡ m .pma6
+  pub pma7 : l .pma7 ≡ m .pma7
+  pub pma8 : l .pma8 ≡ m .pma8
+  pub pma9 : l .pma9 ≡ m .pma9
+
+one-of : {A : Type 0} (g k : Ask → Float) (b : Bool) (p q : Plan A) → told g p ≡ told k p → told g q ≡ told k q → told g (either b p q) ≡ told k (either b p q)
+one-of g k true p q e f = e
+one-of g k false p q e f = f
+
+module _ (l m : Levels) (s : Same l m) (sw : List Float) where
+  tinf-same : (z : Float) → told (given l) (tinfPlan sw z) ≡ told (given m) (tinfPlan sw z)
+  unfolding told tinfPlan _>>=_
+  tinf-same z = one-of (given l) (given m) (lt (pdlT1 ‼ 15) z) _ _ (rw (s .pt)) refl
+
+  gradient-same : (z : Float) → told (given l) (gradientPlan sw z) ≡ told (given m) (gradientPlan sw z)
+  unfolding told gradientPlan _>>=_
+  gradient-same z = one-of (given l) (given m) (lt 72·5 z) _ _ (rw (s .ps)) refl
+
+  tlb-same : told (given l) (tlbPlan sw) ≡ told (given m) (tlbPlan sw)
+  unfolding told tlbPlan _>>=_
+  tlb-same = rw (s .pd3)
+
+  nodes-same : (z : Float) → told (given l) (nodesPlan sw z) ≡ told (given m) (nodesPlan sw z)
+  unfolding told nodesPlan _>>=_
+  nodes-same z = one-of (given l) (given m) (lt z 300·0) _ _ (rw (s .ptl0, s .ptl1, s .ptl2, s .ptl3, s .pma8)) refl
+
+  shape-same : (x : Site) (z : Float) → told (given l) (shapePlan sw x z) ≡ told (given m) (shapePlan sw x z)
+  unfolding shapePlan
+  shape-same x z =
+      then (given l) (tinfPlan sw z) _ _ (sym (tinf-same z))
+      ∙ then (given l) (gradientPlan sw z) _ _ (sym (gradient-same z))
+      ∙ then (given l) (tlbPlan sw) _ _ (sym tlb-same)
+      ∙ then (given l) (nodesPlan sw z) _ _ (sym (nodes-same z))
+      ∙ last (given l) _
+      ∙ sym
+      (then (given m) (tinfPlan sw z) _ _ refl
+      ∙ then (given m) (gradientPlan sw z) _ _ refl
+      ∙ then (given m) (tlbPlan sw) _ _ refl
+      ∙ then (given m) (nodesPlan sw z) _ _ refl
+      ∙ last (given m) _)
+
+  n2-same : (h : Shape) (z zhf : Float) → told (given l) (n2Plan sw h z zhf) ≡ told (given m) (n2Plan sw h z zhf)
+  unfolding told n2Plan _>>=_
+  n2-same h z zhf = rw (s .pd2)
+
+  helium-same : (h : Shape) (z b28 zhm xmm : Float) → told (given l) (heliumPlan sw h z b28 zhm xmm) ≡ told (given m) (heliumPlan sw h z b28 zhm xmm)
+  unfolding told heliumPlan _>>=_
+  helium-same h z b28 zhm xmm = rw (s .pd0)
+
+  o2-same : (h : Shape) (z b28 zhm xmm flux : Float) → told (given l) (o2Plan sw h z b28 zhm xmm flux) ≡ told (given m) (o2Plan sw h z b28 zhm xmm flux)
+  unfolding told o2Plan _>>=_
+  o2-same h z b28 zhm xmm flux = rw (s .pd4)
+
+  argon-same : (h : Shape) (z b28 zhm xmm : Float) → told (given l) (argonPlan sw h z b28 zhm xmm) ≡ told (given m) (argonPlan sw h z b28 zhm xmm)
+  unfolding told argonPlan _>>=_
+  argon-same h z b28 zhm xmm = rw (s .pd5)
+
+  meso-same : (h : Shape) → told (given l) (mesoNodesPlan sw h) ≡ told (given m) (mesoNodesPlan sw h)
+  unfolding told mesoNodesPlan _>>=_
+  meso-same h = rw (s .pma0, s .pma1, s .pma2, s .pma9)
+
+  lower-same : (z : Float) (w : Meso) → told (given l) (lowerPlan sw z w) ≡ told (given m) (lowerPlan sw z w)
+  unfolding told lowerPlan _>>=_
+  lower-same z w = one-of (given l) (given m) (not (lt z 32·5)) _ _ refl (rw (s .pma3, s .pma4, s .pma5, s .pma6, s .pma7))
+
+  three-same : (h : Shape) (b28 flux : Float) → threeOf sw h b28 flux l ≡ threeOf sw h b28 flux m
+  unfolding threeOf
+  three-same h b28 flux = rw (helium-same h 72·5 b28, o2-same h 72·5 b28, argon-same h 72·5 b28)
+
+  pub footing-same : (x : Site) (tropo : Bool) → footingOf sw x l tropo ≡ footingOf sw x m tropo
+  unfolding footingOf
+  footing-same x tropo = rw (shape-same x 72·5, n2-same, three-same, meso-same, lower-same)
