@@ -10,7 +10,7 @@ use acceptance::Answer;
 use acceptance::accepted;
 use acceptance::judge;
 use footing::Footing;
-use footing::footing_of;
+use footing::footing_where;
 use footing::row_below;
 use levels::levels_of;
 use levels::need_at;
@@ -39,19 +39,8 @@ pub fn row_above(sw: [f64; 24], x: Site, l: Levels, alt: f64) -> [f64; 11]
     row
 }
 
-// The eleven numbers at an altitude, by the way that it takes.
-pub fn eleven(sw: [f64; 24], x: Site, l: Levels, alt: f64) -> [f64; 11]
-    ensures { λ r. ⌜ r ≡ elevenFrom sw x l alt ⌝ }
-{
-    if alt >= 72.5 {
-        return row_above(sw, x, l, alt);
-    }
-    let f = footing_of(sw, x, l, alt < 32.5);
-    row_below(sw[0], f, alt)
-}
-
-// The same with its footing at hand.
-pub fn eleven_on(sw: [f64; 24], x: Site, l: Levels, f: Footing, alt: f64) -> [f64; 11]
+// The eleven numbers at an altitude, by the way that it takes; f is its footing where it lies below 72.5 km.
+pub fn eleven(sw: [f64; 24], x: Site, l: Levels, f: Footing, alt: f64) -> [f64; 11]
     requires { ⌜ Founded sw x l f alt ⌝ }
     ensures { λ r. ⌜ r ≡ elevenFrom sw x l alt ⌝ }
 {
@@ -73,22 +62,22 @@ pub fn put(out: &mut [f64], v: [f64; 11])
     }
 }
 
-// The eleven numbers at an altitude into a lent row, from what was worked out before.
-pub fn row_at(sw: [f64; 24], x: Site, l: Levels, alt: f64, out: &mut [f64])
-    requires { ⌜ length (now out) ≡ 11 ⌝ }
-    ensures { λ _. ⌜ now (out .exit) ≡ elevenFrom sw x l alt ⌝ }
-{
-    let row = eleven(sw, x, l, alt);
-    put(out, row);
-}
-
-// The same with its footing at hand, as the column has it.
+// The eleven numbers at an altitude into a lent row, from what was worked out before; the one-altitude call and the column fill their rows by it.
 pub fn row_on(sw: [f64; 24], x: Site, l: Levels, f: Footing, alt: f64, out: &mut [f64])
     requires { ⌜ (length (now out) ≡ 11) × Founded sw x l f alt ⌝ }
     ensures { λ _. ⌜ now (out .exit) ≡ elevenFrom sw x l alt ⌝ }
 {
-    let row = eleven_on(sw, x, l, f, alt);
+    let row = eleven(sw, x, l, f, alt);
     put(out, row);
+}
+
+// The same for an altitude alone.
+pub fn row_at(sw: [f64; 24], x: Site, l: Levels, alt: f64, out: &mut [f64])
+    requires { ⌜ length (now out) ≡ 11 ⌝ }
+    ensures { λ _. ⌜ now (out .exit) ≡ elevenFrom sw x l alt ⌝ }
+{
+    let f = footing_where(!(alt >= 72.5), sw, x, l, alt < 32.5);
+    row_on(sw, x, l, f, alt, out);
 }
 
 // The row of a record under a switch row.
