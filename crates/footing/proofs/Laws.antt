@@ -28,34 +28,9 @@ use Rattle.footing.specs.declared.Footing.{Footing}
 use Rattle.footing.specs.declared.Three.{Three}
 use Rattle.footing.specs.Footing.{threeOf, standingOf, footingOf, nodesAt, rowBelowOf}
 
--- what a stage asks, from the shared places: m is the row of PDM that has xmm
-pub stage-ready : (h : Shape) (z : Float) (p w : Place) (t : Thinning) (on mix : Bool) (zh zh' : Float) (m : List Float)
-    → p ≡ placeAt h z
-    → Turbopause h on zh w
-    → zh ≡ zh'
-    → Mixes mix p (pdmT2 ‼ 4) t
-    → m ≡ pdmT2
-    → (p ≡ placeAt h z) × Turbopause h on zh' w × Mixes mix p (m ‼ 4) t
-stage-ready h z p w t on mix zh zh' m e f q g k =
-    (e, λ o. f o ∙ ap (placeAt h) q, λ o. g o ∙ ap (λ (x : List Float). thinningOf p (x ‼ 4) 0·0) (sym k))
-
 -- the entry that a species has, from the row that was read
 pub third : (m row : List Float) → m ≡ row → m ‼ 2 ≡ row ‼ 2
 third m row e = ap (λ (x : List Float). x ‼ 2) e
-
-pub o2-too : pdmT1 ‼ 2 ≡ pdmT3 ‼ 2
-unfolding pdmT1 pdmT3
-o2-too = refl
-
-pub argon-too : pdmT1 ‼ 2 ≡ pdmT4 ‼ 2
-unfolding pdmT1 pdmT4
-argon-too = refl
-
-pub mixes-row : (mix : Bool) (p : Place) (t : Thinning) (m : List Float) → Mixes mix p (m ‼ 4) t → m ≡ pdmT2 → Mixes mix p (pdmT2 ‼ 4) t
-mixes-row mix p t m f e = λ o. f o ∙ ap (λ (x : List Float). thinningOf p (x ‼ 4) 0·0) e
-
-pub logged-at : (h : Shape) (z : Float) (p : Place) → p ≡ placeAt h z → Logged p
-logged-at h z p e = logged h z (ptmT ‼ 5) nodes p e
 
 pub three-law : (sw : List Float) (h : Shape) (b28 flux : Float) (l : Levels) (ar o2 he : Mixture) (d m : List Float)
     → ar ≡ told (given l) (argonPlan sw h 72·5 b28 (m ‼ 3 ⊗ d ‼ 5) (m ‼ 4))

@@ -9,8 +9,7 @@ use Rattle.elementary.specs.Pow.{powOf}
 use Rattle.profile.specs.declared.unchecked.Shape.{Shape}
 use Rattle.places.specs.declared.place.Place.{Place}
 use Rattle.places.specs.declared.thinning.Thinning.{Thinning}
-use Rattle.places.specs.Thinning.{Logged, thinningOf, logged}
-use Rattle.species.specs.Species.{nodes}
+use Rattle.places.specs.Thinning.{thinningOf}
 use Rattle.species.specs.Places.{placeAt, Turbopause, Mixes}
 use Rattle.species.specs.declared.Blend.{Blend}
 use Rattle.species.specs.declared.Mixture.{Mixture}
@@ -119,9 +118,6 @@ in-row h on w m row f e = λ o. f o ∙ ap (λ (x : List Float). placeAt h (x �
 
 pub mixes-row : (mix : Bool) (p : Place) (t : Thinning) (m : List Float) → Mixes mix p (m ‼ 4) t → m ≡ pdmT2 → Mixes mix p (pdmT2 ‼ 4) t
 mixes-row mix p t m f e = λ o. f o ∙ ap (λ (x : List Float). thinningOf p (x ‼ 4) 0·0) e
-
-pub logged-at : (h : Shape) (z : Float) (p : Place) → p ≡ placeAt h z → Logged p
-logged-at h z p e = logged h z (ptmT ‼ 5) nodes p e
 
 pub gts7-law : (sw : List Float) (x : Site) (z : Float) (l : Levels) (u : Upper) (o : Float) (k : Shape) (y : Six) (b : Blend) (h : Shape)
     → u ≡ gatherOf (sw ‼ 0) h z b y o

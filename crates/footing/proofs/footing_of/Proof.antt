@@ -5,7 +5,9 @@ use lib.Ieee.{Float}
 use Rattle.numbers.specs.Arithmetic.{_⊗_, _‼_}
 use Rattle.numbers.specs.Literals.{72·5}
 use Rattle.species.specs.Places.{placeAt, mixesAt}
-use Rattle.footing.proofs.Laws.{footing-law, logged-at, mixes-row}
+use Rattle.species.proofs.Laws.{logged-at}
+use Rattle.thermosphere.proofs.Laws.{mixes-row}
+use Rattle.footing.proofs.Laws.{footing-law}
 use borrow.Author.Needs.{needs}
 use Rattle.footing.proofs.footing_of.Statement.{statement}
 use Rattle.footing.proofs.footing_of.Tie as tie

@@ -6,7 +6,8 @@ use Rattle.numbers.specs.Arithmetic.{_‼_}
 use Rattle.numbers.specs.Literals.{0·0, 72·5, 200·0}
 use Rattle.species.specs.Places.{mixesAt}
 use Rattle.tables.specs.Tables.{pdmT0, pdmT1, pdmT3, pdmT4}
-use Rattle.footing.proofs.Laws.{stage-ready, third, o2-too, argon-too, three-law}
+use Rattle.thermosphere.proofs.Laws.{stage-ready, o2-too, argon-too}
+use Rattle.footing.proofs.Laws.{third, three-law}
 use borrow.Author.Needs.{needs}
 use Rattle.footing.proofs.three_of.Statement.{statement}
 use Rattle.footing.proofs.three_of.Tie as tie

@@ -6,7 +6,8 @@ use lib.Ieee.{le, ne, Float}
 use Rattle.numbers.specs.Arithmetic.{_⊗_, _‼_}
 use Rattle.numbers.specs.Literals.{0·0, 450·0}
 use Rattle.species.specs.Places.{placeAt}
-use Rattle.thermosphere.proofs.Laws.{logged-at, mixes-row}
+use Rattle.species.proofs.Laws.{logged-at}
+use Rattle.thermosphere.proofs.Laws.{mixes-row}
 use Rattle.model_state.proofs.Laws.{gts7-steps}
 use borrow.Author.Needs.{needs}
 use Rattle.model_state.proofs.gts7.Statement.{statement}

@@ -6,7 +6,8 @@ use lib.Ieee.{Float, le, ne}
 use Rattle.numbers.specs.Arithmetic.{_⊗_, _‼_}
 use Rattle.numbers.specs.Literals.{0·0, 450·0}
 use Rattle.species.specs.Places.{placeAt}
-use Rattle.thermosphere.proofs.Laws.{gts7-law, logged-at, mixes-row}
+use Rattle.species.proofs.Laws.{logged-at}
+use Rattle.thermosphere.proofs.Laws.{gts7-law, mixes-row}
 use borrow.Author.Needs.{needs}
 use Rattle.thermosphere.proofs.gts7_stage.Statement.{statement}
 use Rattle.thermosphere.proofs.gts7_stage.Tie as tie
