@@ -1,9 +1,10 @@
 -- The altitudes that the species read over gts7's nodes, each worked out once: the one that is asked for, and the turbopauses.
 use mathlib.Core.Path.{_≡_}
-use mathlib.Core.Bool.{Bool, true, cond, _&&_}
-use lib.Ieee.{Float, le, ne}
+use mathlib.Core.Bool.{Bool, true}
+use lib.Ieee.{Float}
 use Rattle.numbers.specs.Arithmetic.{_‼_}
-use Rattle.numbers.specs.Literals.{0·0, 450·0}
+use Rattle.numbers.specs.Literals.{0·0}
+use Rattle.mixing.specs.Limits.{nMixed}
 use Rattle.places.specs.Place.{spineOf, placeOf}
 use Rattle.places.specs.Thinning.{thinningOf}
 use Rattle.places.specs.declared.place.Spine.{Spine}
@@ -22,7 +23,7 @@ placeAt h z = placeOf h z (ptmT ‼ 5) nodes
 
 -- z is where some species is mixed: nitrogen is to 450 km, the others end below
 abbrev pub mixesAt : Float → Float → Bool
-mixesAt sw15 z = ne sw15 0·0 && le z 450·0
+mixesAt sw15 z = nMixed sw15 z
 
 -- w is the place of the turbopause zh where a species is mixed, and anything elsewhere
 abbrev pub Turbopause : Shape → Bool → Float → Place → Type 0
