@@ -9,20 +9,32 @@ ghost use Rattle.species.specs.Places.{placeAt, mixesAt, Turbopause, Mixes};
 ghost use Rattle.tables.specs.Tables.{pdmT0, pdmT1, pdmT2, pdmT3, pdmT4, pdmT5, pdmT6};
 ghost use Rattle.stages.specs.Stages.{tinfPlan, gradientPlan, tlbPlan, n2Plan, heliumPlan, oxygenPlan, o2Plan, argonPlan, hydrogenPlan, nitrogenPlan, hotPlan};
 use elementary::exponential::exp;
+use elementary::root::sqrt;
+use mixing::limits::ar_mixes;
+use mixing::limits::h_mixes;
+use mixing::limits::he_mixes;
+use mixing::limits::n_mixes;
+use mixing::limits::o_mixes;
+use mixing::limits::o2_mixes;
 use places::place::Place;
 use places::thinning::Thinning;
 use plan::Levels;
 use profile::unchecked::Shape;
 use species::Blend;
 use species::Mixture;
+use species::Root;
 use species::argon;
 use species::helium;
 use species::hot;
+use species::hot_factor;
 use species::hydrogen;
 use species::n2;
 use species::nitrogen;
 use species::o2;
 use species::oxygen;
+use species::place_alone_at;
+use species::root_of;
+use species::turbopause_density;
 use tables::pd0;
 use tables::pd1;
 use tables::pd2;
@@ -96,18 +108,32 @@ pub fn n2_stage(
     let c = pd2();
     let m = pdm2();
     let g = exp(sw[21] * l.pd2);
-    n2(h, sw[15], z, p, w, t, m[0] * g * c[0], zhf)
+    let db = m[0] * g * c[0];
+    let b = turbopause_density(true, w, db, 28.0 - m[4], 0.0 - 1.0);
+    let q = Root {
+        db: db,
+        b: b,
+        r: 0.0,
+    };
+    let x = n2(sw[15], z, p, t, q);
+    Blend {
+        dens: x.dens,
+        b: b,
+        dm: x.dm,
+    }
 }
 
 // Anomalous oxygen.
 pub fn hot_stage(sw: [f64; 24], h: Shape, z: f64, l: Levels) -> f64
     ensures { λ r. ⌜ r ≡ told (given l) (hotPlan sw h z) ⌝ }
 {
-    let p = pd8();
+    let c = pd8();
     let m = pdm7();
     let d = pdl0();
     let g = exp(sw[21] * l.pd8);
-    hot(h, z, m[0] * g * p[0], m[5], m[4], m[9] * d[6])
+    let p = place_alone_at(h, z);
+    let f = hot_factor(h.gsurf, h.re, m[5], m[4], m[9] * d[6]);
+    hot(z, p, m[0] * g * c[0], f, m[5], m[4])
 }
 
 pub fn helium_stage(
@@ -128,7 +154,9 @@ pub fn helium_stage(
     let c = pd0();
     let m = pdm0();
     let g = exp(sw[21] * l.pd0);
-    helium(h, sw[15], z, p, w, t, b28, m[0] * g * c[0], zhm, xmm)
+    let on = he_mixes(sw[15], z);
+    let q = root_of(on, w, m[0] * g * c[0], 4.0 - xmm, -0.38 - 1.0, b28 * m[1]);
+    helium(sw[15], z, p, t, q, zhm, xmm)
 }
 
 pub fn oxygen_stage(
@@ -148,8 +176,17 @@ pub fn oxygen_stage(
 {
     let c = pd1();
     let m = pdm1();
+    let k = pdl1();
     let g = exp(sw[21] * l.pd1);
-    oxygen(h, sw[15], z, p, w, t, m[0] * g * c[0], zhm, xmm, flux)
+    let on = o_mixes(sw[15], z);
+    let db = m[0] * g * c[0];
+    let b = turbopause_density(on, w, db, 16.0 - xmm, 0.0 - 1.0);
+    let q = Root {
+        db: db,
+        b: b,
+        r: m[1] * k[16] * flux,
+    };
+    oxygen(sw[15], z, p, t, q, zhm, xmm)
 }
 
 pub fn o2_stage(
@@ -170,8 +207,11 @@ pub fn o2_stage(
 {
     let c = pd4();
     let m = pdm3();
+    let k = pdl1();
     let g = exp(sw[21] * l.pd4);
-    o2(h, sw[15], z, p, w, t, b28, m[0] * g * c[0], zhm, xmm, flux)
+    let on = o2_mixes(sw[15], z);
+    let q = root_of(on, w, m[0] * g * c[0], 32.0 - xmm, 0.0 - 1.0, b28 * m[1]);
+    o2(sw[15], z, p, t, q, m[3] * k[23] * flux, zhm, xmm)
 }
 
 pub fn argon_stage(
@@ -192,7 +232,9 @@ pub fn argon_stage(
     let c = pd5();
     let m = pdm4();
     let g = exp(sw[21] * l.pd5);
-    argon(h, sw[15], z, p, w, t, b28, m[0] * g * c[0], zhm, xmm)
+    let on = ar_mixes(sw[15], z);
+    let q = root_of(on, w, m[0] * g * c[0], 40.0 - xmm, 0.17 - 1.0, b28 * m[1]);
+    argon(sw[15], z, p, t, q, zhm, xmm)
 }
 
 pub fn hydrogen_stage(
@@ -212,8 +254,19 @@ pub fn hydrogen_stage(
 {
     let c = pd6();
     let m = pdm5();
+    let k = pdl1();
     let g = exp(sw[21] * l.pd6);
-    hydrogen(h, sw[15], z, p, w, t, b28, m[0] * g * c[0], zhm, xmm)
+    let on = h_mixes(sw[15], z);
+    let e = sqrt(k[17] * k[17]);
+    let q = root_of(
+        on,
+        w,
+        m[0] * g * c[0],
+        1.0 - xmm,
+        -0.38 - 1.0,
+        b28 * m[1] * e,
+    );
+    hydrogen(sw[15], z, p, t, q, zhm, xmm)
 }
 
 pub fn nitrogen_stage(
@@ -233,6 +286,17 @@ pub fn nitrogen_stage(
 {
     let c = pd7();
     let m = pdm6();
+    let k = pdl0();
     let g = exp(sw[21] * l.pd7);
-    nitrogen(h, sw[15], z, p, w, t, b28, m[0] * g * c[0], zhm, xmm)
+    let on = n_mixes(sw[15], z);
+    let e = sqrt(k[2] * k[2]);
+    let q = root_of(
+        on,
+        w,
+        m[0] * g * c[0],
+        14.0 - xmm,
+        0.0 - 1.0,
+        b28 * m[1] * e,
+    );
+    nitrogen(sw[15], z, p, t, q, zhm, xmm)
 }
