@@ -38,6 +38,29 @@ unfoldable pub rootOf : Bool → Place → Float → Float → Float → Float �
 rootOf on w db xm alpha num =
     cond on (record { db = db; b = gasOf w db xm alpha; r = logOf (num ⊘ gasOf w db xm alpha) }) (record { db = db; b = 0·0; r = 0·0 })
 
+-- each species' root at its turbopause; b28 is N2's mixed density there, xmm the mass of mixed air
+unfoldable pub n2RootOf : Place → Float → Root
+n2RootOf w db = record { db = db; b = gasOf w db (28·0 ⊖ pdmT2 ‼ 4) (0·0 ⊖ 1·0); r = 0·0 }
+
+unfoldable pub heliumRootOf : Bool → Place → Float → Float → Float → Root
+heliumRootOf on w db b28 xmm = rootOf on w db (4·0 ⊖ xmm) (neg 0·38 ⊖ 1·0) (b28 ⊗ pdmT0 ‼ 1)
+
+unfoldable pub oxygenRootOf : Bool → Place → Float → Float → Float → Root
+oxygenRootOf on w db flux xmm =
+    record { db = db; b = turbopauseDensityOf on w db (16·0 ⊖ xmm) (0·0 ⊖ 1·0); r = pdmT1 ‼ 1 ⊗ pdlT1 ‼ 16 ⊗ flux }
+
+unfoldable pub o2RootOf : Bool → Place → Float → Float → Float → Root
+o2RootOf on w db b28 xmm = rootOf on w db (32·0 ⊖ xmm) (0·0 ⊖ 1·0) (b28 ⊗ pdmT3 ‼ 1)
+
+unfoldable pub argonRootOf : Bool → Place → Float → Float → Float → Root
+argonRootOf on w db b28 xmm = rootOf on w db (40·0 ⊖ xmm) (0·17 ⊖ 1·0) (b28 ⊗ pdmT4 ‼ 1)
+
+unfoldable pub hydrogenRootOf : Bool → Place → Float → Float → Float → Root
+hydrogenRootOf on w db b28 xmm = rootOf on w db (1·0 ⊖ xmm) (neg 0·38 ⊖ 1·0) (b28 ⊗ pdmT5 ‼ 1 ⊗ sqrtOf (pdlT1 ‼ 17 ⊗ pdlT1 ‼ 17))
+
+unfoldable pub nitrogenRootOf : Bool → Place → Float → Float → Float → Root
+nitrogenRootOf on w db b28 xmm = rootOf on w db (14·0 ⊖ xmm) (0·0 ⊖ 1·0) (b28 ⊗ pdmT6 ‼ 1 ⊗ sqrtOf (pdlT0 ‼ 2 ⊗ pdlT0 ‼ 2))
+
 -- a species above and below its turbopause, blended
 unfoldable pub blendedOf : Place → Thinning → Root → Float → Float → Float → Float → Mixture
 blendedOf p t q xm alpha zhm xmm =
@@ -155,12 +178,22 @@ root-is on h zh w db xm alpha num q e at =
       rate = λ o. ap (λ (x : Root). x .r) (e ∙ root-there on w db xm alpha num o) ∙ ap (λ (d : Float). logOf (num ⊘ d)) (gas-is h zh w (at o) db xm alpha);
     }
 
--- the same where the rate is known beforehand
-pub density-root-is : (on : Bool) (h : Shape) (zh : Float) (w : Place) (db xm alpha r b : Float) → b ≡ turbopauseDensityOf on w db xm alpha → Turbopause h on zh w
-    → Rooted on h zh db xm alpha r (record { db = db; b = b; r = r })
-unfolding turbopauseDensityOf
-density-root-is on h zh w db xm alpha r b e at =
-    record { lower = refl; upper = λ o. e ∙ ap (λ (t : Bool). cond t (gasOf w db xm alpha) 0·0) o ∙ gas-is h zh w (at o) db xm alpha; rate = λ o. refl }
+-- O's, whose rate no turbopause changes
+pub oxygen-root-is : (on : Bool) (h : Shape) (w : Place) (db flux xmm : Float) (q : Root) → q ≡ oxygenRootOf on w db flux xmm → Turbopause h on (pdmT1 ‼ 2) w
+    → Rooted on h (pdmT1 ‼ 2) db (16·0 ⊖ xmm) (0·0 ⊖ 1·0) (pdmT1 ‼ 1 ⊗ pdlT1 ‼ 16 ⊗ flux) q
+unfolding oxygenRootOf turbopauseDensityOf
+oxygen-root-is on h w db flux xmm q e at =
+    record {
+      lower = ap (λ (x : Root). x .db) e;
+      upper = λ o. ap (λ (x : Root). x .b) e ∙ ap (λ (t : Bool). cond t (gasOf w db (16·0 ⊖ xmm) (0·0 ⊖ 1·0)) 0·0) o ∙ gas-is h (pdmT1 ‼ 2) w (at o) db (16·0 ⊖ xmm) (0·0 ⊖ 1·0);
+      rate = λ o. ap (λ (x : Root). x .r) e;
+    }
+
+-- N2's, which every species reads
+pub n2-root-is : (h : Shape) (w : Place) (db zhf : Float) (q : Root) → q ≡ n2RootOf w db → w ≡ placeAt h (pdmT2 ‼ 2 ⊗ zhf)
+    → (q .db ≡ db) × (q .b ≡ densityOf h (pdmT2 ‼ 2 ⊗ zhf) db (28·0 ⊖ pdmT2 ‼ 4) (0·0 ⊖ 1·0))
+unfolding n2RootOf
+n2-root-is h w db zhf q e at = (ap (λ (x : Root). x .db) e, ap (λ (x : Root). x .b) e ∙ gas-is h (pdmT2 ‼ 2 ⊗ zhf) w at db (28·0 ⊖ pdmT2 ‼ 4) (0·0 ⊖ 1·0))
 
 -- one of two mixtures, by the test of a species
 by-test : (on : Bool) (x y x' y' : Mixture) → (on ≡ false → x ≡ x') → (on ≡ true → y ≡ y') → cond (not on) x y ≡ cond (not on) x' y'
@@ -197,12 +230,12 @@ module _ (own : Bool) (h : Shape) (z : Float) (p : Place) (t : Thinning) (q : Ro
 module _ (h : Shape) (sw15 z : Float) (p : Place) (t : Thinning) (q : Root) (at : p ≡ placeAt h z) where
   -- N2, whose mixed density at the turbopause is given with it
   pub n2-is : (db zhf : Float) → Mixes (n2Mixed sw15 z) p (pdmT2 ‼ 4) t
-      → Rooted (n2Mixed sw15 z) h (pdmT2 ‼ 2 ⊗ zhf) db (28·0 ⊖ pdmT2 ‼ 4) (0·0 ⊖ 1·0) 0·0 q
-      → q .b ≡ densityOf h (pdmT2 ‼ 2 ⊗ zhf) db (28·0 ⊖ pdmT2 ‼ 4) (0·0 ⊖ 1·0)
+      → (q .db ≡ db) × (q .b ≡ densityOf h (pdmT2 ‼ 2 ⊗ zhf) db (28·0 ⊖ pdmT2 ‼ 4) (0·0 ⊖ 1·0))
       → _≡_ {A = Blend} (record { dens = (n2From sw15 z p t q) .dens; b = q .b; dm = (n2From sw15 z p t q) .dm }) (n2Of h sw15 z db zhf)
   unfolding n2From n2Of mixedOf
-  n2-is db zhf thins rooted e =
-      ap (λ (b : Float). record { dens = (n2From sw15 z p t q) .dens; b = b; dm = (n2From sw15 z p t q) .dm }) e
+  n2-is db zhf thins e =
+      let rooted : Rooted (n2Mixed sw15 z) h (pdmT2 ‼ 2 ⊗ zhf) db (28·0 ⊖ pdmT2 ‼ 4) (0·0 ⊖ 1·0) (q .r) q = record { lower = e .0; upper = λ o. e .1; rate = λ o. refl } in
+      ap (λ (b : Float). record { dens = (n2From sw15 z p t q) .dens; b = b; dm = (n2From sw15 z p t q) .dm }) (e .1)
       ∙ ap (λ (m : Mixture). record { dens = m .dens; b = densityOf h (pdmT2 ‼ 2 ⊗ zhf) db (28·0 ⊖ pdmT2 ‼ 4) (0·0 ⊖ 1·0); dm = m .dm })
       (by-test (n2Mixed sw15 z) _ _ _ _
       (alone (n2Mixed sw15 z) h z p t q (pdmT2 ‼ 3 ⊗ pdlT1 ‼ 5) (pdmT2 ‼ 4) (pdmT2 ‼ 2 ⊗ zhf) db 28·0 0·0 _ at thins rooted)

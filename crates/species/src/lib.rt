@@ -4,9 +4,10 @@ ghost use mathlib.Core.Bool.{true};
 ghost use Rattle.places.specs.Thinning.{Logged};
 ghost use Rattle.species.specs.Places.{spineAt, placeAt, Turbopause, Mixes};
 ghost use Rattle.species.specs.Species.{densityOf, temperatureOf};
-ghost use Rattle.species.specs.Rooted.{gasOf, mixingOf, turbopauseDensityOf, rootOf, blendedOf, n2From, heliumFrom, oxygenFrom, o2MixedFrom, o2From, argonFrom, hydrogenFrom, nitrogenFrom, hotFactorOf, hotFrom};
+ghost use Rattle.species.specs.Rooted.{gasOf, mixingOf, turbopauseDensityOf, rootOf, n2RootOf, heliumRootOf, oxygenRootOf, o2RootOf, argonRootOf, hydrogenRootOf, nitrogenRootOf, blendedOf, n2From, heliumFrom, oxygenFrom, o2MixedFrom, o2From, argonFrom, hydrogenFrom, nitrogenFrom, hotFactorOf, hotFrom};
 use elementary::exponential::exp;
 use elementary::logarithm::log;
+use elementary::root::sqrt;
 use mixing::ccor;
 use mixing::ccor2;
 use mixing::dnet;
@@ -179,6 +180,78 @@ pub fn root_of(on: bool, w: Place, db: f64, xm: f64, alpha: f64, num: f64) -> Ro
         b: 0.0,
         r: 0.0,
     }
+}
+
+// Each species' root at its turbopause w, from its density db at the lower boundary and N2's mixed density b28; xmm is the mass of mixed air.
+pub fn n2_root(w: Place, db: f64) -> Root
+    requires { ⌜ Logged w ⌝ }
+    ensures { λ r. ⌜ r ≡ n2RootOf w db ⌝ }
+{
+    let m = pdm2();
+    let b = gas(w, db, 28.0 - m[4], 0.0 - 1.0);
+    Root {
+        db: db,
+        b: b,
+        r: 0.0,
+    }
+}
+
+pub fn helium_root(on: bool, w: Place, db: f64, b28: f64, xmm: f64) -> Root
+    requires { ⌜ (on ≡ true → Logged w) ⌝ }
+    ensures { λ r. ⌜ r ≡ heliumRootOf on w db b28 xmm ⌝ }
+{
+    let m = pdm0();
+    root_of(on, w, db, 4.0 - xmm, -0.38 - 1.0, b28 * m[1])
+}
+
+pub fn oxygen_root(on: bool, w: Place, db: f64, flux: f64, xmm: f64) -> Root
+    requires { ⌜ (on ≡ true → Logged w) ⌝ }
+    ensures { λ r. ⌜ r ≡ oxygenRootOf on w db flux xmm ⌝ }
+{
+    let m = pdm1();
+    let l = pdl1();
+    let b = turbopause_density(on, w, db, 16.0 - xmm, 0.0 - 1.0);
+    Root {
+        db: db,
+        b: b,
+        r: m[1] * l[16] * flux,
+    }
+}
+
+pub fn o2_root(on: bool, w: Place, db: f64, b28: f64, xmm: f64) -> Root
+    requires { ⌜ (on ≡ true → Logged w) ⌝ }
+    ensures { λ r. ⌜ r ≡ o2RootOf on w db b28 xmm ⌝ }
+{
+    let m = pdm3();
+    root_of(on, w, db, 32.0 - xmm, 0.0 - 1.0, b28 * m[1])
+}
+
+pub fn argon_root(on: bool, w: Place, db: f64, b28: f64, xmm: f64) -> Root
+    requires { ⌜ (on ≡ true → Logged w) ⌝ }
+    ensures { λ r. ⌜ r ≡ argonRootOf on w db b28 xmm ⌝ }
+{
+    let m = pdm4();
+    root_of(on, w, db, 40.0 - xmm, 0.17 - 1.0, b28 * m[1])
+}
+
+pub fn hydrogen_root(on: bool, w: Place, db: f64, b28: f64, xmm: f64) -> Root
+    requires { ⌜ (on ≡ true → Logged w) ⌝ }
+    ensures { λ r. ⌜ r ≡ hydrogenRootOf on w db b28 xmm ⌝ }
+{
+    let m = pdm5();
+    let l = pdl1();
+    let e = sqrt(l[17] * l[17]);
+    root_of(on, w, db, 1.0 - xmm, -0.38 - 1.0, b28 * m[1] * e)
+}
+
+pub fn nitrogen_root(on: bool, w: Place, db: f64, b28: f64, xmm: f64) -> Root
+    requires { ⌜ (on ≡ true → Logged w) ⌝ }
+    ensures { λ r. ⌜ r ≡ nitrogenRootOf on w db b28 xmm ⌝ }
+{
+    let m = pdm6();
+    let l = pdl0();
+    let e = sqrt(l[2] * l[2]);
+    root_of(on, w, db, 14.0 - xmm, 0.0 - 1.0, b28 * m[1] * e)
 }
 
 // A species above and below its turbopause, blended: t thins out what is mixed.

@@ -9,7 +9,6 @@ ghost use Rattle.species.specs.Places.{placeAt, mixesAt, Turbopause, Mixes};
 ghost use Rattle.tables.specs.Tables.{pdmT0, pdmT1, pdmT2, pdmT3, pdmT4, pdmT5, pdmT6};
 ghost use Rattle.stages.specs.Stages.{tinfPlan, gradientPlan, tlbPlan, n2Plan, heliumPlan, oxygenPlan, o2Plan, argonPlan, hydrogenPlan, nitrogenPlan, hotPlan};
 use elementary::exponential::exp;
-use elementary::root::sqrt;
 use mixing::limits::ar_mixes;
 use mixing::limits::h_mixes;
 use mixing::limits::he_mixes;
@@ -22,19 +21,23 @@ use plan::Levels;
 use profile::unchecked::Shape;
 use species::Blend;
 use species::Mixture;
-use species::Root;
 use species::argon;
+use species::argon_root;
 use species::helium;
+use species::helium_root;
 use species::hot;
 use species::hot_factor;
 use species::hydrogen;
+use species::hydrogen_root;
 use species::n2;
+use species::n2_root;
 use species::nitrogen;
+use species::nitrogen_root;
 use species::o2;
+use species::o2_root;
 use species::oxygen;
+use species::oxygen_root;
 use species::place_alone_at;
-use species::root_of;
-use species::turbopause_density;
 use tables::pd0;
 use tables::pd1;
 use tables::pd2;
@@ -108,17 +111,11 @@ pub fn n2_stage(
     let c = pd2();
     let m = pdm2();
     let g = exp(sw[21] * l.pd2);
-    let db = m[0] * g * c[0];
-    let b = turbopause_density(true, w, db, 28.0 - m[4], 0.0 - 1.0);
-    let q = Root {
-        db: db,
-        b: b,
-        r: 0.0,
-    };
+    let q = n2_root(w, m[0] * g * c[0]);
     let x = n2(sw[15], z, p, t, q);
     Blend {
         dens: x.dens,
-        b: b,
+        b: q.b,
         dm: x.dm,
     }
 }
@@ -155,7 +152,7 @@ pub fn helium_stage(
     let m = pdm0();
     let g = exp(sw[21] * l.pd0);
     let on = he_mixes(sw[15], z);
-    let q = root_of(on, w, m[0] * g * c[0], 4.0 - xmm, -0.38 - 1.0, b28 * m[1]);
+    let q = helium_root(on, w, m[0] * g * c[0], b28, xmm);
     helium(sw[15], z, p, t, q, zhm, xmm)
 }
 
@@ -176,16 +173,9 @@ pub fn oxygen_stage(
 {
     let c = pd1();
     let m = pdm1();
-    let k = pdl1();
     let g = exp(sw[21] * l.pd1);
     let on = o_mixes(sw[15], z);
-    let db = m[0] * g * c[0];
-    let b = turbopause_density(on, w, db, 16.0 - xmm, 0.0 - 1.0);
-    let q = Root {
-        db: db,
-        b: b,
-        r: m[1] * k[16] * flux,
-    };
+    let q = oxygen_root(on, w, m[0] * g * c[0], flux, xmm);
     oxygen(sw[15], z, p, t, q, zhm, xmm)
 }
 
@@ -210,7 +200,7 @@ pub fn o2_stage(
     let k = pdl1();
     let g = exp(sw[21] * l.pd4);
     let on = o2_mixes(sw[15], z);
-    let q = root_of(on, w, m[0] * g * c[0], 32.0 - xmm, 0.0 - 1.0, b28 * m[1]);
+    let q = o2_root(on, w, m[0] * g * c[0], b28, xmm);
     o2(sw[15], z, p, t, q, m[3] * k[23] * flux, zhm, xmm)
 }
 
@@ -233,7 +223,7 @@ pub fn argon_stage(
     let m = pdm4();
     let g = exp(sw[21] * l.pd5);
     let on = ar_mixes(sw[15], z);
-    let q = root_of(on, w, m[0] * g * c[0], 40.0 - xmm, 0.17 - 1.0, b28 * m[1]);
+    let q = argon_root(on, w, m[0] * g * c[0], b28, xmm);
     argon(sw[15], z, p, t, q, zhm, xmm)
 }
 
@@ -254,18 +244,9 @@ pub fn hydrogen_stage(
 {
     let c = pd6();
     let m = pdm5();
-    let k = pdl1();
     let g = exp(sw[21] * l.pd6);
     let on = h_mixes(sw[15], z);
-    let e = sqrt(k[17] * k[17]);
-    let q = root_of(
-        on,
-        w,
-        m[0] * g * c[0],
-        1.0 - xmm,
-        -0.38 - 1.0,
-        b28 * m[1] * e,
-    );
+    let q = hydrogen_root(on, w, m[0] * g * c[0], b28, xmm);
     hydrogen(sw[15], z, p, t, q, zhm, xmm)
 }
 
@@ -286,17 +267,8 @@ pub fn nitrogen_stage(
 {
     let c = pd7();
     let m = pdm6();
-    let k = pdl0();
     let g = exp(sw[21] * l.pd7);
     let on = n_mixes(sw[15], z);
-    let e = sqrt(k[2] * k[2]);
-    let q = root_of(
-        on,
-        w,
-        m[0] * g * c[0],
-        14.0 - xmm,
-        0.0 - 1.0,
-        b28 * m[1] * e,
-    );
+    let q = nitrogen_root(on, w, m[0] * g * c[0], b28, xmm);
     nitrogen(sw[15], z, p, t, q, zhm, xmm)
 }

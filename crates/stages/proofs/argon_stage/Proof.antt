@@ -10,8 +10,8 @@ use borrow.Author.Needs.{needs}
 use Rattle.stages.proofs.argon_stage.Statement.{statement}
 use Rattle.stages.proofs.argon_stage.Tie as tie
 
-root-of-requires : tie.Need-root-of-requires
-root-of-requires c κs = let A = c .before .before .before .before .before .args in
+argon-root-requires : tie.Need-argon-root-requires
+argon-root-requires c κs = let A = c .before .before .before .before .before .args in
     logged-there (A .h) (pdmT4 ‼ 2) (A .w) _ (arMixed (A .t1 ‼ 15) (A .z)) (mixesAt (A .t1 ‼ 15) (A .z)) (c .before .before .before .before .before .pre .1) (mixes-240 (A .t1 ‼ 15) (A .z)) (c .ar-mixes .ensures)
 
 argon-requires : tie.Need-argon-requires
@@ -20,11 +20,10 @@ argon-requires c κs = let A = c .before .before .before .before .before .before
 returns : tie.Need-returns
 returns c = let A = c .before .before .before .before .before .before .before .args in
     argon-law (A .t1) (A .h) (A .z) (A .p) (A .w) (A .t) (A .b28) (A .zhm) (A .xmm) (A .l)
-    (c .argon .result) (c .before .root-of .result) (c .before .before .ar-mixes .result) (c .before .before .before .exp .result) (c .before .before .before .before .before .pdm4 .result) (c .before .before .before .before .before .before .pd5 .result)
-    (c .argon .ensures) (c .before .root-of .ensures) (c .before .before .ar-mixes .ensures) (c .before .before .before .exp .ensures) (c .before .before .before .before .before .pdm4 .ensures) (c .before .before .before .before .before .before .pd5 .ensures) (c .before .before .before .before .before .before .before .pre)
+    (c .argon .result) (c .before .argon-root .result) (c .before .before .ar-mixes .result) (c .before .before .before .exp .result) (c .before .before .before .before .before .pdm4 .result) (c .before .before .before .before .before .before .pd5 .result)
+    (c .argon .ensures) (c .before .argon-root .ensures) (c .before .before .ar-mixes .ensures) (c .before .before .before .exp .ensures) (c .before .before .before .before .before .pdm4 .ensures) (c .before .before .before .before .before .before .pd5 .ensures) (c .before .before .before .before .before .before .before .pre)
 
 pub argon-stage-spec : {M : Type 1} → statement M
 argon-stage-spec =
     tie.close
-    (tie.spec (λ c κs. search needs) (λ c κs. search needs) (λ c. search needs) (λ c κs. search needs) (λ c. search needs) (λ c κs. search needs)
-    (λ c. search needs) (λ c. search needs) (λ c. search needs) root-of-requires (λ c. search needs) argon-requires returns)
+    (tie.spec (λ c κs. search needs) (λ c κs. search needs) (λ c. search needs) (λ c κs. search needs) (λ c. search needs) (λ c κs. search needs) (λ c. search needs) (λ c. search needs) argon-root-requires (λ c. search needs) argon-requires returns)

@@ -8,8 +8,8 @@ use borrow.Author.Needs.{needs}
 use Rattle.stages.proofs.helium_stage.Statement.{statement}
 use Rattle.stages.proofs.helium_stage.Tie as tie
 
-root-of-requires : tie.Need-root-of-requires
-root-of-requires c κs = let A = c .before .before .before .before .before .args in
+helium-root-requires : tie.Need-helium-root-requires
+helium-root-requires c κs = let A = c .before .before .before .before .before .args in
     logged-there (A .h) (pdmT0 ‼ 2) (A .w) _ (heMixed (A .t1 ‼ 15) (A .z)) (heMixed (A .t1 ‼ 15) (A .z)) (c .before .before .before .before .before .pre .1) (λ o. o) (c .he-mixes .ensures)
 
 helium-requires : tie.Need-helium-requires
@@ -18,11 +18,10 @@ helium-requires c κs = let A = c .before .before .before .before .before .befor
 returns : tie.Need-returns
 returns c = let A = c .before .before .before .before .before .before .before .args in
     helium-law (A .t1) (A .h) (A .z) (A .p) (A .w) (A .t) (A .b28) (A .zhm) (A .xmm) (A .l)
-    (c .helium .result) (c .before .root-of .result) (c .before .before .he-mixes .result) (c .before .before .before .exp .result) (c .before .before .before .before .before .pdm0 .result) (c .before .before .before .before .before .before .pd0 .result)
-    (c .helium .ensures) (c .before .root-of .ensures) (c .before .before .he-mixes .ensures) (c .before .before .before .exp .ensures) (c .before .before .before .before .before .pdm0 .ensures) (c .before .before .before .before .before .before .pd0 .ensures) (c .before .before .before .before .before .before .before .pre)
+    (c .helium .result) (c .before .helium-root .result) (c .before .before .he-mixes .result) (c .before .before .before .exp .result) (c .before .before .before .before .before .pdm0 .result) (c .before .before .before .before .before .before .pd0 .result)
+    (c .helium .ensures) (c .before .helium-root .ensures) (c .before .before .he-mixes .ensures) (c .before .before .before .exp .ensures) (c .before .before .before .before .before .pdm0 .ensures) (c .before .before .before .before .before .before .pd0 .ensures) (c .before .before .before .before .before .before .before .pre)
 
 pub helium-stage-spec : {M : Type 1} → statement M
 helium-stage-spec =
     tie.close
-    (tie.spec (λ c κs. search needs) (λ c κs. search needs) (λ c. search needs) (λ c κs. search needs) (λ c. search needs) (λ c κs. search needs)
-    (λ c. search needs) (λ c. search needs) (λ c. search needs) root-of-requires (λ c. search needs) helium-requires returns)
+    (tie.spec (λ c κs. search needs) (λ c κs. search needs) (λ c. search needs) (λ c κs. search needs) (λ c. search needs) (λ c κs. search needs) (λ c. search needs) (λ c. search needs) helium-root-requires (λ c. search needs) helium-requires returns)

@@ -7,8 +7,8 @@ use borrow.Author.Needs.{needs}
 use Rattle.stages.proofs.n2_stage.Statement.{statement}
 use Rattle.stages.proofs.n2_stage.Tie as tie
 
-turbopause-density-requires : tie.Need-turbopause-density-requires
-turbopause-density-requires c κs = λ o. let A = c .before .before .before .before .args in
+n2-root-requires : tie.Need-n2-root-requires
+n2-root-requires c κs = let A = c .before .before .before .before .args in
     logged-at (A .h) (pdmT2 ‼ 2 ⊗ A .zhf) (A .w) (c .before .before .before .before .pre .1)
 
 n2-requires : tie.Need-n2-requires
@@ -17,12 +17,12 @@ n2-requires c κs = let A = c .before .before .before .before .before .args in l
 returns : tie.Need-returns
 returns c = let A = c .before .before .before .before .before .before .args in
     n2-law (A .t1) (A .h) (A .z) (A .p) (A .w) (A .t) (A .zhf) (A .l)
-    (c .n2 .result) (c .before .turbopause-density .result) (c .before .before .exp .result) (c .before .before .before .before .pdm2 .result) (c .before .before .before .before .before .pd2 .result)
-    (c .n2 .ensures) (c .before .turbopause-density .ensures) (c .before .before .exp .ensures) (c .before .before .before .before .pdm2 .ensures) (c .before .before .before .before .before .pd2 .ensures)
+    (c .n2 .result) (c .before .n2-root .result) (c .before .before .exp .result) (c .before .before .before .before .pdm2 .result) (c .before .before .before .before .before .pd2 .result)
+    (c .n2 .ensures) (c .before .n2-root .ensures) (c .before .before .exp .ensures) (c .before .before .before .before .pdm2 .ensures) (c .before .before .before .before .before .pd2 .ensures)
     (c .before .before .before .before .before .before .pre)
 
 pub n2-stage-spec : {M : Type 1} → statement M
 n2-stage-spec =
     tie.close
     (tie.spec (λ c κs. search needs) (λ c κs. search needs) (λ c. search needs) (λ c κs. search needs) (λ c. search needs) (λ c. search needs)
-    (λ c. search needs) turbopause-density-requires (λ c. search needs) n2-requires returns)
+    n2-root-requires (λ c. search needs) n2-requires returns)

@@ -1,8 +1,8 @@
 -- `row_from` meets its contract.
-use Rattle.unmixed.specs.Unmixed.{rowOf}
+use Rattle.upper.specs.Upper.{rowOf}
 use borrow.Author.Needs.{needs}
-use Rattle.unmixed.proofs.row_from.Statement.{statement}
-use Rattle.unmixed.proofs.row_from.Tie as tie
+use Rattle.upper.proofs.row_from.Statement.{statement}
+use Rattle.upper.proofs.row_from.Tie as tie
 
 returns : tie.Need-returns
 unfolding rowOf
