@@ -58,7 +58,7 @@ module _ (xs ys y2 : List Float) (x : Float) where
   unfolding firstFive splintOf searched
   splint-four = refl
 
-  splint-five : splintOf (firstFive xs) (firstFive ys) (firstFive y2) 5 x ≡ splintOf xs ys y2 5 x
+  pub splint-five : splintOf (firstFive xs) (firstFive ys) (firstFive y2) 5 x ≡ splintOf xs ys y2 5 x
   unfolding firstFive splintOf searched
   splint-five = refl
 
@@ -66,7 +66,7 @@ module _ (xs ys y2 : List Float) (x : Float) where
   unfolding firstFive spliniOf integral segmentOf
   splini-four = refl
 
-  splini-five : spliniOf (firstFive xs) (firstFive ys) (firstFive y2) 5 x ≡ spliniOf xs ys y2 5 x
+  pub splini-five : spliniOf (firstFive xs) (firstFive ys) (firstFive y2) 5 x ≡ spliniOf xs ys y2 5 x
   unfolding firstFive spliniOf integral segmentOf
   splini-five = refl
 

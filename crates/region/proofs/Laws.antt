@@ -19,9 +19,12 @@ use Rattle.region.specs.Region.{turbopausesOf, warmthAt}
 
 pub turbopauses-logged : (h : Shape) (zhf : Float) (w : Turbopauses) → w ≡ turbopausesOf h zhf → Logged (w .n2) × Logged (w .he) × Logged (w .o) × Logged (w .h)
 unfolding turbopausesOf
-turbopauses-logged h zhf w e =
-    (logged-at h _ (w .n2) (ap (λ (x : Turbopauses). x .n2) e), logged-at h _ (w .he) (ap (λ (x : Turbopauses). x .he) e),
-    logged-at h _ (w .o) (ap (λ (x : Turbopauses). x .o) e), logged-at h _ (w .h) (ap (λ (x : Turbopauses). x .h) e))
+turbopauses-logged h zhf w e = (
+  logged-at h _ (w .n2) (ap (λ (x : Turbopauses). x .n2) e),
+  logged-at h _ (w .he) (ap (λ (x : Turbopauses). x .he) e),
+  logged-at h _ (w .o) (ap (λ (x : Turbopauses). x .o) e),
+  logged-at h _ (w .h) (ap (λ (x : Turbopauses). x .h) e),
+)
 
 pub under-logged : (re : Float) (s : Spine) (z za low : Float) (p : Place) → p ≡ underOf re s z za low → s .lt ≡ logOf (s .rt) → Logged p
 unfolding underOf

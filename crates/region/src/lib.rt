@@ -159,10 +159,7 @@ pub fn bases_of(f: f64, l: Levels) -> Bases
 {
     let a = thin_bases(f, l);
     let b = dense_bases(f, l);
-    Bases {
-        thin: a,
-        dense: b,
-    }
+    Bases { thin: a, dense: b }
 }
 
 // s is the spine of h.
