@@ -53,7 +53,7 @@ groundNumbers f =
     (f .meso .tn2 ‼ 0) ∷ (f .meso .tn2 ‼ 1) ∷ (f .meso .tn2 ‼ 2) ∷ (f .meso .tn2 ‼ 3) ∷ (f .meso .tgn2 ‼ 0) ∷ (f .meso .tgn2 ‼ 1) ∷ f .curves .d32 ∷ []
 
 unfoldable pub footingNumbers : Footing → List Float
-footingNumbers f = groundNumbers f ++ spanNumbers (f .curves .upper) ++ spanNumbers (f .curves .lower)
+footingNumbers f = groundNumbers f ++ (spanNumbers (f .curves .upper) ++ spanNumbers (f .curves .lower))
 
 -- ---- what is stored, zeros where a part is not asked for; a region is made at one of its altitudes
 
@@ -67,7 +67,7 @@ unfoldable pub lowStored : Bool → List Float → Site → Levels → Bases →
 lowStored on sw x l d =
     cond (not on) (replicate 84 0·0)
     (let h = told (given l) (shapePlan sw x 100·0) in
-    regionNumbers h (rootsOf h x d) ++ spineNumbers (spineAt h) ++ spineNumbers (spineAt (anomalousOf h)))
+    regionNumbers h (rootsOf h x d) ++ (spineNumbers (spineAt h) ++ spineNumbers (spineAt (anomalousOf h))))
 
 unfoldable pub footingStored : Bool → List Float → Site → Levels → Bool → List Float
 footingStored on sw x l tropo = cond (not on) (replicate 53 0·0) (footingNumbers (footingOf sw x l tropo))
@@ -80,10 +80,10 @@ unfoldable pub storedOf : Parts → List Float → Site → Levels → List Floa
 storedOf p sw x l =
     let d = basesOf (sw ‼ 21) l in
     footingStored (p .below) sw x l (p .tropo)
-    ++ lowStored (p .low) sw x l d
-    ++ regionStored (p .mid) sw x l d 200·0
-    ++ regionStored (p .top) sw x l d 300·0
-    ++ summitStored (p .summit) sw x l
+    ++ (lowStored (p .low) sw x l d
+    ++ (regionStored (p .mid) sw x l d 200·0
+    ++ (regionStored (p .top) sw x l d 300·0
+    ++ summitStored (p .summit) sw x l)))
 
 -- ---- read again
 

@@ -5,6 +5,7 @@ ghost use mathlib.Core.List.{_++_};
 ghost use Prim.Native.Nat.{_+_, _≤_};
 ghost use lib.ListN.{length, take, drop};
 ghost use Rattle.region.specs.Region.{rowOver};
+ghost use Rattle.stored.specs.Rows.{partsAt};
 ghost use Rattle.stored.specs.Stored.{regionNumbers, spineNumbers, spanNumbers, groundNumbers, fiveIn, shapeIn, rootIn, rootsIn, spineIn, spanIn, footingIn, regionStored, lowStored, footingStored, summitStored, storedOf, lowRow, rowStored};
 use atmosphere::row_above;
 use elementary::logarithm::log;
@@ -38,6 +39,21 @@ pub struct Parts {
     pub low: bool,
     pub mid: bool,
     pub top: bool,
+}
+
+// The parts that an altitude reads.
+pub fn parts_at(alt: f64) -> Parts
+    ensures { λ r. ⌜ r ≡ partsAt alt ⌝ }
+{
+    let l = pdl1();
+    Parts {
+        summit: (alt >= 72.5) & !(alt > 72.5),
+        below: !(alt >= 72.5),
+        tropo: alt < 32.5,
+        low: (alt > 72.5) & !(alt > l[15]),
+        mid: (alt > l[15]) & (alt < 300.0),
+        top: (alt > l[15]) & !(alt < 300.0),
+    }
 }
 
 // ---- the numbers of each part
