@@ -1,28 +1,25 @@
 -- The footing, from what each stage gives.
-use mathlib.Core.Path.{_≡_, refl, ap, sym, _∙_}
-use mathlib.Core.Bool.{Bool}
+use mathlib.Core.Path.{_≡_, ap, _∙_}
+use mathlib.Core.Bool.{Bool, true, false}
 use mathlib.Core.List.{List, [], _∷_}
-use lib.Ieee.{Float}
+use lib.Ieee.{Float, lt}
 use Rattle.numbers.specs.Arithmetic.{_⊕_, _⊖_, _⊗_, _⊘_, _‼_}
-use Rattle.numbers.specs.Literals.{0·0, 1·0, 72·5}
-use Rattle.places.specs.declared.place.Place.{Place}
-use Rattle.places.specs.declared.thinning.Thinning.{Thinning}
-use Rattle.places.specs.Thinning.{Logged, thinningOf, logged}
+use Rattle.numbers.specs.Literals.{0·0, 1·0, 32·5, 72·5}
 use Rattle.profile.specs.declared.unchecked.Shape.{Shape}
 use Rattle.profile.specs.declared.unchecked.Profile.{Profile}
 use Rattle.profile.specs.Profile.{densityIn, temperatureIn}
+use Rattle.layers.specs.Layers.{downOf}
 use Rattle.plan.specs.declared.Levels.{Levels}
 use Rattle.plan.specs.Plan.{told, given}
-use Rattle.species.specs.Species.{nodes}
-use Rattle.species.specs.Places.{placeAt, Turbopause, Mixes}
 use Rattle.species.specs.declared.Blend.{Blend}
 use Rattle.species.specs.declared.Mixture.{Mixture}
-use Rattle.tables.specs.Tables.{ptmT, pdmT0, pdmT1, pdmT2, pdmT3, pdmT4, pdlT1}
+use Rattle.tables.specs.Tables.{pdmT0, pdmT2, pdmT3, pdmT4, pdlT1}
 use Rattle.upper.specs.declared.Site.{Site}
 use Rattle.upper.specs.Upper.{massOf}
 use Rattle.stages.specs.Stages.{shapePlan, n2Plan, heliumPlan, o2Plan, argonPlan}
 use Rattle.lower.specs.declared.Meso.{Meso}
-use Rattle.lower.specs.Lower.{mesoNodesPlan, dmcOf, dm28mOf, fullOf, kilogramsOf}
+use Rattle.lower.specs.declared.Nodes.{Nodes}
+use Rattle.lower.specs.Lower.{mesoNodesPlan, unsetOf, dmcOf, dm28mOf, n2Of, fullOf, kilogramsOf}
 use Rattle.footing.specs.declared.Curves.{Curves}
 use Rattle.footing.specs.declared.Footing.{Footing}
 use Rattle.footing.specs.declared.Three.{Three}
@@ -53,6 +50,20 @@ pub footing-law : (sw : List Float) (x : Site) (l : Levels) (tropo : Bool) (f : 
     → f ≡ footingOf sw x l tropo
 unfolding footingOf
 footing-law sw x l tropo f k d e y b h e0 e1 e2 e3 e4 e5 e6 = rw (e0, e1, e2, e3, e4, e5, e6)
+
+-- densm for N2, by the side of 32.5 km on which the altitude lies
+module _ (x : Site) (d : Float) (m : Meso) (k : Curves) (alt : Float) (r : Profile) where
+  pub upper-law : r ≡ downOf (x .re) 72·5 (k .upper) 4 d alt → lt 32·5 alt ≡ true → r ≡ reachedOf x d m k alt
+  unfolding reachedOf
+  upper-law e t = rw t e
+
+  pub lower-law : r ≡ downOf (x .re) 32·5 (k .lower) 5 (k .d32) alt → lt alt 32·5 ≡ true → lt 32·5 alt ≡ false → r ≡ reachedOf x d m k alt
+  unfolding reachedOf
+  lower-law e t f = rw (f, t) e
+
+  pub between-law : (w : Nodes) → r ≡ n2Of x alt d w → w ≡ unsetOf m → lt alt 32·5 ≡ false → lt 32·5 alt ≡ false → r ≡ reachedOf x d m k alt
+  unfolding reachedOf
+  between-law w e u f g = rw (g, f) (e ∙ ap (n2Of x alt d) u)
 
 pub row-law : (sw0 : Float) (f : Footing) (alt : Float) (all g ar o2 he t1 n : Float) (a : Profile) (c : Float) (m4 m3 m0 : List Float)
     → all ≡ kilogramsOf sw0 g

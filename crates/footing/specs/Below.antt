@@ -5,15 +5,15 @@ use mathlib.Core.Bool.{Bool, true, false, cond, not}
 use mathlib.Core.List.{List}
 use lib.Ieee.{Float, lt, eq, ne, ofBits}
 use Rattle.numbers.specs.Arithmetic.{_⊗_, _‼_}
-use Rattle.numbers.specs.Literals.{0·0, 1·0, 32·5, 72·5, 1·0E6}
+use Rattle.numbers.specs.Literals.{0·0, 1·0, 32·5, 72·5}
 use Rattle.profile.specs.Curve.{layerOf, flooredOf}
-use Rattle.profile.specs.Profile.{densmOf, answerOf, densityIn, temperatureIn}
+use Rattle.profile.specs.Profile.{densmOf, answerOf, temperatureIn}
 use Rattle.layers.specs.Layers.{spanOf, densm-upper, densm-lower}
 use Rattle.profile.specs.declared.unchecked.Profile.{Profile}
 use Rattle.profile.specs.declared.unchecked.Profile.the-variants.{Temperature, Density}
 use Rattle.profile.specs.declared.unchecked.Shape.{Shape}
 use Rattle.plan.specs.declared.Levels.{Levels}
-use Rattle.plan.specs.Plan.{either, _>>=_, told, given, then, last, told-keep}
+use Rattle.plan.specs.Plan.{_>>=_, told, given, then, last, told-keep}
 use Rattle.species.specs.declared.Blend.{Blend}
 use Rattle.tables.specs.Tables.{pdmT2, pdlT1}
 use Rattle.upper.specs.declared.Site.{Site}
@@ -23,11 +23,9 @@ use Rattle.upper.specs.Upper.{anomalousOf, unitsOf, gatherOf}
 use Rattle.stages.specs.Stages.{shapePlan, n2Plan, heliumPlan, oxygenPlan, o2Plan, argonPlan, hydrogenPlan, nitrogenPlan, hotPlan, speciesPlan, gts7Plan}
 use Rattle.lower.specs.declared.Meso.{Meso}
 use Rattle.lower.specs.declared.Nodes.{Nodes}
-use Rattle.lower.specs.declared.Whole.{Whole}
 use Rattle.lower.specs.Lower.{troposphereOf, unsetOf, mesoNodesPlan, mesoPlan, lowerPlan, dm28mOf, zn2, zn3, n2Of, warmthOf, belowOf}
 use Rattle.footing.specs.declared.Curves.{Curves}
 use Rattle.footing.specs.declared.Footing.{Footing}
-use Rattle.footing.specs.declared.Three.{Three}
 use Rattle.footing.specs.Footing.{threeOf, inUnitsOf, curvesOf, standingOf, footingOf, reachedOf, rowBelowOf}
 
 -- ---- densm's temperature does not depend on the gas

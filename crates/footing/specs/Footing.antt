@@ -8,7 +8,6 @@ use Rattle.profile.specs.Curve.{layerOf}
 use Rattle.profile.specs.Profile.{loweredOf, densityIn, temperatureIn}
 use Rattle.profile.specs.declared.unchecked.Profile.{Profile}
 use Rattle.profile.specs.declared.unchecked.Shape.{Shape}
-use Rattle.layers.specs.declared.Span.{Span}
 use Rattle.layers.specs.Layers.{spanOf, blankOf, downOf}
 use Rattle.plan.specs.declared.Levels.{Levels}
 use Rattle.plan.specs.Plan.{told, given}

@@ -2,7 +2,6 @@
 ghost use mathlib.Core.Path.{_≡_};
 ghost use Prim.Native.Nat.{_≤_};
 ghost use Rattle.profile.specs.Curve.{layerOf};
-ghost use Rattle.spline.specs.Nodes.{splintOf, spliniOf};
 ghost use Rattle.layers.specs.Layers.{firstFive, spanOf, blankOf, readOf, downOf};
 use elementary::exponential::exp;
 use elementary::power::pow;
