@@ -1,6 +1,6 @@
 -- What a station stores of a record and a switch row, as a list of numbers, and the row of an altitude out of that list.
 use Prim.Native.Nat.{ℕ, _+_}
-use mathlib.Core.Bool.{Bool, cond, not}
+use mathlib.Core.Bool.{Bool, true, cond, not, _||_}
 use mathlib.Core.List.{List, [], _∷_, _++_}
 use lib.ListN.{take, drop, replicate}
 use lib.Ieee.{Float, lt, le}
@@ -9,6 +9,7 @@ use Rattle.numbers.specs.Literals.{0·0, 72·5, 100·0, 200·0, 300·0}
 use Rattle.elementary.specs.Log.{logOf}
 use Rattle.layers.specs.declared.Span.{Span}
 use Rattle.places.specs.declared.place.Spine.{Spine}
+use Rattle.levels.specs.declared.Need.{Need}
 use Rattle.plan.specs.declared.Levels.{Levels}
 use Rattle.plan.specs.Plan.{told, given}
 use Rattle.profile.specs.declared.unchecked.Shape.{Shape}
@@ -25,6 +26,23 @@ use Rattle.footing.specs.declared.Footing.{Footing}
 use Rattle.footing.specs.Footing.{footingOf, rowBelowOf}
 use Rattle.atmosphere.specs.Atmosphere.{elevenFrom}
 use Rattle.stored.specs.declared.Parts.{Parts}
+
+-- ---- the parts
+
+unfoldable pub allParts : Parts
+allParts = record { summit = true; below = true; tropo = true; low = true; mid = true; top = true }
+
+-- the coefficient sets that the parts read
+unfoldable pub needOf : Parts → Need
+needOf p =
+    record {
+      high = p .summit || (p .low || (p .mid || p .top));
+      pt = p .mid || p .top;
+      ps = p .low || (p .mid || p .top);
+      nodes = p .summit || (p .below || (p .low || p .mid));
+      meso = p .below;
+      tropo = p .tropo;
+    }
 
 -- ---- the numbers of each part
 

@@ -6,7 +6,7 @@ ghost use Prim.Native.Nat.{_+_, _≤_};
 ghost use lib.ListN.{length, take, drop};
 ghost use Rattle.region.specs.Region.{rowOver};
 ghost use Rattle.stored.specs.Rows.{partsAt};
-ghost use Rattle.stored.specs.Stored.{regionNumbers, spineNumbers, spanNumbers, groundNumbers, fiveIn, shapeIn, rootIn, rootsIn, spineIn, spanIn, footingIn, regionStored, lowStored, footingStored, summitStored, storedOf, lowRow, rowStored};
+ghost use Rattle.stored.specs.Stored.{allParts, needOf, regionNumbers, spineNumbers, spanNumbers, groundNumbers, fiveIn, shapeIn, rootIn, rootsIn, spineIn, spanIn, footingIn, regionStored, lowStored, footingStored, summitStored, storedOf, lowRow, rowStored};
 use atmosphere::row_above;
 use elementary::logarithm::log;
 use footing::Curves;
@@ -14,6 +14,7 @@ use footing::Footing;
 use footing::footing_of;
 use footing::row_below;
 use layers::Span;
+use levels::Need;
 use lower::Meso;
 use places::place::Spine;
 use plan::Levels;
@@ -53,6 +54,34 @@ pub fn parts_at(alt: f64) -> Parts
         low: (alt > 72.5) & !(alt > l[15]),
         mid: (alt > l[15]) & (alt < 300.0),
         top: (alt > l[15]) & !(alt < 300.0),
+    }
+}
+
+// All of them.
+pub fn all_parts() -> Parts
+    ensures { λ r. ⌜ r ≡ allParts ⌝ }
+{
+    Parts {
+        summit: true,
+        below: true,
+        tropo: true,
+        low: true,
+        mid: true,
+        top: true,
+    }
+}
+
+// The coefficient sets that the parts read.
+pub fn need_of(p: Parts) -> Need
+    ensures { λ r. ⌜ r ≡ needOf p ⌝ }
+{
+    Need {
+        high: p.summit | (p.low | (p.mid | p.top)),
+        pt: p.mid | p.top,
+        ps: p.low | (p.mid | p.top),
+        nodes: p.summit | (p.below | (p.low | p.mid)),
+        meso: p.below,
+        tropo: p.tropo,
     }
 }
 
@@ -493,4 +522,13 @@ pub fn row_stored(sw0: f64, sw15: f64, s: &[f64], alt: f64) -> [f64; 11]
         return over_from(sw0, sw15, &s[151..187], alt);
     }
     over_from(sw0, sw15, &s[187..223], alt)
+}
+
+// The eleven numbers at an altitude into a lent row of eleven: no View, no record. The station's call and the column fill their rows by it.
+pub fn row_on(sw0: f64, sw15: f64, s: &[f64], alt: f64, out: &mut [f64])
+    requires { ⌜ (length (now s) ≡ 234) × (length (now out) ≡ 11) ⌝ }
+    ensures { λ _. ⌜ now (out .exit) ≡ rowStored sw0 sw15 (now (s .entry)) alt ⌝ }
+{
+    let r = row_stored(sw0, sw15, s, alt);
+    put(out, &r);
 }
