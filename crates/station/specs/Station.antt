@@ -12,6 +12,7 @@ use Rattle.numbers.specs.Tests.{finiteOf}
 use Rattle.setting.specs.declared.Input.{Input}
 use Rattle.setting.specs.declared.History.{History}
 use Rattle.setting.specs.declared.History.the-variants.{Absent, Present}
+use Rattle.setting.specs.ApHistory.{absentOf}
 use Rattle.setting.specs.Switches.{isOne, onOff}
 use Rattle.setting.specs.View.{viewOf}
 use Rattle.acceptance.specs.declared.Answer.{Answer}
@@ -23,9 +24,9 @@ use Rattle.stored.specs.Stored.{allParts, needOf, storedOf, rowStored}
 
 -- ---- what the two slices hold: 27 whole numbers and 234 numbers
 
-abbrev pub markOf : History → ℤ
-markOf Absent = pos 0
-markOf Present = pos 1
+-- 1 where the history is there
+unfoldable pub markOf : History → ℤ
+markOf h = cond (absentOf h) (pos 0) (pos 1)
 
 unfoldable pub historyIn : ℤ → History
 historyIn m = cond (isOne m) Present Absent

@@ -15,6 +15,7 @@ use levels::levels_of;
 use numbers::finite;
 use setting::History;
 use setting::Input;
+use setting::ap_history::absent;
 use setting::views::view_of;
 use stored::all_parts;
 use stored::need_of;
@@ -56,10 +57,10 @@ pub fn switch_of(w: [i32; 24], i: usize) -> i32
 pub fn mark(h: History) -> i32
     ensures { λ r. ⌜ r ≡ markOf h ⌝ }
 {
-    match h {
-        History::Absent => 0,
-        History::Present => 1,
+    if absent(h) {
+        return 0;
     }
+    1
 }
 
 // The whole numbers of a station: year, doy, the mark of the history, the 24 switches.
