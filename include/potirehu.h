@@ -41,7 +41,7 @@ uint64_t potirehu_gtd7_column(int32_t year, int32_t doy, const double *fields, s
    lengths. What they hold is the library's own; they may be copied and moved, and need not be given back. An altitude asked of it works out no
    expansion. What is said here of a station holds for one that these calls gave. */
 #define POTIREHU_STATION_WHOLE 27
-#define POTIREHU_STATION_NUMBERS 400
+#define POTIREHU_STATION_NUMBERS 234
 
 /* Prepares a station in whole and numbers, the record's own altitude not looked at. Answers 0; or 4 at the length needed, for whole, numbers,
    fields, ap_array or switches of another length, in this order, then what potirehu_gtd7 refuses of the record, and leaves whole and numbers as

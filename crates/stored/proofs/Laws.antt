@@ -1,11 +1,11 @@
 -- Parts written one behind the other, and what they are.
 use Prim.Native.Nat.{ℕ, _+_}
-use mathlib.Core.Path.{_≡_, refl, sym, ap, ap₂, _∙_}
+use mathlib.Core.Path.{_≡_, refl, sym, ap, _∙_}
 use mathlib.Core.Bool.{Bool, true, false, cond, not}
 use mathlib.Core.List.{List, [], _∷_, _++_, append-assoc, append-nil}
 use native.Mathlib.Omega.{arith}
 use borrow.Rule.Slice.PartMut.{putMid}
-use lib.ListN.{length, take, drop, length-append, take-append-drop}
+use lib.ListN.{length, take, drop, take-append-drop}
 use lib.Seq.{length-take-le, take-at, drop-at, drop-drop, drop-length}
 use lib.Ieee.{Float, lt, le, eq, ofBits}
 use Rattle.numbers.specs.Arithmetic.{_‼_}
@@ -28,16 +28,13 @@ use Rattle.footing.specs.declared.Footing.{Footing}
 use Rattle.footing.specs.Footing.{footingOf}
 use Rattle.stored.specs.declared.Parts.{Parts}
 use Rattle.stored.specs.Stored.{part, regionNumbers, spineNumbers, spanNumbers, groundNumbers, footingNumbers, shapeIn, rootsIn, spineIn, regionStored, lowStored, footingStored, summitStored, storedOf, lowRow}
-use Rattle.stored.specs.Rows.{footing-length, low-length, region-length, numbers-36, numbers-24}
+use Rattle.stored.specs.Rows.{grown, footing-length, low-length, region-length, numbers-36, numbers-24}
 
 -- a row behind what is done
 next : (done row xs out : List Float) (k m : ℕ) → length done ≡ k → out ≡ done ++ drop k xs → putMid k m out row ≡ (done ++ row) ++ drop (k + m) xs
 next done row xs out k m len e =
     let X = drop k xs in
     rw (e, take-at done X k len, drop-at done X k len, drop-drop) (sym (append-assoc done row (drop (k + m) xs)))
-
-grown : (done row : List Float) (k m : ℕ) → length done ≡ k → length row ≡ m → length (done ++ row) ≡ k + m
-grown done row k m e f = length-append done row ∙ ap₂ (λ (i j : ℕ). i + j) e f
 
 nothing-left : (xs : List Float) (n : ℕ) → length xs ≡ n → drop n xs ≡ []
 nothing-left xs n e = ap (λ (k : ℕ). drop k xs) (sym e) ∙ drop-length xs

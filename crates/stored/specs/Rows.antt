@@ -8,7 +8,7 @@ use native.Mathlib.Nat.{not-suc-le-zero}
 use borrow.Author.Tests.{ltb-false}
 use lib.Dec.{T, ltb, lt→ltb}
 use lib.IntN.{ℤ}
-use lib.ListN.{length, take, drop, replicate}
+use lib.ListN.{length, take, drop, replicate, length-append}
 use lib.Seq.{take-at, take-length, drop-at, drop-drop}
 use lib.Ieee.Fits.{down-pos}
 use lib.Ieee.{Float, nan, inf, fin, up, down, neg, lt, le, eq, ofBits}
@@ -288,6 +288,9 @@ pub numbers-24 : (s : Spine) → length (spineNumbers s) ≡ 24
 unfolding spineNumbers
 numbers-24 s = refl
 
+pub grown : (a b : List Float) (m n : ℕ) → length a ≡ m → length b ≡ n → length (a ++ b) ≡ m + n
+grown a b m n e f = length-append a b ∙ ap₂ (λ (i j : ℕ). i + j) e f
+
 skip : (a r : List Float) (n k : ℕ) → length a ≡ n → drop (n + k) (a ++ r) ≡ drop k r
 skip a r n k e = sym (drop-drop k n (a ++ r)) ∙ ap (drop k) (drop-at a r n e)
 
@@ -378,6 +381,26 @@ summit-told sw x l alt on o e f =
     ∙ ap (take 11) (sym (at-72 sw x l 72·5 not-over at-itself))
     ∙ all-eleven (told (given l) (gts7Plan sw x 72·5))
     ∙ at-72 sw x l alt e f
+
+eleven-long : (u : Upper) → length ((aboveOf u) .row) ≡ 11
+unfolding aboveOf
+eleven-long u = refl
+
+summit-length : (on : Bool) (sw : List Float) (x : Site) (l : Levels) → length (summitStored on sw x l) ≡ 11
+unfolding summitStored
+summit-length true sw x l = ap length (sym (at-72 sw x l 72·5 not-over at-itself)) ∙ eleven-long (told (given l) (gts7Plan sw x 72·5))
+summit-length false sw x l = refl
+
+-- what is stored, with the record's fourteen numbers, is 234 numbers
+pub all-length : (p : Parts) (sw : List Float) (x : Site) (l : Levels) (rec : List Float) → length rec ≡ 14 → length (rec ++ storedOf p sw x l) ≡ 234
+unfolding storedOf
+all-length p sw x l rec e =
+    let d = basesOf (sw ‼ 21) l in
+    grown rec _ 14 220 e
+    (grown (footingStored (p .below) sw x l (p .tropo)) _ 53 167 (footing-length (p .below) sw x l (p .tropo))
+    (grown (lowStored (p .low) sw x l d) _ 84 83 (low-length (p .low) sw x l d)
+    (grown (regionStored (p .mid) sw x l d 200·0) _ 36 47 (region-length (p .mid) sw x l d 200·0)
+    (grown (regionStored (p .top) sw x l d 300·0) _ 36 11 (region-length (p .top) sw x l d 300·0) (summit-length (p .summit) sw x l)))))
 
 -- a region's row, read again; y stands for it
 region-told : (sw : List Float) (x : Site) (l : Levels) (alt y : Float) (xs : List Float) → lt 72·5 alt ≡ true
