@@ -9,9 +9,9 @@ use lib.Dec.{T, eqb}
 use lib.IntN.{ℤ, pos}
 use lib.ListN.{length, drop, getD}
 use lib.Seq.{drop-cons, drop-length}
-use lib.Ieee.{Float, nan, le, lt, eq, ofBits}
+use lib.Ieee.{Float, nan, neg, le, lt, eq, ofBits}
 use Rattle.numbers.specs.Arithmetic.{_‼_}
-use Rattle.numbers.specs.Literals.{0·0, 2500·0}
+use Rattle.numbers.specs.Literals.{0·0, 24·0, 48·0, 90·0, 400·0, 1000·0, 2500·0, 86400·0}
 use Rattle.numbers.specs.Tests.{finiteOf}
 use Rattle.setting.specs.declared.Input.{Input}
 use Rattle.setting.specs.declared.History.{History}
@@ -21,7 +21,7 @@ use Rattle.setting.specs.Switches.{isOne, onOff, filled, swOf}
 use Rattle.setting.specs.View.{viewOf}
 use Rattle.acceptance.specs.declared.Answer.{Answer}
 use Rattle.acceptance.specs.declared.Answer.the-variants.{Accepted, Refused}
-use Rattle.acceptance.specs.Acceptance.{withinOf, lowest, unfitOf, outsideOf, foundOf, judgedOf, acceptedOf, withAltOf}
+use Rattle.acceptance.specs.Acceptance.{withinOf, dayWithin, lowest, arrayUnfitOf, unfitOf, arrayOutsideOf, outsideOf, foundOf, judgedOf, acceptedOf, withAltOf}
 use Rattle.levels.specs.Levels.{levelsOf}
 use Rattle.upper.specs.Upper.{siteOf}
 use Rattle.atmosphere.specs.Atmosphere.{elevenOf, answerOf, rowAfter}
@@ -214,9 +214,15 @@ judged-at w n z h =
     let a = no-refusal (foundOf (unfitOf (withAltOf n 0·0))) 2 _ _ t in
     let b = no-refusal (lacksHistoryOf w (withAltOf n 0·0)) 1 10 _ (a .1) in
     let c = no-refusal (foundOf (outsideOf (withAltOf n 0·0))) 3 _ _ (b .1) in
-    let u = alone-2 _ (not (finiteOf z)) _ _ (rw zero-finite at (a .0)) in
-    let o = alone-1 _ _ (not (withinOf 0·0 2500·0 z)) _ _ (rw zero-within at (c .0)) in
-    chain (not (finiteOf z)) (not (withinOf 0·0 2500·0 z)) _ _ _ _ _ (u .0) (u .1) (b .0) (o .0) (o .1)
+    let us : List Bool = not (finiteOf (n .«g_lat»)) ∷ not (finiteOf (n .«g_long»)) ∷ not (finiteOf (n .lst)) ∷ not (finiteOf (n .f107a)) ∷ not (finiteOf (n .f107)) ∷ not (finiteOf (n .ap)) ∷ [] in
+    let os : List Bool =
+    not (withinOf (neg 90·0) 90·0 (n .«g_lat»)) ∷ not (withinOf (neg 1000·0) 1000·0 (n .«g_long»)) ∷ not (withinOf (neg 24·0) 48·0 (n .lst)) ∷
+    not (withinOf 0·0 1000·0 (n .f107a)) ∷ not (withinOf 0·0 1000·0 (n .f107)) ∷ not (withinOf 0·0 400·0 (n .ap)) ∷ [] in
+    let au : ℕ = arrayUnfitOf (not (absentOf (n .history))) (n .«ap_array») in
+    let ao : ℕ = arrayOutsideOf (not (absentOf (n .history))) (n .«ap_array») in
+    let u = alone-2 (not (finiteOf (n .sec))) (not (finiteOf z)) us au (rw zero-finite at (a .0)) in
+    let o = alone-1 (not (dayWithin (n .doy))) (not (withinOf 0·0 86400·0 (n .sec))) (not (withinOf 0·0 2500·0 z)) os ao (rw zero-within at (c .0)) in
+    chain (not (finiteOf z)) (not (withinOf 0·0 2500·0 z)) (unfitOf (withAltOf n z)) (outsideOf (withAltOf n z)) (lowest 4 us au) (lowest 4 os ao) (lacksHistoryOf w (withAltOf n z)) (u .0) (u .1) (b .0) (o .0) (o .1)
 
 -- switches 0 and 15
 main-0 : (w : List ℤ) (n : Input) → onOff (isOne (getD (wholeOf w n) 3 (pos 0))) ≡ (viewOf w n) .sw ‼ 0
