@@ -1,13 +1,15 @@
-// Instructions and stack of one call, of ours and of the untouched Rust's, over the same records and switch rows.
+// Instructions and stack of one call, of ours and of the untouched Rust's, over the same records and switch rows; and whether a call works out
+// an expansion.
 // `count` runs each call between two requests to callgrind, which writes one file a call; `table` reads these files in the same order;
 // `stack` paints the stack below a call and looks how far it was written.
 #[path = "../oracle/host.rs"]
 mod host;
 #[path = "../oracle/random.rs"]
 mod random;
-use host::{ours, ours_column};
+use host::{numbers, ours, ours_column, station, station_change, station_gtd7, Change, NUMBERS, WHOLE};
 use random::Random;
 use std::arch::asm;
+use std::collections::{BTreeSet, HashMap};
 use std::hint::black_box;
 use untouched::astro::atmosphere::{gtd7, Flags, NrlmsiseInput as Input};
 
@@ -61,6 +63,41 @@ fn rust(input: &Input, flags: &Flags) -> f64 {
     gtd7(input, flags).expect("an accepted record").d[5]
 }
 
+struct Station {
+    whole: [i32; WHOLE],
+    numbers: [f64; NUMBERS],
+}
+
+impl Station {
+    fn empty() -> Station {
+        Station { whole: [0; WHOLE], numbers: [0.0; NUMBERS] }
+    }
+
+    fn prepare(&mut self, c: &Case) -> (u64, u64) {
+        let (fields, ap, n_ap) = numbers(&c.input);
+        station(c.input.year, c.input.doy, &fields, &ap[..n_ap], &c.row, &mut self.whole, &mut self.numbers)
+    }
+
+    fn altitude(&self, alt: f64, row: &mut [f64; 11]) -> (u64, u64) {
+        station_gtd7(&self.whole, &self.numbers, alt, row)
+    }
+
+    fn change(&mut self, change: Change) -> (u64, u64) {
+        station_change(&mut self.whole, &mut self.numbers, change)
+    }
+}
+
+fn accepted(answer: (u64, u64)) -> f64 {
+    assert_eq!(answer, (0, 0));
+    0.0
+}
+
+const CHANGES: [(&str, Change); 4] =
+    [("sec", Change::Sec(12345.0)), ("lst", Change::Lst(3.5)), ("g_long", Change::Long(-12.5)), ("fluxes", Change::Fluxes(120.0, 130.0))];
+
+// The altitude whose records a station's preparing and changes are told of; they do not look at it.
+const OTHERS: usize = 0;
+
 // A request to valgrind, which does nothing outside it. 0x43540000 is callgrind's first.
 fn request(number: u64) {
     let words = [0x4354_0000 + number, 0, 0, 0, 0, 0];
@@ -79,7 +116,9 @@ fn counted(f: impl FnOnce() -> f64) {
     request(0);
 }
 
-// A call with nothing in it first, then each case: ours, the Rust's, the column, the Rust's at the column's altitudes.
+// A call with nothing in it first, then each case: ours, the Rust's, the column, the Rust's at the column's altitudes, preparing a station, its
+// altitude, at one of the altitudes also its changes. Callgrind's count of calls, not that of instructions, goes on between the requests: so no call
+// of ours stands outside them.
 fn count(records: usize) {
     counted(|| black_box(0.0));
     for alt in 0..ALTITUDES.len() {
@@ -98,17 +137,56 @@ fn count(records: usize) {
                 });
                 let inputs: Vec<Input> = c.column.iter().map(|z| Input { alt: *z, ..c.input }).collect();
                 counted(|| inputs.iter().map(|r| rust(r, &c.flags)).sum());
+                let mut s = Station::empty();
+                counted(|| accepted(s.prepare(&c)));
+                counted(|| accepted(s.altitude(c.input.alt, &mut row)));
+                for (_, change) in CHANGES.into_iter().filter(|_| alt == OTHERS) {
+                    counted(|| accepted(s.change(change)));
+                }
             }
         }
     }
 }
 
-// The instructions in callgrind's file number n.
-fn written(path: &str, n: usize) -> u64 {
+// The crates whose functions work out globe7 and glob7s, and the function that sines and cosines come from.
+const EXPANSIONS: [&str; 6] = ["expansion::", "levels::", "parts::", "terms::", "legendre::", "activity::"];
+const SINUSOID: &str = "circular_functions::";
+
+// What callgrind wrote of one call: instructions, calls of the expansions' functions and their names, calls of sines and cosines.
+#[derive(Default)]
+struct Written {
+    instructions: u64,
+    expansions: u64,
+    names: BTreeSet<String>,
+    sinusoids: u64,
+}
+
+// Callgrind's file number n. A name stands behind its number where it first occurs; a call is the function called, then how often.
+fn written(path: &str, n: usize) -> Written {
     let name = format!("{path}.{n}");
     let text = std::fs::read_to_string(&name).unwrap_or_else(|e| panic!("{name}: {e}"));
     let total = text.lines().find_map(|l| l.strip_prefix("summary: ").or(l.strip_prefix("totals: "))).expect("a total");
-    total.trim().parse().expect("a number")
+    let mut out = Written { instructions: total.trim().parse().expect("a number"), ..Written::default() };
+    let mut names = HashMap::new();
+    let mut called = "";
+    for line in text.lines() {
+        if let Some(f) = line.strip_prefix("fn=").or(line.strip_prefix("cfn=")) {
+            let (number, name) = f.split_once(' ').unwrap_or((f, ""));
+            if !name.is_empty() {
+                names.insert(number, name);
+            }
+            called = names.get(number).copied().expect("a name");
+        } else if let Some(calls) = line.strip_prefix("calls=") {
+            let calls: u64 = calls.split(' ').next().and_then(|n| n.parse().ok()).expect("a count");
+            if EXPANSIONS.iter().any(|e| called.starts_with(e)) {
+                out.expansions += calls;
+                out.names.insert(called.to_string());
+            } else if called.starts_with(SINUSOID) {
+                out.sinusoids += calls;
+            }
+        }
+    }
+    out
 }
 
 fn thousands(n: u64) -> String {
@@ -128,32 +206,84 @@ fn median_and_largest(mut xs: Vec<u64>) -> (u64, u64) {
     (xs[xs.len() / 2], xs[xs.len() - 1])
 }
 
+// A station's calls but its altitude.
+const NAMES: [&str; 5] = ["preparing", CHANGES[0].0, CHANGES[1].0, CHANGES[2].0, CHANGES[3].0];
+
 fn table(records: usize, path: &str) {
-    let nothing = written(path, 1);
+    let nothing = written(path, 1).instructions;
     let mut at = 1;
     let mut next = || {
         at += 1;
-        written(path, at) - nothing
+        let w = written(path, at);
+        Written { instructions: w.instructions - nothing, ..w }
     };
-    let mut lines = [String::new(), String::new()];
-    for alt in ALTITUDES {
+    let mut lines = [String::new(), String::new(), String::new()];
+    let mut others = String::new();
+    // what the one-altitude call, a station's altitude and its other calls worked out
+    let mut worked = [const { Worked::NONE }; 2 + NAMES.len()];
+    for (i, alt) in ALTITUDES.into_iter().enumerate() {
         for rows in KINDS {
-            let mut counts = [Vec::new(), Vec::new(), Vec::new(), Vec::new()];
+            let mut counts = [const { Vec::new() }; 5];
+            let mut station = [const { Vec::new() }; NAMES.len()];
             for _ in 0..records {
-                for (k, xs) in counts.iter_mut().enumerate() {
-                    xs.push(if k < 2 { next() } else { next() / COLUMN as u64 });
+                let seen: [Written; 6] = std::array::from_fn(|_| next());
+                let [alone, rust, column, rusts, prepared, altitude] = seen.each_ref().map(|w| w.instructions);
+                for (xs, n) in counts.iter_mut().zip([alone, rust, column / COLUMN as u64, rusts / COLUMN as u64, altitude]) {
+                    xs.push(n);
+                }
+                station[0].push(prepared);
+                let [alone, _, _, _, prepared, altitude] = seen;
+                for (all, w) in worked.iter_mut().zip([alone, altitude, prepared]) {
+                    all.add(w);
+                }
+                for k in (1..NAMES.len()).filter(|_| i == OTHERS) {
+                    let w = next();
+                    station[k].push(w.instructions);
+                    worked[2 + k].add(w);
                 }
             }
-            let [a, b, c, d] = counts.map(median_and_largest);
-            for (line, (x, y)) in lines.iter_mut().zip([(a, b), (c, d)]) {
+            let [a, b, c, d, e] = counts.map(median_and_largest);
+            for (line, (x, y)) in lines.iter_mut().zip([(a, b), (c, d), (e, b)]) {
                 let cells = [x.0, x.1, y.0, y.1].map(thousands).join(" | ");
                 *line += &format!("| {alt} | {rows} | {cells} | {:.2} |\n", x.0 as f64 / y.0 as f64);
+            }
+            if i == OTHERS {
+                let station = station.map(median_and_largest);
+                for (name, x) in NAMES.iter().zip(&station) {
+                    others += &format!("| {name} | {rows} | {} | {} | {:.2} |\n", thousands(x.0), thousands(x.1), x.0 as f64 / station[0].0 as f64);
+                }
             }
         }
     }
     let head = "| altitude (km) | switches | ours, median | largest | Rust, median | largest | ratio of medians |\n|---|---|---|---|---|---|---|\n";
     println!("Instructions per call of the one-altitude call, {records} records a line:\n\n{head}{}", lines[0]);
     println!("Instructions per altitude of a column of {COLUMN} within 10 km, beside the Rust's calls at the same altitudes:\n\n{head}{}", lines[1]);
+    println!("Instructions per altitude of a prepared station, beside the Rust's call at the same altitude:\n\n{head}{}", lines[2]);
+    println!("Instructions of a station's other calls, and their ratio to preparing:\n\n| call | switches | median | largest | ratio of medians |\n|---|---|---|---|---|\n{others}");
+    println!("Calls of the functions that work out expansions, and of those behind sines and cosines, all records taken together:\n");
+    println!("| call | made | expansions' functions | sines and cosines |\n|---|---|---|---|");
+    for (name, Worked { calls, all }) in ["one altitude", "a station's altitude"].into_iter().chain(NAMES).zip(worked) {
+        let names = all.names.iter().map(|n| format!(" {n}")).collect::<String>();
+        println!("| {name} | {} | {}{names} | {} |", thousands(calls), thousands(all.expansions), thousands(all.sinusoids));
+    }
+    println!();
+}
+
+// How many calls there were, and what was written of them, taken together.
+struct Worked {
+    calls: u64,
+    all: Written,
+}
+
+impl Worked {
+    const NONE: Worked = Worked { calls: 0, all: Written { instructions: 0, expansions: 0, names: BTreeSet::new(), sinusoids: 0 } };
+
+    fn add(&mut self, w: Written) {
+        self.calls += 1;
+        self.all.expansions += w.expansions;
+        self.all.sinusoids += w.sinusoids;
+        self.all.names.extend(w.names);
+    }
 }
 
 // ---- the stack
@@ -184,37 +314,50 @@ struct Held {
     case: *const Case,
     row: [f64; 11],
     rows: [f64; 11 * COLUMN],
+    station: Station,
+    change: Change,
     value: f64,
 }
 
-extern "C" fn hold_ours(data: *mut u8) {
-    let h = unsafe { &mut *(data as *mut Held) };
-    let c = unsafe { &*h.case };
-    ours(&c.input, &c.row, &mut h.row);
+// A call on what is held.
+macro_rules! hold {
+    ($name:ident, $h:ident, $c:ident, $call:stmt) => {
+        extern "C" fn $name(data: *mut u8) {
+            let $h = unsafe { &mut *(data as *mut Held) };
+            let $c = unsafe { &*$h.case };
+            $call
+        }
+    };
 }
-
-extern "C" fn hold_column(data: *mut u8) {
-    let h = unsafe { &mut *(data as *mut Held) };
-    let c = unsafe { &*h.case };
-    ours_column(&c.input, &c.row, &c.column, &mut h.rows);
-}
-
-extern "C" fn hold_rust(data: *mut u8) {
-    let h = unsafe { &mut *(data as *mut Held) };
-    let c = unsafe { &*h.case };
-    h.value = rust(&c.input, &c.flags);
-}
+hold!(hold_ours, h, c, let _ = ours(&c.input, &c.row, &mut h.row));
+hold!(hold_column, h, c, let _ = ours_column(&c.input, &c.row, &c.column, &mut h.rows));
+hold!(hold_rust, h, c, h.value = rust(&c.input, &c.flags));
+hold!(hold_prepare, h, c, let _ = h.station.prepare(c));
+hold!(hold_altitude, h, c, let _ = h.station.altitude(c.input.alt, &mut h.row));
+hold!(hold_change, h, _c, let _ = h.station.change(h.change));
 
 fn stack(records: usize) {
     println!("Bytes of stack that a call reaches, the most over all these records, with the frame of the function that makes the call:\n");
     println!("| call | bytes |\n|---|---|");
-    let calls: [(&str, extern "C" fn(*mut u8)); 3] = [("ours, one altitude", hold_ours), ("ours, column", hold_column), ("untouched Rust, one altitude", hold_rust)];
-    for (name, f) in calls {
+    let [sec, lst, g_long, fluxes] = CHANGES.map(|(_, change)| change);
+    let calls: [(&str, extern "C" fn(*mut u8), Change); 9] = [
+        ("ours, one altitude", hold_ours, sec),
+        ("ours, column", hold_column, sec),
+        ("a station's altitude", hold_altitude, sec),
+        ("preparing a station", hold_prepare, sec),
+        ("a station's sec", hold_change, sec),
+        ("a station's lst", hold_change, lst),
+        ("a station's g_long", hold_change, g_long),
+        ("a station's fluxes", hold_change, fluxes),
+        ("untouched Rust, one altitude", hold_rust, sec),
+    ];
+    for (name, f, change) in calls {
         let mut most = 0;
         for alt in 0..ALTITUDES.len() {
             for kind in 0..KINDS.len() {
                 for c in cases(alt, kind, records) {
-                    let mut h = Held { case: &c, row: [0.0; 11], rows: [0.0; 11 * COLUMN], value: 0.0 };
+                    let mut h = Held { case: &c, row: [0.0; 11], rows: [0.0; 11 * COLUMN], station: Station::empty(), change, value: 0.0 };
+                    accepted(h.station.prepare(&c));
                     most = most.max(depth(f, &mut h as *mut Held as *mut u8));
                 }
             }

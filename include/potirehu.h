@@ -1,4 +1,4 @@
-/* What libhost.a offers: NRLMSISE-00 at one altitude and at a column of them, and the elementary functions it is built on.
+/* What libhost.a offers: NRLMSISE-00 at one altitude, at a column of them and from a prepared station, and the elementary functions it is built on.
    Nothing is kept between calls; only memcpy and memset are needed from outside. docs/RULES.md has every rule. */
 #ifndef POTIREHU_H
 #define POTIREHU_H
@@ -36,6 +36,36 @@ uint64_t potirehu_gtd7(int32_t year, int32_t doy, const double *fields, size_t n
    4 at 11 n for a shorter buffer; the record as above; each altitude 2, else 3, at 17 plus its index. */
 uint64_t potirehu_gtd7_column(int32_t year, int32_t doy, const double *fields, size_t n_fields, const double *ap_array, size_t n_ap,
                               const int32_t *switches, size_t n_switches, const double *altitudes, size_t n, double *rows, size_t n_rows);
+
+/* A prepared station is a record and a switch row with the values stored that do not depend on the altitude: two arrays of the caller's, of these
+   lengths. What they hold is the library's own; they may be copied and moved, and need not be given back. An altitude asked of it works out no
+   expansion. What is said here of a station holds for one that these calls gave. */
+#define POTIREHU_STATION_WHOLE 27
+#define POTIREHU_STATION_NUMBERS 234
+
+/* Prepares a station in whole and numbers, the record's own altitude not looked at. Answers 0; or 4 at the length needed, for whole, numbers,
+   fields, ap_array or switches of another length, in this order, then what potirehu_gtd7 refuses of the record, and leaves whole and numbers as
+   they were. */
+uint64_t potirehu_station(int32_t year, int32_t doy, const double *fields, size_t n_fields, const double *ap_array, size_t n_ap,
+                          const int32_t *switches, size_t n_switches, int32_t *whole, size_t n_whole, double *numbers, size_t n_numbers);
+
+/* The station's air at one altitude (km): the row that potirehu_gtd7 gives on the record as the station now has it, with this altitude. Answers 0
+   and writes the row; or 4 at the length needed, for row, whole or numbers of another length, in this order, then 2 or 3 at 3 for the altitude,
+   and leaves row as it was. */
+uint64_t potirehu_station_gtd7(const int32_t *whole, size_t n_whole, const double *numbers, size_t n_numbers, double alt, double *row, size_t n_row);
+
+/* Changes sec, the seconds of the day. Answers 0; or 4 at the length needed, for whole or numbers, then what potirehu_gtd7 refuses of the changed
+   record, its altitude not looked at, and leaves the station as it was. */
+uint64_t potirehu_station_sec(int32_t *whole, size_t n_whole, double *numbers, size_t n_numbers, double sec);
+
+/* Changes lst, the local time, as potirehu_station_sec changes sec; lst does not follow sec or g_long by itself. */
+uint64_t potirehu_station_lst(int32_t *whole, size_t n_whole, double *numbers, size_t n_numbers, double lst);
+
+/* Changes g_long, the longitude, in the same way. */
+uint64_t potirehu_station_g_long(int32_t *whole, size_t n_whole, double *numbers, size_t n_numbers, double g_long);
+
+/* Changes f107a and f107 together, in the same way. */
+uint64_t potirehu_station_fluxes(int32_t *whole, size_t n_whole, double *numbers, size_t n_numbers, double f107a, double f107);
 
 /* The elementary functions of docs/ELEMENTARY.md: total, never refused. */
 double elementary_exp(double x);

@@ -28,7 +28,48 @@ extern "C" {
         rows: *mut f64,
         n_rows: usize,
     ) -> u64;
+    fn potirehu_station(
+        year: i32,
+        doy: i32,
+        fields: *const f64,
+        n_fields: usize,
+        ap_array: *const f64,
+        n_ap: usize,
+        switches: *const i32,
+        n_switches: usize,
+        whole: *mut i32,
+        n_whole: usize,
+        numbers: *mut f64,
+        n_numbers: usize,
+    ) -> u64;
+    fn potirehu_station_gtd7(whole: *const i32, n_whole: usize, numbers: *const f64, n_numbers: usize, alt: f64, row: *mut f64, n_row: usize) -> u64;
+    fn potirehu_station_sec(whole: *mut i32, n_whole: usize, numbers: *mut f64, n_numbers: usize, sec: f64) -> u64;
+    fn potirehu_station_lst(whole: *mut i32, n_whole: usize, numbers: *mut f64, n_numbers: usize, lst: f64) -> u64;
+    fn potirehu_station_g_long(whole: *mut i32, n_whole: usize, numbers: *mut f64, n_numbers: usize, g_long: f64) -> u64;
+    fn potirehu_station_fluxes(whole: *mut i32, n_whole: usize, numbers: *mut f64, n_numbers: usize, f107a: f64, f107: f64) -> u64;
 }
+
+// The whole number behind a macro of the C header, read where this is compiled; a header without the macro does not compile.
+const fn header(define: &str) -> usize {
+    let (text, define) = (include_bytes!("../include/potirehu.h"), define.as_bytes());
+    let mut at = 0;
+    let mut seen = 0;
+    while seen < define.len() {
+        seen = if text[at] == define[seen] { seen + 1 } else { (text[at] == define[0]) as usize };
+        at += 1;
+    }
+    let mut n = 0;
+    while text[at].is_ascii_digit() {
+        n = 10 * n + (text[at] - b'0') as usize;
+        at += 1;
+    }
+    assert!(n > 0);
+    n
+}
+
+// A station's two lengths.
+pub const WHOLE: usize = header("#define POTIREHU_STATION_WHOLE ");
+pub const NUMBERS: usize = header("#define POTIREHU_STATION_NUMBERS ");
 
 // The record's numbers as the calls take them: the eight fields, the array, and its length, 0 where there is none.
 pub fn numbers(r: &Input) -> ([f64; 8], [f64; 7], usize) {
@@ -62,5 +103,50 @@ pub fn ours_column(r: &Input, w: &[i32; 24], alts: &[f64], rows: &mut [f64]) -> 
             rows.as_mut_ptr(),
             rows.len(),
         )
+    })
+}
+
+// Prepares a station; the record's slices as they are handed over, so that they may have any length.
+pub fn station(year: i32, doy: i32, fields: &[f64], ap: &[f64], w: &[i32], whole: &mut [i32], numbers: &mut [f64]) -> (u64, u64) {
+    parted(unsafe {
+        potirehu_station(
+            year,
+            doy,
+            fields.as_ptr(),
+            fields.len(),
+            ap.as_ptr(),
+            ap.len(),
+            w.as_ptr(),
+            w.len(),
+            whole.as_mut_ptr(),
+            whole.len(),
+            numbers.as_mut_ptr(),
+            numbers.len(),
+        )
+    })
+}
+
+pub fn station_gtd7(whole: &[i32], numbers: &[f64], alt: f64, row: &mut [f64]) -> (u64, u64) {
+    parted(unsafe { potirehu_station_gtd7(whole.as_ptr(), whole.len(), numbers.as_ptr(), numbers.len(), alt, row.as_mut_ptr(), row.len()) })
+}
+
+// What a station's calls change.
+#[derive(Clone, Copy, Debug)]
+pub enum Change {
+    Sec(f64),
+    Lst(f64),
+    Long(f64),
+    Fluxes(f64, f64),
+}
+
+pub fn station_change(whole: &mut [i32], numbers: &mut [f64], change: Change) -> (u64, u64) {
+    let (w, n_w, n, n_n) = (whole.as_mut_ptr(), whole.len(), numbers.as_mut_ptr(), numbers.len());
+    parted(unsafe {
+        match change {
+            Change::Sec(x) => potirehu_station_sec(w, n_w, n, n_n, x),
+            Change::Lst(x) => potirehu_station_lst(w, n_w, n, n_n, x),
+            Change::Long(x) => potirehu_station_g_long(w, n_w, n, n_n, x),
+            Change::Fluxes(a, b) => potirehu_station_fluxes(w, n_w, n, n_n, a, b),
+        }
     })
 }

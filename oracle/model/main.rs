@@ -1,11 +1,13 @@
 // Our one-altitude call against the Rust: the eleven numbers to the bit, the refusals, pairs under the shut-off list, the 1E-6 rule,
-// the published samples, calls of each elementary function, and time per call. The expansions and the line program stand in files of their own.
+// the published samples, calls of each elementary function, and time per call. The expansions, the line program and prepared stations stand in
+// files of their own.
 mod expansions;
 #[path = "../host.rs"]
 mod host;
 mod lines;
 #[path = "../random.rs"]
 mod random;
+mod stations;
 use host::{numbers, ours, ours_column};
 use random::Random;
 use std::time::Instant;
@@ -476,22 +478,28 @@ fn counts() {
     }
 }
 
+// What the timings run over: 256 records at an altitude, with the history where switch 9 asks for it, and the switch row.
+fn timed(alt: f64, nine: i32) -> (Vec<Input>, [i32; 24]) {
+    let mut g = Random(7);
+    let records = (0..256)
+        .map(|_| {
+            let mut r = sample(1 + g.below(366) as i32, g.between(0.0, 86400.0), alt, g.between(-90.0, 90.0), g.between(-180.0, 180.0), g.between(0.0, 24.0), g.between(70.0, 250.0), g.between(70.0, 250.0), g.between(0.0, 50.0));
+            if nine == -1 {
+                r.ap_array = Some(std::array::from_fn(|_| g.between(0.0, 50.0)));
+            }
+            r
+        })
+        .collect();
+    let mut w = [1; 24];
+    w[9] = nine;
+    (records, w)
+}
+
 fn time() {
     for nine in [1, -1] {
         println!("ns per call, all switches on, switch 9 at {nine} (ours, untouched Rust, ratio):");
         for alt in [0.0, 50.0, 90.0, 150.0, 400.0, 1000.0] {
-            let mut g = Random(7);
-            let records: Vec<Input> = (0..256)
-                .map(|_| {
-                    let mut r = sample(1 + g.below(366) as i32, g.between(0.0, 86400.0), alt, g.between(-90.0, 90.0), g.between(-180.0, 180.0), g.between(0.0, 24.0), g.between(70.0, 250.0), g.between(70.0, 250.0), g.between(0.0, 50.0));
-                    if nine == -1 {
-                        r.ap_array = Some(std::array::from_fn(|_| g.between(0.0, 50.0)));
-                    }
-                    r
-                })
-                .collect();
-            let mut w = [1; 24];
-            w[9] = nine;
+            let (records, w) = timed(alt, nine);
             let (mut best, mut best_rust) = (f64::INFINITY, f64::INFINITY);
             let mut sum = 0.0;
             for _ in 0..15 {
@@ -551,6 +559,8 @@ fn main() {
         Some("columns") => columns(&mut g, count),
         Some("lines") => lines::good(&args[4], &mut g, count),
         Some("hostile") => lines::hostile(&args[4], &mut g, count),
+        Some("stations") => stations::stations(&mut g, count),
+        Some("hostile-stations") => stations::hostile(&mut g, count),
         Some("near") => near(&mut g, count, false),
         Some("near-any") => near(&mut g, count, true),
         Some("samples") => samples(&args[2]),
@@ -561,6 +571,7 @@ fn main() {
         Some("time") => {
             time();
             time_column();
+            stations::time();
             0
         }
         Some("forms") => {
@@ -568,7 +579,7 @@ fn main() {
             0
         }
         _ => {
-            eprintln!("model differential|pairs|states|expansions|columns|near|near-any [SEED] [COUNT], lines|hostile SEED COUNT PROGRAM, forms SEED COUNT INPUT OUTPUT, samples FILE, counts, time");
+            eprintln!("model differential|pairs|states|expansions|columns|stations|hostile-stations|near|near-any [SEED] [COUNT], lines|hostile SEED COUNT PROGRAM, forms SEED COUNT INPUT OUTPUT, samples FILE, counts, time");
             std::process::exit(2);
         }
     };

@@ -94,7 +94,7 @@ eleven-below sw x l alt tropo f row e0 e1 c t =
     let u = told (given l) (gts7Plan sw x 72·5) in
     e0
     ∙ ap (λ (g : Footing). rowBelowOf (sw ‼ 0) g alt) e1
-    ∙ row-is sw x l tropo alt c
+    ∙ row-is sw x l tropo alt c (not-above 72·5 alt t)
     ∙ ap (λ (r : Whole). r .row)
     (gtd7-below sw x alt l _ (told (given l) (lowerPlan sw alt (told (given l) (mesoPlan sw u)))) (told (given l) (mesoPlan sw u)) u 72·5 refl refl refl refl
     (sym (ap (λ (b : Bool). cond b alt 72·5) (not-above 72·5 alt t))) t)

@@ -62,7 +62,7 @@ pub fn put(out: &mut [f64], v: [f64; 11])
     }
 }
 
-// The eleven numbers at an altitude into a lent row, from what was worked out before; the one-altitude call and the column fill their rows by it.
+// The eleven numbers at an altitude into a lent row, from what was worked out before.
 pub fn row_on(sw: [f64; 24], x: Site, l: Levels, f: Footing, alt: f64, out: &mut [f64])
     requires { ⌜ (length (now out) ≡ 11) × Founded sw x l f alt ⌝ }
     ensures { λ _. ⌜ now (out .exit) ≡ elevenFrom sw x l alt ⌝ }

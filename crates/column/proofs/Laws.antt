@@ -1,22 +1,23 @@
 -- The altitudes met one by one, the rows written one by one, and the column call's outcomes.
-use mathlib.Core.Path.{_≡_, refl, sym, ap, ap₂, _∙_}
-use mathlib.Core.Bool.{Bool, true, false, cond, not, _||_, false≢true}
+use mathlib.Core.Path.{_≡_, refl, sym, ap, ap₂, subst, _∙_}
+use mathlib.Core.Bool.{Bool, true, false, cond, not, _&&_, _||_, false≢true}
 use mathlib.Core.List.{List, [], _∷_, _++_, append-assoc, append-nil}
-use Prim.Native.Nat.{ℕ, zero, suc, _+_, _*_, _-_, _<_, _≤_}
+use Prim.Native.Nat.{ℕ, suc, _+_, _*_, _-_, _<_, _≤_}
 use native.Mathlib.Numerals.{add-one}
-use native.Mathlib.Nat.{not-suc-le-zero}
 use native.Mathlib.Omega.{arith}
 use borrow.Author.Tests.{lt-ltb, le-ltb}
 use borrow.Rule.Slice.PartMut.{putMid}
-use lib.Dec.{ltb}
+use lib.Dec.{T, ltb}
 use lib.IntN.{ℤ}
-use lib.ListN.{length, take, drop, getD, length-append}
+use lib.ListN.{length, take, drop, getD, replicate, length-append}
 use lib.Seq.{take-suc, take-at, drop-at, drop-drop, drop-cons, drop-length}
-use lib.Ieee.{Float, nan}
+use lib.Ieee.{Float, nan, le}
+use Rattle.numbers.specs.Arithmetic.{_‼_}
 use Rattle.numbers.specs.Literals.{0·0, 2500·0}
 use Rattle.numbers.specs.Tests.{finiteOf}
 use Rattle.setting.specs.declared.Input.{Input}
-use Rattle.setting.specs.View.{turnedOf, viewOf}
+use Rattle.setting.specs.declared.View.{View}
+use Rattle.setting.specs.View.{viewOf}
 use Rattle.upper.specs.declared.Site.{Site}
 use Rattle.upper.specs.Upper.{siteOf}
 use Rattle.acceptance.specs.declared.Answer.{Answer}
@@ -24,14 +25,13 @@ use Rattle.acceptance.specs.declared.Answer.the-variants.{Accepted, Refused}
 use Rattle.acceptance.specs.Acceptance.{withinOf, judgedOf, acceptedOf, withAltOf}
 use Rattle.plan.specs.declared.Levels.{Levels}
 use Rattle.levels.specs.declared.Need.{Need}
-use Rattle.levels.specs.Levels.{needAt, bothOf, levelsOf}
-use Rattle.footing.specs.declared.Footing.{Footing}
-use Rattle.footing.specs.Footing.{footingOf}
-use Rattle.atmosphere.specs.Atmosphere.{elevenFrom, elevenOf}
-use Rattle.atmosphere.specs.Rows.{Founded}
-use Rattle.atmosphere.specs.Answers.{Covers, itself, eleven-covered}
-use Rattle.column.specs.Needs.{FoundedAll}
-use Rattle.column.specs.Column.{altitudesFrom, afterRecord, columnAnswer, noneOf, needsFrom, rowsAt, columnRows, columnAfter}
+use Rattle.levels.specs.Levels.{levelsOf}
+use Rattle.stored.specs.declared.Parts.{Parts}
+use Rattle.stored.specs.Stored.{needOf, storedOf, rowStored}
+use Rattle.stored.specs.Rows.{partsAt, Holds}
+use Rattle.stored.specs.Eleven.{stored-eleven}
+use Rattle.column.specs.Column.{altitudesFrom, afterRecord, columnAnswer, columnRows, columnAfter}
+use Rattle.column.specs.Parts.{noParts, eitherParts, partsFrom, rowsStored}
 
 -- ---- the altitudes
 
@@ -57,19 +57,19 @@ pub all-passed : (alts : List Float) (k : ℕ) → k ≡ length alts → Accepte
 unfolding altitudesFrom
 all-passed alts k e = rw (e, drop-length alts)
 
--- ---- the sets that are needed
+-- ---- the parts that are read
 
-pub not-begun : (alts : List Float) (n : Need) → n ≡ noneOf → needsFrom n (drop 0 alts) ≡ needsFrom noneOf alts
-not-begun alts n e = ap (λ (m : Need). needsFrom m alts) e
+pub not-begun : (alts : List Float) (p : Parts) → p ≡ noParts → partsFrom p (drop 0 alts) ≡ partsFrom noParts alts
+not-begun alts p e = ap (λ (q : Parts). partsFrom q alts) e
 
-pub one-more : (alts : List Float) (k : ℕ) (n a m : Need) → k < length alts → a ≡ needAt (getD alts k nan) → m ≡ bothOf n a
-    → needsFrom m (drop (k + 1) alts) ≡ needsFrom n (drop k alts)
-unfolding needsFrom
-one-more alts k n a m h e f = rw (f, e, add-one, drop-cons alts k nan h)
+pub one-more : (alts : List Float) (k : ℕ) (p a q : Parts) → k < length alts → a ≡ partsAt (getD alts k nan) → q ≡ eitherParts p a
+    → partsFrom q (drop (k + 1) alts) ≡ partsFrom p (drop k alts)
+unfolding partsFrom
+one-more alts k p a q h e f = rw (f, e, add-one, drop-cons alts k nan h)
 
-pub all-met : (alts : List Float) (k : ℕ) (n : Need) → k ≡ length alts → n ≡ needsFrom n (drop k alts)
-unfolding needsFrom
-all-met alts k n e = rw (e, drop-length alts)
+pub all-met : (alts : List Float) (k : ℕ) (p : Parts) → k ≡ length alts → p ≡ partsFrom p (drop k alts)
+unfolding partsFrom
+all-met alts k p e = rw (e, drop-length alts)
 
 or-l : (a b : Bool) → a ≡ true → (a || b) ≡ true
 or-l true b e = refl
@@ -79,107 +79,112 @@ or-r : (a b : Bool) → b ≡ true → (a || b) ≡ true
 or-r true b e = refl
 or-r false b e = e
 
--- what holds the sets of two holds those of each
-first-of : (n a b : Need) → Covers n (bothOf a b) → Covers n a
-unfolding bothOf
-first-of n a b c =
+itself : (p : Parts) → Holds p p
+itself p = record { summit = λ e. e; below = λ e. e; tropo = λ e. e; low = λ e. e; mid = λ e. e; top = λ e. e }
+
+-- what holds the parts of two holds those of each
+first-of : (p a b : Parts) → Holds p (eitherParts a b) → Holds p a
+unfolding eitherParts
+first-of p a b h =
     record {
-      high = λ e. c .high (or-l (a .high) (b .high) e);
-      pt = λ e. c .pt (or-l (a .pt) (b .pt) e);
-      ps = λ e. c .ps (or-l (a .ps) (b .ps) e);
-      nodes = λ e. c .nodes (or-l (a .nodes) (b .nodes) e);
-      meso = λ e. c .meso (or-l (a .meso) (b .meso) e);
-      tropo = λ e. c .tropo (or-l (a .tropo) (b .tropo) e);
+      summit = λ e. h .summit (or-l (a .summit) (b .summit) e);
+      below = λ e. h .below (or-l (a .below) (b .below) e);
+      tropo = λ e. h .tropo (or-l (a .tropo) (b .tropo) e);
+      low = λ e. h .low (or-l (a .low) (b .low) e);
+      mid = λ e. h .mid (or-l (a .mid) (b .mid) e);
+      top = λ e. h .top (or-l (a .top) (b .top) e);
     }
 
-second-of : (n a b : Need) → Covers n (bothOf a b) → Covers n b
-unfolding bothOf
-second-of n a b c =
+second-of : (p a b : Parts) → Holds p (eitherParts a b) → Holds p b
+unfolding eitherParts
+second-of p a b h =
     record {
-      high = λ e. c .high (or-r (a .high) (b .high) e);
-      pt = λ e. c .pt (or-r (a .pt) (b .pt) e);
-      ps = λ e. c .ps (or-r (a .ps) (b .ps) e);
-      nodes = λ e. c .nodes (or-r (a .nodes) (b .nodes) e);
-      meso = λ e. c .meso (or-r (a .meso) (b .meso) e);
-      tropo = λ e. c .tropo (or-r (a .tropo) (b .tropo) e);
+      summit = λ e. h .summit (or-r (a .summit) (b .summit) e);
+      below = λ e. h .below (or-r (a .below) (b .below) e);
+      tropo = λ e. h .tropo (or-r (a .tropo) (b .tropo) e);
+      low = λ e. h .low (or-r (a .low) (b .low) e);
+      mid = λ e. h .mid (or-r (a .mid) (b .mid) e);
+      top = λ e. h .top (or-r (a .top) (b .top) e);
     }
 
--- the sets that the altitudes need hold those of the first and those of the others
-first-covered : (m : Need) (alts : List Float) → Covers (needsFrom m alts) m
-unfolding needsFrom
-first-covered m [] = itself m
-first-covered m (z ∷ zs) = first-of _ m (needAt z) (first-covered (bothOf m (needAt z)) zs)
-
--- the sets that the altitudes need hold those of each
-each-covered : (m : Need) (alts : List Float) (k : ℕ) → k < length alts → Covers (needsFrom m alts) (needAt (getD alts k nan))
-unfolding needsFrom
-each-covered m [] k h = absurd (not-suc-le-zero h)
-each-covered m (z ∷ zs) zero h = second-of _ m (needAt z) (first-covered (bothOf m (needAt z)) zs)
-each-covered m (z ∷ zs) (suc k) h = each-covered (bothOf m (needAt z)) zs k (omega (arith, h))
-
-founded : (sw : List Float) (x : Site) (l : Levels) (a : Need) (f : Footing) (z : Float) → Covers a (needAt z) → (a .meso ≡ true → f ≡ footingOf sw x l (a .tropo)) → Founded sw x l f z
-unfolding needAt
-founded sw x l a f z c h = λ t. (a .tropo, h (c .meso (ap not t)), c .tropo)
-
-pub founded-all : (sw : List Float) (x : Site) (l : Levels) (a : Need) (f : Footing) (alts : List Float) → a ≡ needsFrom noneOf alts
-    → (a .meso ≡ true → f ≡ footingOf sw x l (a .tropo)) → FoundedAll sw x l f alts
-founded-all sw x l a f alts e h = λ k i. founded sw x l a f (getD alts k nan) (rw e (each-covered noneOf alts k i)) h
+-- the parts that the altitudes read hold those that were read before
+before-held : (m : Parts) (alts : List Float) → Holds (partsFrom m alts) m
+unfolding partsFrom
+before-held m [] = itself m
+before-held m (z ∷ zs) = first-of _ m (partsAt z) (before-held (eitherParts m (partsAt z)) zs)
 
 -- ---- the rows
 
-module _ (sw : List Float) (x : Site) (l : Levels) where
-  rows-append : (xs ys : List Float) → rowsAt sw x l (xs ++ ys) ≡ rowsAt sw x l xs ++ rowsAt sw x l ys
-  unfolding rowsAt
+module _ (sw0 sw15 : Float) (s : List Float) where
+  rows-append : (xs ys : List Float) → rowsStored sw0 sw15 s (xs ++ ys) ≡ rowsStored sw0 sw15 s xs ++ rowsStored sw0 sw15 s ys
+  unfolding rowsStored
   rows-append [] ys = refl
-  rows-append (z ∷ zs) ys = ap (λ (r : List Float). elevenFrom sw x l z ++ r) (rows-append zs ys) ∙ sym (append-assoc (elevenFrom sw x l z) (rowsAt sw x l zs) (rowsAt sw x l ys))
+  rows-append (z ∷ zs) ys = ap (λ (r : List Float). rowStored sw0 sw15 s z ++ r) (rows-append zs ys) ∙ sym (append-assoc (rowStored sw0 sw15 s z) (rowsStored sw0 sw15 s zs) (rowsStored sw0 sw15 s ys))
 
-  rows-one : (z : Float) → rowsAt sw x l (z ∷ []) ≡ elevenFrom sw x l z
-  unfolding rowsAt
-  rows-one z = append-nil (elevenFrom sw x l z)
+  rows-one : (z : Float) → rowsStored sw0 sw15 s (z ∷ []) ≡ rowStored sw0 sw15 s z
+  unfolding rowsStored
+  rows-one z = append-nil (rowStored sw0 sw15 s z)
 
-  rows-more : (alts row : List Float) (k : ℕ) → k < length alts → row ≡ elevenFrom sw x l (getD alts k nan)
-      → rowsAt sw x l (take (k + 1) alts) ≡ rowsAt sw x l (take k alts) ++ row
+  rows-more : (alts row : List Float) (k : ℕ) → k < length alts → row ≡ rowStored sw0 sw15 s (getD alts k nan)
+      → rowsStored sw0 sw15 s (take (k + 1) alts) ≡ rowsStored sw0 sw15 s (take k alts) ++ row
   rows-more alts row k h f = rw (add-one, take-suc alts k nan h, rows-append, rows-one, f)
 
-  pub more-length : (alts row : List Float) (k : ℕ) → k < length alts → row ≡ elevenFrom sw x l (getD alts k nan) → length row ≡ 11
-      → length (rowsAt sw x l (take k alts)) ≡ 11 * k
-      → length (rowsAt sw x l (take (k + 1) alts)) ≡ 11 * (k + 1)
-  more-length alts row k h f e m = ap length (rows-more alts row k h f) ∙ (length-append (rowsAt sw x l (take k alts)) row ∙ omega arith)
+  pub more-length : (alts row : List Float) (k : ℕ) → k < length alts → row ≡ rowStored sw0 sw15 s (getD alts k nan) → length row ≡ 11
+      → length (rowsStored sw0 sw15 s (take k alts)) ≡ 11 * k
+      → length (rowsStored sw0 sw15 s (take (k + 1) alts)) ≡ 11 * (k + 1)
+  more-length alts row k h f e m = ap length (rows-more alts row k h f) ∙ (length-append (rowsStored sw0 sw15 s (take k alts)) row ∙ omega arith)
 
   -- a row put in the place of the next eleven numbers
   pub turn : (alts out₀ out row : List Float) (k : ℕ) → k < length alts
-      → length (rowsAt sw x l (take k alts)) ≡ 11 * k
-      → out ≡ rowsAt sw x l (take k alts) ++ drop (11 * k) out₀
-      → row ≡ elevenFrom sw x l (getD alts k nan)
-      → putMid (11 * k) (11 * k + 11 - 11 * k) out row ≡ rowsAt sw x l (take (k + 1) alts) ++ drop (11 * (k + 1)) out₀
+      → length (rowsStored sw0 sw15 s (take k alts)) ≡ 11 * k
+      → out ≡ rowsStored sw0 sw15 s (take k alts) ++ drop (11 * k) out₀
+      → row ≡ rowStored sw0 sw15 s (getD alts k nan)
+      → putMid (11 * k) (11 * k + 11 - 11 * k) out row ≡ rowsStored sw0 sw15 s (take (k + 1) alts) ++ drop (11 * (k + 1)) out₀
   turn alts out₀ out row k h len e f =
-      let R = rowsAt sw x l (take k alts) in
+      let R = rowsStored sw0 sw15 s (take k alts) in
       let X = drop (11 * k) out₀ in
       let eleven : 11 * k + 11 - 11 * k ≡ 11 = omega arith in
       let more : 11 * k + 11 ≡ 11 * (k + 1) = omega arith in
       rw (e, take-at R X (11 * k) len, drop-at R X (11 * k) len, eleven, drop-drop, more, rows-more alts row k h f, append-assoc)
 
--- nothing of the View and the Site depends on the record's own altitude
-row-is : (w : List ℤ) (n : Input) (m : Need) (z : Float) → Covers m (needAt z)
-    → elevenFrom ((viewOf w n) .sw) (siteOf ((viewOf w n) .sw) (n .«g_lat») ((viewOf w n) .doy) (n .f107a)) (levelsOf (viewOf w n) m) z ≡ elevenOf w (withAltOf n z)
-unfolding elevenOf withAltOf viewOf turnedOf
-row-is w n m z c =
-    let v = viewOf w n in
-    sym (eleven-covered v m (siteOf (v .sw) (n .«g_lat») (v .doy) (n .f107a)) z c)
+-- an accepted altitude is not above 2500 km, and the others are accepted
+passed : (b : Bool) (n k : ℕ) (a : Answer) → cond (not b) (Refused n k) a ≡ Accepted → (b ≡ true) × (a ≡ Accepted)
+passed true n k a e = (refl, e)
+passed false n k a e = absurd (subst (λ (r : Answer). T (not (acceptedOf r))) e tt)
 
-rows-covered : (w : List ℤ) (n : Input) (m : Need) (alts : List Float)
-    → rowsAt ((viewOf w n) .sw) (siteOf ((viewOf w n) .sw) (n .«g_lat») ((viewOf w n) .doy) (n .f107a)) (levelsOf (viewOf w n) (needsFrom m alts)) alts ≡ columnRows w n alts
-unfolding rowsAt columnRows needsFrom
-rows-covered w n m [] = refl
-rows-covered w n m (z ∷ zs) =
-    let k = bothOf m (needAt z) in
+right-of : (a b : Bool) → (a && b) ≡ true → b ≡ true
+right-of true b e = e
+right-of false b e = absurd (false≢true e)
+
+not-above : (k : ℕ) (z : Float) (zs : List Float) → altitudesFrom k (z ∷ zs) ≡ Accepted → (le z 2500·0 ≡ true) × (altitudesFrom (k + 1) zs ≡ Accepted)
+unfolding altitudesFrom withinOf
+not-above k z zs e =
+    let f = passed (finiteOf z) 2 (17 + k) _ e in
+    let g = passed (le 0·0 z && le z 2500·0) 3 (17 + k) _ (f .1) in
+    (right-of (le 0·0 z) (le z 2500·0) (g .0), g .1)
+
+-- what is stored of a record
+abbrev numbersOf : List ℤ → Input → Parts → List Float → List Float
+numbersOf w n p rec = rec ++ storedOf p ((viewOf w n) .sw) (siteOf ((viewOf w n) .sw) (n .«g_lat») ((viewOf w n) .doy) (n .f107a)) (levelsOf (viewOf w n) (needOf p))
+
+rows-held : (w : List ℤ) (n : Input) (rec : List Float) → length rec ≡ 14 → (m : Parts) (k : ℕ) (alts : List Float) → altitudesFrom k alts ≡ Accepted
+    → rowsStored ((viewOf w n) .sw ‼ 0) ((viewOf w n) .sw ‼ 15) (numbersOf w n (partsFrom m alts) rec) alts ≡ columnRows w n alts
+unfolding rowsStored columnRows partsFrom
+rows-held w n rec len m k [] e = refl
+rows-held w n rec len m k (z ∷ zs) e =
+    let q = eitherParts m (partsAt z) in
+    let f = not-above k z zs e in
     ap₂ (λ (r t : List Float). r ++ t)
-    (row-is w n (needsFrom k zs) z (second-of _ m (needAt z) (first-covered k zs)))
-    (rows-covered w n k zs)
+    (stored-eleven w n (partsFrom q zs) rec z len (f .0) (second-of _ m (partsAt z) (before-held q zs)))
+    (rows-held w n rec len q (k + 1) zs (f .1))
 
-pub rows-are : (w : List ℤ) (n : Input) (alts : List Float)
-    → rowsAt ((viewOf w n) .sw) (siteOf ((viewOf w n) .sw) (n .«g_lat») ((viewOf w n) .doy) (n .f107a)) (levelsOf (viewOf w n) (needsFrom noneOf alts)) alts ≡ columnRows w n alts
-rows-are w n alts = rows-covered w n noneOf alts
+-- the rows out of what is stored are those of the record; xs is what lies behind them
+pub rows-are : (w : List ℤ) (n : Input) (alts numbers xs : List Float) (v : View) (x : Site) (p : Parts) (a : Need) (l : Levels)
+    → v ≡ viewOf w n → x ≡ siteOf (v .sw) (n .«g_lat») (v .doy) (n .f107a) → p ≡ partsFrom noParts alts → a ≡ needOf p → l ≡ levelsOf v a
+    → numbers ≡ take 14 (replicate 234 0·0) ++ storedOf p (v .sw) x l → altitudesFrom 0 alts ≡ Accepted
+    → rowsStored (v .sw ‼ 0) (v .sw ‼ 15) numbers alts ++ xs ≡ columnRows w n alts ++ xs
+rows-are w n alts numbers xs v x p a l ev ex ep ea el en e =
+    rw (en, el, ea, ep, ex, ev) (ap (λ (r : List Float). r ++ xs) (rows-held w n (take 14 (replicate 234 0·0)) refl noParts 0 alts e))
 
 -- ---- the call
 
@@ -191,6 +196,23 @@ second-passed false false n a h = refl
 pub accepted-room : (w : List ℤ) (n : Input) (alts : List Float) (len : ℕ) → acceptedOf (columnAnswer w n alts len) ≡ true → ltb len (11 * length alts) ≡ false
 unfolding columnAnswer
 accepted-room w n alts len h = second-passed (ltb 512 (length alts)) (ltb len (11 * length alts)) (11 * length alts) _ h
+
+last-passed : (b c : Bool) (n : ℕ) (a : Answer) (alts : List Float) → acceptedOf (cond b (Refused 5 512) (cond c (Refused 4 n) (afterRecord a alts))) ≡ true
+    → acceptedOf (altitudesFrom 0 alts) ≡ true
+unfolding afterRecord
+last-passed true c n a alts h = absurd (false≢true h)
+last-passed false true n a alts h = absurd (false≢true h)
+last-passed false false n Accepted alts h = h
+last-passed false false n (Refused i j) alts h = absurd (false≢true h)
+
+accepted-is : (a : Answer) → acceptedOf a ≡ true → a ≡ Accepted
+accepted-is Accepted h = refl
+accepted-is (Refused n k) h = absurd (false≢true h)
+
+pub accepted-altitudes : (w : List ℤ) (n : Input) (alts : List Float) (len : ℕ) → acceptedOf (columnAnswer w n alts len) ≡ true → altitudesFrom 0 alts ≡ Accepted
+unfolding columnAnswer
+accepted-altitudes w n alts len h =
+    accepted-is _ (last-passed (ltb 512 (length alts)) (ltb len (11 * length alts)) (11 * length alts) (judgedOf w (withAltOf n 0·0)) alts h)
 
 pub kept : (w : List ℤ) (n : Input) (alts xs : List Float) → acceptedOf (columnAnswer w n alts (length xs)) ≡ false → xs ≡ columnAfter w n alts xs
 unfolding columnAfter

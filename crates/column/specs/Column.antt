@@ -1,6 +1,6 @@
 -- Document 01's column: its refusals in order, and the lent buffer afterwards.
 use Prim.Native.Nat.{ℕ, _+_, _*_}
-use mathlib.Core.Bool.{false, cond, not}
+use mathlib.Core.Bool.{cond, not}
 use mathlib.Core.List.{List, [], _∷_, _++_}
 use lib.Dec.{ltb}
 use lib.IntN.{ℤ}
@@ -9,14 +9,10 @@ use lib.Ieee.{Float}
 use Rattle.numbers.specs.Literals.{0·0, 2500·0}
 use Rattle.numbers.specs.Tests.{finiteOf}
 use Rattle.setting.specs.declared.Input.{Input}
-use Rattle.upper.specs.declared.Site.{Site}
 use Rattle.acceptance.specs.declared.Answer.{Answer}
 use Rattle.acceptance.specs.declared.Answer.the-variants.{Accepted, Refused}
 use Rattle.acceptance.specs.Acceptance.{withinOf, judgedOf, acceptedOf, withAltOf}
-use Rattle.plan.specs.declared.Levels.{Levels}
-use Rattle.levels.specs.declared.Need.{Need}
-use Rattle.levels.specs.Levels.{needAt, bothOf}
-use Rattle.atmosphere.specs.Atmosphere.{elevenFrom, elevenOf}
+use Rattle.atmosphere.specs.Atmosphere.{elevenOf}
 
 -- each altitude in order, the first of them with the index k: 2, else 3; place 17 plus the index
 unfoldable pub altitudesFrom : ℕ → List Float → Answer
@@ -36,19 +32,6 @@ columnAnswer w n alts len =
     cond (ltb 512 (length alts)) (Refused 5 512)
     (cond (ltb len (11 * length alts)) (Refused 4 (11 * length alts))
     (afterRecord (judgedOf w (withAltOf n 0·0)) alts))
-
-unfoldable pub noneOf : Need
-noneOf = record { high = false; pt = false; ps = false; nodes = false; meso = false; tropo = false }
-
--- the coefficient sets that one of the altitudes needs, or that were needed before
-unfoldable pub needsFrom : Need → List Float → Need
-needsFrom n [] = n
-needsFrom n (z ∷ zs) = needsFrom (bothOf n (needAt z)) zs
-
--- the rows at the altitudes, one after the other
-unfoldable pub rowsAt : List Float → Site → Levels → List Float → List Float
-rowsAt sw x l [] = []
-rowsAt sw x l (z ∷ zs) = elevenFrom sw x l z ++ rowsAt sw x l zs
 
 -- the rows of a record: for each altitude the one-altitude call's eleven numbers
 unfoldable pub columnRows : List ℤ → Input → List Float → List Float

@@ -3,11 +3,9 @@ use mathlib.Core.Path.{_≡_, refl, sym, _∙_, ap, ap₂, subst}
 use mathlib.Core.Bool.{Bool, true, false, cond, not}
 use mathlib.Core.List.{List, [], _∷_, _++_}
 use Prim.Native.Nat.{ℕ, _*_}
-use native.Mathlib.Decide.{ℕ-discrete}
 use lib.Dec.{T, ltb}
 use lib.IntN.{ℤ}
 use lib.ListN.{length, drop}
-use lib.Seq.{getD-set-other}
 use lib.Ieee.{Float}
 use Rattle.setting.specs.declared.Input.{Input}
 use Rattle.setting.specs.ApHistory.{lacksHistoryOf}
@@ -16,20 +14,10 @@ use Rattle.acceptance.specs.declared.Answer.the-variants.{Accepted, Refused}
 use Rattle.acceptance.specs.Acceptance.{judgedOf, acceptedOf, withAltOf}
 use Rattle.numbers.specs.Literals.{0·0}
 use Rattle.atmosphere.specs.Atmosphere.{elevenOf, answerOf}
-use Rattle.shutoff.specs.Fields.{float, missing, field, fields}
 use Rattle.shutoff.specs.Shut.{Alike}
 use Rattle.shutoff.specs.Agree.{Has}
-use Rattle.shutoff.specs.Theorems.{has, has-history, eleven≡}
+use Rattle.shutoff.specs.Theorems.{has, has-history, alike-at, eleven≡}
 use Rattle.column.specs.Column.{afterRecord, columnAnswer, columnRows, columnAfter}
-
--- records alike under a row stay alike with another altitude in both
-pub alike-at : (w : List ℤ) (a b : Input) (z : Float) → Alike w a b → Alike w (withAltOf a z) (withAltOf b z)
-unfolding withAltOf
-alike-at w a b z like k h t = go (ℕ-discrete k 3)
-  where
-    go : Dec (k ≡ 3) → field (withAltOf a z) k ≡ field (withAltOf b z) k
-    go (yes e) = subst (λ (j : ℕ). field (withAltOf a z) j ≡ field (withAltOf b z) j) (sym e) refl
-    go (no n) = getD-set-other (fields a) 3 k (float z) missing n ∙ like k h t ∙ sym (getD-set-other (fields b) 3 k (float z) missing n)
 
 -- an accepted answer comes from no refusal before it
 no-refusal : (c : Bool) (n k : ℕ) (x : Answer) → cond c (Refused n k) x ≡ Accepted → x ≡ Accepted

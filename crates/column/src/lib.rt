@@ -3,25 +3,23 @@ ghost use mathlib.Core.Path.{_≡_};
 ghost use mathlib.Core.List.{_++_};
 ghost use Prim.Native.Nat.{_*_, _≤_};
 ghost use lib.ListN.{length, drop};
-ghost use Rattle.column.specs.Column.{altitudesFrom, columnAnswer, columnAfter, noneOf, needsFrom, rowsAt, columnRows};
-ghost use Rattle.column.specs.Needs.{FoundedAll};
+ghost use Rattle.acceptance.specs.declared.Answer.the-variants.{Accepted};
+ghost use Rattle.column.specs.Column.{altitudesFrom, columnAnswer, columnAfter, columnRows};
+ghost use Rattle.column.specs.Parts.{noParts, eitherParts, partsFrom, rowsStored};
 use acceptance::Answer;
 use acceptance::accepted;
 use acceptance::judge;
 use acceptance::with_alt;
 use acceptance::within;
-use atmosphere::row_on;
-use footing::Footing;
-use footing::footing_where;
-use levels::Need;
-use levels::both;
 use levels::levels_of;
-use levels::need_at;
 use numbers::finite;
-use plan::Levels;
 use setting::Input;
 use setting::views::view_of;
-use upper::Site;
+use stored::Parts;
+use stored::need_of;
+use stored::parts_at;
+use stored::row_on;
+use stored::store;
 use upper::site_of;
 
 // The first altitude that is refused, in order: 2, else 3.
@@ -62,60 +60,77 @@ pub fn column_answer(w: [i32; 24], n: Input, alts: &[f64], len: usize) -> Answer
     altitudes(alts)
 }
 
-pub fn none() -> Need
-    ensures { λ r. ⌜ r ≡ noneOf ⌝ }
+pub fn no_parts() -> Parts
+    ensures { λ r. ⌜ r ≡ noParts ⌝ }
 {
-    Need {
-        high: false,
-        pt: false,
-        ps: false,
-        nodes: false,
-        meso: false,
+    Parts {
+        summit: false,
+        below: false,
         tropo: false,
+        low: false,
+        mid: false,
+        top: false,
     }
 }
 
-// Which coefficient sets the altitudes need.
-pub fn needs(alts: &[f64]) -> Need
-    ensures { λ r. ⌜ r ≡ needsFrom noneOf (now (alts .entry)) ⌝ }
+// The parts that are in either.
+pub fn either_parts(a: Parts, b: Parts) -> Parts
+    ensures { λ r. ⌜ r ≡ eitherParts a b ⌝ }
 {
-    let mut n = none();
+    Parts {
+        summit: a.summit | b.summit,
+        below: a.below | b.below,
+        tropo: a.tropo | b.tropo,
+        low: a.low | b.low,
+        mid: a.mid | b.mid,
+        top: a.top | b.top,
+    }
+}
+
+// The parts that the altitudes read.
+pub fn parts(alts: &[f64]) -> Parts
+    ensures { λ r. ⌜ r ≡ partsFrom noParts (now (alts .entry)) ⌝ }
+{
+    let mut p = no_parts();
     let mut k: usize = 0;
     while k < alts.len() {
-        let a = need_at(alts[k]);
-        n = both(n, a);
+        let a = parts_at(alts[k]);
+        p = either_parts(p, a);
         k += 1;
     }
-    n
+    p
 }
 
-// Each altitude's row into its own part of the buffer.
-pub fn rows_at(sw: [f64; 24], x: Site, l: Levels, f: Footing, alts: &[f64], out: &mut [f64])
-    requires { ⌜ (11 * length (now alts) ≤ length (now out)) × FoundedAll sw x l f (now alts) ⌝ }
-    ensures { λ _. ⌜ now (out .exit) ≡ rowsAt sw x l (now (alts .entry)) ++ drop (11 * length (now (alts .entry))) (now (out .entry)) ⌝ }
+// Each altitude's row into its own part of the buffer, out of the stored numbers; sw0 and sw15 are the main effects of switches 0 and 15.
+pub fn rows_at(sw0: f64, sw15: f64, numbers: &[f64], alts: &[f64], out: &mut [f64])
+    requires { ⌜ (length (now numbers) ≡ 234) × (11 * length (now alts) ≤ length (now out)) ⌝ }
+    ensures { λ _. ⌜ now (out .exit) ≡ rowsStored sw0 sw15 (now (numbers .entry)) (now (alts .entry)) ++ drop (11 * length (now (alts .entry))) (now (out .entry)) ⌝ }
 {
     let mut i: usize = 0;
     while i < alts.len() {
         let z = alts[i];
         let lo = 11 * i;
         let hi = lo + 11;
-        row_on(sw, x, l, f, z, &mut out[lo..hi]);
+        row_on(sw0, sw15, numbers, z, &mut out[lo..hi]);
         i += 1;
     }
 }
 
-// The rows of a record; what does not depend on the altitude, the expansions above all and what gts7 at 72.5 km gives to those below, is worked out once.
+// The rows of a record at accepted altitudes; what does not depend on the altitude is worked out once, as a station stores it: the parts that the
+// altitudes read.
 pub fn rows(w: [i32; 24], n: Input, alts: &[f64], out: &mut [f64])
-    requires { ⌜ 11 * length (now alts) ≤ length (now out) ⌝ }
+    requires { ⌜ (11 * length (now alts) ≤ length (now out)) × (altitudesFrom 0 (now alts) ≡ Accepted) ⌝ }
     ensures { λ _. ⌜ now (out .exit) ≡ columnRows w n (now (alts .entry)) ++ drop (11 * length (now (alts .entry))) (now (out .entry)) ⌝ }
 {
     let v = view_of(w, n);
     let sw = v.sw;
     let x = site_of(sw, n.g_lat, v.doy, n.f107a);
-    let a = needs(alts);
+    let p = parts(alts);
+    let a = need_of(p);
     let l = levels_of(v, a);
-    let f = footing_where(a.meso, sw, x, l, a.tropo);
-    rows_at(sw, x, l, f, alts, out);
+    let mut numbers = [0.0; 234];
+    store(p, sw, x, l, &mut numbers);
+    rows_at(sw[0], sw[15], &numbers, alts, out);
 }
 
 // The column call: refused, the buffer as it was; accepted, the rows and the rest of the buffer as it was.

@@ -1,32 +1,29 @@
 -- The footing, from what each stage gives.
-use mathlib.Core.Path.{_≡_, refl, ap, sym, _∙_}
-use mathlib.Core.Bool.{Bool, cond}
+use mathlib.Core.Path.{_≡_, ap, _∙_}
+use mathlib.Core.Bool.{Bool, true, false}
 use mathlib.Core.List.{List, [], _∷_}
-use lib.Ieee.{Float}
+use lib.Ieee.{Float, lt}
 use Rattle.numbers.specs.Arithmetic.{_⊕_, _⊖_, _⊗_, _⊘_, _‼_}
 use Rattle.numbers.specs.Literals.{0·0, 1·0, 32·5, 72·5}
-use Rattle.places.specs.declared.place.Place.{Place}
-use Rattle.places.specs.declared.thinning.Thinning.{Thinning}
-use Rattle.places.specs.Thinning.{Logged, thinningOf, logged}
 use Rattle.profile.specs.declared.unchecked.Shape.{Shape}
 use Rattle.profile.specs.declared.unchecked.Profile.{Profile}
 use Rattle.profile.specs.Profile.{densityIn, temperatureIn}
+use Rattle.layers.specs.Layers.{downOf}
 use Rattle.plan.specs.declared.Levels.{Levels}
 use Rattle.plan.specs.Plan.{told, given}
-use Rattle.species.specs.Species.{nodes}
-use Rattle.species.specs.Places.{placeAt, Turbopause, Mixes}
 use Rattle.species.specs.declared.Blend.{Blend}
 use Rattle.species.specs.declared.Mixture.{Mixture}
-use Rattle.tables.specs.Tables.{ptmT, pdmT0, pdmT1, pdmT2, pdmT3, pdmT4, pdlT1}
+use Rattle.tables.specs.Tables.{pdmT0, pdmT2, pdmT3, pdmT4, pdlT1}
 use Rattle.upper.specs.declared.Site.{Site}
 use Rattle.upper.specs.Upper.{massOf}
 use Rattle.stages.specs.Stages.{shapePlan, n2Plan, heliumPlan, o2Plan, argonPlan}
 use Rattle.lower.specs.declared.Meso.{Meso}
 use Rattle.lower.specs.declared.Nodes.{Nodes}
-use Rattle.lower.specs.Lower.{mesoNodesPlan, lowerPlan, dmcOf, n2Of, fullOf, kilogramsOf}
+use Rattle.lower.specs.Lower.{mesoNodesPlan, unsetOf, dmcOf, dm28mOf, n2Of, fullOf, kilogramsOf}
+use Rattle.footing.specs.declared.Curves.{Curves}
 use Rattle.footing.specs.declared.Footing.{Footing}
 use Rattle.footing.specs.declared.Three.{Three}
-use Rattle.footing.specs.Footing.{threeOf, standingOf, footingOf, nodesAt, rowBelowOf}
+use Rattle.footing.specs.Footing.{threeOf, curvesOf, standingOf, footingOf, reachedOf, rowBelowOf}
 
 -- the entry that a species has, from the row that was read
 pub third : (m row : List Float) → m ≡ row → m ‼ 2 ≡ row ‼ 2
@@ -42,19 +39,33 @@ pub three-law : (sw : List Float) (h : Shape) (b28 flux : Float) (l : Levels) (a
 unfolding threeOf
 three-law sw h b28 flux l ar o2 he d m e0 e1 e2 e3 e4 = rw (e0, e1, e2, e3, e4)
 
-pub footing-law : (sw : List Float) (x : Site) (l : Levels) (tropo : Bool) (f : Footing) (w : Nodes) (z : Float) (e : Meso) (y : Three) (b : Blend) (h : Shape)
-    → f ≡ standingOf (sw ‼ 0) x h b y w
-    → w ≡ told (given l) (lowerPlan sw z e)
-    → z ≡ cond tropo 0·0 32·5
+pub footing-law : (sw : List Float) (x : Site) (l : Levels) (tropo : Bool) (f : Footing) (k : Curves) (d : Float) (e : Meso) (y : Three) (b : Blend) (h : Shape)
+    → f ≡ standingOf (sw ‼ 0) x h b y d e k
+    → k ≡ curvesOf sw x d e l tropo
+    → d ≡ dm28mOf (sw ‼ 0) (b .dm)
     → e ≡ told (given l) (mesoNodesPlan sw h)
     → y ≡ threeOf sw h (b .b) (x .flux) l
     → b ≡ told (given l) (n2Plan sw h 72·5 (x .zhf))
     → h ≡ told (given l) (shapePlan sw x 72·5)
     → f ≡ footingOf sw x l tropo
 unfolding footingOf
-footing-law sw x l tropo f w z e y b h e0 e1 e2 e3 e4 e5 e6 = rw (e0, e1, e2, e3, e4, e5, e6)
+footing-law sw x l tropo f k d e y b h e0 e1 e2 e3 e4 e5 e6 = rw (e0, e1, e2, e3, e4, e5, e6)
 
-pub row-law : (sw0 : Float) (f : Footing) (alt : Float) (all g ar o2 he t1 n : Float) (a : Profile) (w : Nodes) (c : Float) (m4 m3 m0 : List Float)
+-- densm for N2, by the side of 32.5 km on which the altitude lies
+module _ (x : Site) (d : Float) (m : Meso) (k : Curves) (alt : Float) (r : Profile) where
+  pub upper-law : r ≡ downOf (x .re) 72·5 (k .upper) 4 d alt → lt 32·5 alt ≡ true → r ≡ reachedOf x d m k alt
+  unfolding reachedOf
+  upper-law e t = rw t e
+
+  pub lower-law : r ≡ downOf (x .re) 32·5 (k .lower) 5 (k .d32) alt → lt alt 32·5 ≡ true → lt 32·5 alt ≡ false → r ≡ reachedOf x d m k alt
+  unfolding reachedOf
+  lower-law e t f = rw (f, t) e
+
+  pub between-law : (w : Nodes) → r ≡ n2Of x alt d w → w ≡ unsetOf m → lt alt 32·5 ≡ false → lt 32·5 alt ≡ false → r ≡ reachedOf x d m k alt
+  unfolding reachedOf
+  between-law w e u f g = rw (g, f) (e ∙ ap (n2Of x alt d) u)
+
+pub row-law : (sw0 : Float) (f : Footing) (alt : Float) (all g ar o2 he t1 n : Float) (a : Profile) (c : Float) (m4 m3 m0 : List Float)
     → all ≡ kilogramsOf sw0 g
     → g ≡ massOf he 0·0 (n ⊗ (1·0 ⊕ (f .n2 ⊘ f .dm28m ⊖ 1·0) ⊗ c)) o2 ar 0·0 0·0
     → ar ≡ fullOf (n ⊗ (1·0 ⊕ (f .n2 ⊘ f .dm28m ⊖ 1·0) ⊗ c)) (m4 ‼ 1) (f .ar) (f .n2) c
@@ -62,13 +73,12 @@ pub row-law : (sw0 : Float) (f : Footing) (alt : Float) (all g ar o2 he t1 n : F
     → he ≡ fullOf (n ⊗ (1·0 ⊕ (f .n2 ⊘ f .dm28m ⊖ 1·0) ⊗ c)) (m0 ‼ 1) (f .he) (f .n2) c
     → t1 ≡ temperatureIn a
     → n ≡ densityIn a
-    → a ≡ n2Of (f .x) alt (f .dm28m) w
-    → w ≡ nodesAt f alt
+    → a ≡ reachedOf (f .x) (f .dm28m) (f .meso) (f .curves) alt
     → c ≡ dmcOf alt
     → m4 ≡ pdmT4
     → m3 ≡ pdmT3
     → m0 ≡ pdmT0
     → he ∷ 0·0 ∷ (n ⊗ (1·0 ⊕ (f .n2 ⊘ f .dm28m ⊖ 1·0) ⊗ c)) ∷ o2 ∷ ar ∷ all ∷ 0·0 ∷ 0·0 ∷ 0·0 ∷ f .tinf ∷ t1 ∷ [] ≡ rowBelowOf sw0 f alt
 unfolding rowBelowOf
-row-law sw0 f alt all g ar o2 he t1 n a w c m4 m3 m0 e0 e1 e2 e3 e4 e5 e6 e7 e8 e9 e10 e11 e12 =
-    simp (e0, e1, e2, e3, e4, e5, e6, e7, e8, e9, e10, e11, e12)
+row-law sw0 f alt all g ar o2 he t1 n a c m4 m3 m0 e0 e1 e2 e3 e4 e5 e6 e7 e8 e9 e10 e11 =
+    simp (e0, e1, e2, e3, e4, e5, e6, e7, e8, e9, e10, e11)

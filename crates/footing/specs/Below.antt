@@ -5,14 +5,15 @@ use mathlib.Core.Bool.{Bool, true, false, cond, not}
 use mathlib.Core.List.{List}
 use lib.Ieee.{Float, lt, eq, ne, ofBits}
 use Rattle.numbers.specs.Arithmetic.{_⊗_, _‼_}
-use Rattle.numbers.specs.Literals.{0·0, 1·0, 32·5, 72·5, 1·0E6}
+use Rattle.numbers.specs.Literals.{0·0, 1·0, 32·5, 72·5}
 use Rattle.profile.specs.Curve.{layerOf, flooredOf}
-use Rattle.profile.specs.Profile.{densmOf, answerOf, densityIn, temperatureIn}
+use Rattle.profile.specs.Profile.{densmOf, answerOf, temperatureIn}
+use Rattle.layers.specs.Layers.{spanOf, densm-upper, densm-lower}
 use Rattle.profile.specs.declared.unchecked.Profile.{Profile}
 use Rattle.profile.specs.declared.unchecked.Profile.the-variants.{Temperature, Density}
 use Rattle.profile.specs.declared.unchecked.Shape.{Shape}
 use Rattle.plan.specs.declared.Levels.{Levels}
-use Rattle.plan.specs.Plan.{either, _>>=_, told, given, then, last, told-keep}
+use Rattle.plan.specs.Plan.{_>>=_, told, given, then, last, told-keep}
 use Rattle.species.specs.declared.Blend.{Blend}
 use Rattle.tables.specs.Tables.{pdmT2, pdlT1}
 use Rattle.upper.specs.declared.Site.{Site}
@@ -22,11 +23,10 @@ use Rattle.upper.specs.Upper.{anomalousOf, unitsOf, gatherOf}
 use Rattle.stages.specs.Stages.{shapePlan, n2Plan, heliumPlan, oxygenPlan, o2Plan, argonPlan, hydrogenPlan, nitrogenPlan, hotPlan, speciesPlan, gts7Plan}
 use Rattle.lower.specs.declared.Meso.{Meso}
 use Rattle.lower.specs.declared.Nodes.{Nodes}
-use Rattle.lower.specs.declared.Whole.{Whole}
 use Rattle.lower.specs.Lower.{troposphereOf, unsetOf, mesoNodesPlan, mesoPlan, lowerPlan, dm28mOf, zn2, zn3, n2Of, warmthOf, belowOf}
+use Rattle.footing.specs.declared.Curves.{Curves}
 use Rattle.footing.specs.declared.Footing.{Footing}
-use Rattle.footing.specs.declared.Three.{Three}
-use Rattle.footing.specs.Footing.{threeOf, inUnitsOf, standingOf, footingOf, nodesAt, rowBelowOf}
+use Rattle.footing.specs.Footing.{threeOf, inUnitsOf, curvesOf, standingOf, footingOf, reachedOf, rowBelowOf}
 
 -- ---- densm's temperature does not depend on the gas
 
@@ -67,18 +67,17 @@ warmth-is x alt d w =
 -- ---- the row, from what it reads of gts7
 
 below-is : (sw0 : Float) (x : Site) (alt : Float) (u : Upper) (w : Nodes) (f : Footing)
-    → f .x ≡ x
     → f .tinf ≡ u .shape .tinf
     → f .dm28m ≡ dm28mOf sw0 (u .base .dm)
     → f .he ≡ u .d ‼ 0
     → f .n2 ≡ u .d ‼ 2
     → f .o2 ≡ u .d ‼ 3
     → f .ar ≡ u .d ‼ 4
-    → nodesAt f alt ≡ w
+    → reachedOf (f .x) (f .dm28m) (f .meso) (f .curves) alt ≡ n2Of x alt (dm28mOf sw0 (u .base .dm)) w
     → rowBelowOf sw0 f alt ≡ (belowOf sw0 x alt u w) .row
 unfolding belowOf rowBelowOf
-below-is sw0 x alt u w f e0 e1 e2 e3 e4 e5 e6 e7 =
-    rw (e7, e0, e1, e2, e3, e4, e5, e6, warmth-is x alt (dm28mOf sw0 (u .base .dm)) w)
+below-is sw0 x alt u w f e0 e1 e2 e3 e4 e5 e6 =
+    rw (e6, e0, e1, e2, e3, e4, e5, warmth-is x alt (dm28mOf sw0 (u .base .dm)) w)
 
 -- ---- what gts7 gives
 
@@ -141,15 +140,15 @@ gts7-is sw x z l h b e f =
     ∙ told-keep (given l) _ _
     ∙ last (given l) _
 
--- ---- the nodes
+-- ---- the layers
+
+gas : eq (pdmT2 ‼ 4) 0·0 ≡ false
+unfolding pdmT2 eq ofBits
+gas = refl
 
 under-32 : lt 0·0 32·5 ≡ true
 unfolding lt ofBits
 under-32 = refl
-
-at-32 : lt 32·5 32·5 ≡ false
-unfolding lt ofBits
-at-32 = refl
 
 module _ (sw : List Float) (l : Levels) (m : Meso) where
   -- lowerPlan reads of the altitude whether it is below 32.5 km
@@ -161,34 +160,53 @@ module _ (sw : List Float) (l : Levels) (m : Meso) where
   unfolding lowerPlan told
   no-nodes z e = rw e
 
-  topmost : (tropo : Bool) → _≡_ {A = Meso}
-      (record { tn2 = (told (given l) (lowerPlan sw (cond tropo 0·0 32·5) m)) .tn2; tgn2 = (told (given l) (lowerPlan sw (cond tropo 0·0 32·5) m)) .tgn2 }) m
-  unfolding lowerPlan told _>>=_ troposphereOf unsetOf lt ofBits
-  topmost true = refl
-  topmost false = refl
+  -- the nodes above 32.5 km are there in either case
+  topmost : (z : Float) (b : Bool) → lt z 32·5 ≡ b
+      → ((told (given l) (lowerPlan sw z m)) .tn2 ≡ m .tn2) × ((told (given l) (lowerPlan sw z m)) .tgn2 ≡ m .tgn2)
+  unfolding lowerPlan told _>>=_ troposphereOf unsetOf
+  topmost z true e = (rw e, rw e)
+  topmost z false e = (rw e, rw e)
 
-  nodes-by : (alt : Float) (tropo b : Bool) (f : Footing) → f .nodes ≡ told (given l) (lowerPlan sw (cond tropo 0·0 32·5) m)
-      → lt alt 32·5 ≡ b → (b ≡ true → tropo ≡ true)
-      → nodesAt f alt ≡ told (given l) (lowerPlan sw alt m)
-  unfolding nodesAt
-  nodes-by alt tropo true f e t c =
-      rw t
-      (e
-      ∙ ap (λ (a : Bool). told (given l) (lowerPlan sw (cond a 0·0 32·5) m)) (c refl)
-      ∙ same-nodes 0·0 alt (under-32 ∙ sym t))
-  nodes-by alt tropo false f e t c =
-      rw t
-      (ap (λ (w : Nodes). unsetOf (record { tn2 = w .tn2; tgn2 = w .tgn2 })) e
-      ∙ ap unsetOf (topmost tropo)
-      ∙ no-nodes alt t)
+  upper-span : (x : Site) (d : Float) (tropo : Bool)
+      → (curvesOf sw x d m l tropo) .upper ≡ spanOf (x .gsurf) (x .re) (pdmT2 ‼ 4) (layerOf (x .re) zn2 (m .tn2) 4 (m .tgn2) 32·5)
+  unfolding curvesOf
+  upper-span x d true = refl
+  upper-span x d false = refl
 
--- From the footing at 72.5 km the row is that of gtd7, whose nodes of the troposphere are there where the altitude asks for them
-pub row-is : (sw : List Float) (x : Site) (l : Levels) (tropo : Bool) (alt : Float) → (lt alt 32·5 ≡ true → tropo ≡ true)
+  module _ (x : Site) (d alt : Float) (inside : lt 72·5 alt ≡ false) where
+    in-upper : (tropo : Bool) → lt 32·5 alt ≡ true → reachedOf x d m (curvesOf sw x d m l tropo) alt ≡ n2Of x alt d (told (given l) (lowerPlan sw alt m))
+    unfolding reachedOf n2Of
+    in-upper tropo t =
+        let w = told (given l) (lowerPlan sw alt m) in
+        let same = topmost alt (lt alt 32·5) refl in
+        rw (t, upper-span x d tropo, same .0, same .1)
+        (densm-upper (x .gsurf) (x .re) alt d (pdmT2 ‼ 4) 0·0 zn3 (w .tn3) (w .tgn3) zn2 (m .tn2) (m .tgn2) 32·5 gas inside t t)
+
+    in-lower : lt 32·5 alt ≡ false → lt alt 32·5 ≡ true → reachedOf x d m (curvesOf sw x d m l true) alt ≡ n2Of x alt d (told (given l) (lowerPlan sw alt m))
+    unfolding reachedOf n2Of curvesOf
+    in-lower f t =
+        let w = told (given l) (lowerPlan sw alt m) in
+        let same = topmost alt true t in
+        rw (f, t, same-nodes 0·0 alt (under-32 ∙ sym t), same .0, same .1)
+        (densm-lower (x .gsurf) (x .re) alt d (pdmT2 ‼ 4) 0·0 zn3 (w .tn3) (w .tgn3) zn2 (m .tn2) (m .tgn2) 0·0 gas inside f f)
+
+    at-32 : (k : Curves) → lt 32·5 alt ≡ false → lt alt 32·5 ≡ false → reachedOf x d m k alt ≡ n2Of x alt d (told (given l) (lowerPlan sw alt m))
+    unfolding reachedOf
+    at-32 k f g = rw (f, g) (ap (n2Of x alt d) (no-nodes alt g))
+
+    reached-is : (tropo a b : Bool) → lt 32·5 alt ≡ a → lt alt 32·5 ≡ b → (b ≡ true → tropo ≡ true)
+        → reachedOf x d m (curvesOf sw x d m l tropo) alt ≡ n2Of x alt d (told (given l) (lowerPlan sw alt m))
+    reached-is tropo true b e f c = in-upper tropo e
+    reached-is tropo false true e f c = ap (λ (t : Bool). reachedOf x d m (curvesOf sw x d m l t) alt) (c refl) ∙ in-lower e f
+    reached-is tropo false false e f c = at-32 (curvesOf sw x d m l tropo) e f
+
+-- From the footing at 72.5 km the row of an altitude not above it is that of gtd7; the footing has the troposphere where the altitude asks for it
+pub row-is : (sw : List Float) (x : Site) (l : Levels) (tropo : Bool) (alt : Float) → (lt alt 32·5 ≡ true → tropo ≡ true) → lt 72·5 alt ≡ false
     → let u = told (given l) (gts7Plan sw x 72·5) in
     rowBelowOf (sw ‼ 0) (footingOf sw x l tropo) alt
     ≡ (belowOf (sw ‼ 0) x alt u (told (given l) (lowerPlan sw alt (told (given l) (mesoPlan sw u))))) .row
 unfolding footingOf standingOf threeOf mesoPlan gatherOf
-row-is sw x l tropo alt c =
+row-is sw x l tropo alt c inside =
     let h = told (given l) (shapePlan sw x 72·5) in
     let b = told (given l) (n2Plan sw h 72·5 (x .zhf)) in
     let y = told (given l) (speciesPlan sw h 72·5 (b .b) (x .flux)) in
@@ -199,11 +217,10 @@ row-is sw x l tropo alt c =
     below-is (sw ‼ 0) x alt u (told (given l) (lowerPlan sw alt m)) (footingOf sw x l tropo)
     refl
     refl
-    refl
     (ap (λ (k : Six). inUnitsOf (sw ‼ 0) (k .he .dens)) (sym s) ∙ units-he (sw ‼ 0) _ _ _ _ _ _ _ _ _)
     (units-n2 (sw ‼ 0) _ _ _ _ _ _ _ _ _)
     (ap (λ (k : Six). inUnitsOf (sw ‼ 0) (k .o2 .dens)) (sym s) ∙ units-o2 (sw ‼ 0) _ _ _ _ _ _ _ _ _)
     (ap (λ (k : Six). inUnitsOf (sw ‼ 0) (k .ar .dens)) (sym s) ∙ units-ar (sw ‼ 0) _ _ _ _ _ _ _ _ _)
-    (nodes-by sw l m alt tropo (lt alt 32·5) (footingOf sw x l tropo) refl refl c)
+    (reached-is sw l m x (dm28mOf (sw ‼ 0) (b .dm)) alt inside tropo (lt 32·5 alt) (lt alt 32·5) refl refl c)
     ∙ ap (λ (g : Upper). (belowOf (sw ‼ 0) x alt g (told (given l) (lowerPlan sw alt (told (given l) (mesoNodesPlan sw (g .shape)))))) .row)
     (sym (gts7-is sw x 72·5 l h b refl refl))

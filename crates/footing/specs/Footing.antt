@@ -1,11 +1,14 @@
 -- What gts7 at 72.5 km gives to every altitude below it, and the row there.
-use mathlib.Core.Bool.{Bool, cond}
+use mathlib.Core.Bool.{Bool, cond, not}
 use mathlib.Core.List.{List, [], _∷_}
 use lib.Ieee.{Float, lt, ne}
 use Rattle.numbers.specs.Arithmetic.{_⊕_, _⊖_, _⊗_, _⊘_, _‼_}
 use Rattle.numbers.specs.Literals.{0·0, 1·0, 32·5, 72·5, 1·0E6}
-use Rattle.profile.specs.Profile.{densityIn, temperatureIn}
+use Rattle.profile.specs.Curve.{layerOf}
+use Rattle.profile.specs.Profile.{loweredOf, densityIn, temperatureIn}
+use Rattle.profile.specs.declared.unchecked.Profile.{Profile}
 use Rattle.profile.specs.declared.unchecked.Shape.{Shape}
+use Rattle.layers.specs.Layers.{spanOf, blankOf, downOf}
 use Rattle.plan.specs.declared.Levels.{Levels}
 use Rattle.plan.specs.Plan.{told, given}
 use Rattle.species.specs.declared.Blend.{Blend}
@@ -14,8 +17,8 @@ use Rattle.upper.specs.declared.Site.{Site}
 use Rattle.upper.specs.Upper.{massOf}
 use Rattle.stages.specs.Stages.{shapePlan, n2Plan, heliumPlan, o2Plan, argonPlan}
 use Rattle.lower.specs.declared.Meso.{Meso}
-use Rattle.lower.specs.declared.Nodes.{Nodes}
-use Rattle.lower.specs.Lower.{mesoNodesPlan, lowerPlan, unsetOf, dmcOf, dm28mOf, n2Of, fullOf, kilogramsOf}
+use Rattle.lower.specs.Lower.{mesoNodesPlan, lowerPlan, unsetOf, dmcOf, dm28mOf, zn2, zn3, n2Of, fullOf, kilogramsOf}
+use Rattle.footing.specs.declared.Curves.{Curves}
 use Rattle.footing.specs.declared.Footing.{Footing}
 use Rattle.footing.specs.declared.Three.{Three}
 
@@ -34,38 +37,56 @@ threeOf sw h b28 flux l =
 unfoldable pub inUnitsOf : Float → Float → Float
 inUnitsOf sw0 d = cond (ne sw0 0·0) (d ⊗ 1·0E6) d
 
-unfoldable pub standingOf : Float → Site → Shape → Blend → Three → Nodes → Footing
-standingOf sw0 x h b y w =
+-- the layer from 72.5 km to 32.5 km, made of its nodes; and, where the troposphere is asked for, the density at 32.5 km and the layer from there
+-- down, whose nodes are those of 0 km
+unfoldable pub curvesOf : List Float → Site → Float → Meso → Levels → Bool → Curves
+curvesOf sw x d m l tropo =
+    let xm = pdmT2 ‼ 4 in
+    let a = layerOf (x .re) zn2 (m .tn2) 4 (m .tgn2) 32·5 in
+    let u = spanOf (x .gsurf) (x .re) xm a in
+    cond (not tropo) (record { upper = u; d32 = 0·0; lower = blankOf })
+    (let w = told (given l) (lowerPlan sw 0·0 m) in
+    record {
+      upper = u;
+      d32 = loweredOf (x .gsurf) (x .re) xm d a 4;
+      lower = spanOf (x .gsurf) (x .re) xm (layerOf (x .re) zn3 (w .tn3) 5 (w .tgn3) 0·0);
+    })
+
+unfoldable pub standingOf : Float → Site → Shape → Blend → Three → Float → Meso → Curves → Footing
+standingOf sw0 x h b y d m k =
     record {
       x = x;
       tinf = h .tinf;
-      dm28m = dm28mOf sw0 (b .dm);
+      dm28m = d;
       he = inUnitsOf sw0 (y .he .dens);
       n2 = inUnitsOf sw0 (b .dens);
       o2 = inUnitsOf sw0 (y .o2 .dens);
       ar = inUnitsOf sw0 (y .ar .dens);
-      nodes = w;
+      meso = m;
+      curves = k;
     }
 
--- the nodes of the troposphere are those of 0 km, or not set, as at 32.5 km
 unfoldable pub footingOf : List Float → Site → Levels → Bool → Footing
 footingOf sw x l tropo =
     let h = told (given l) (shapePlan sw x 72·5) in
     let b = told (given l) (n2Plan sw h 72·5 (x .zhf)) in
     let y = threeOf sw h (b .b) (x .flux) l in
     let m = told (given l) (mesoNodesPlan sw h) in
-    let w = told (given l) (lowerPlan sw (cond tropo 0·0 32·5) m) in
-    standingOf (sw ‼ 0) x h b y w
+    let d = dm28mOf (sw ‼ 0) (b .dm) in
+    standingOf (sw ‼ 0) x h b y d m (curvesOf sw x d m l tropo)
 
--- the nodes at an altitude
-unfoldable pub nodesAt : Footing → Float → Nodes
-nodesAt f alt = cond (lt alt 32·5) (f .nodes) (unsetOf (record { tn2 = f .nodes .tn2; tgn2 = f .nodes .tgn2 }))
+-- densm for N2: above 32.5 km the upper layer, below it the lower; else, at 32.5 km, over the nodes, of which those of the troposphere are not set
+unfoldable pub reachedOf : Site → Float → Meso → Curves → Float → Profile
+reachedOf x d m k alt =
+    cond (lt 32·5 alt) (downOf (x .re) 72·5 (k .upper) 4 d alt)
+    (cond (lt alt 32·5) (downOf (x .re) 32·5 (k .lower) 5 (k .d32) alt)
+    (n2Of x alt d (unsetOf m)))
 
 -- the eleven numbers at an altitude
 unfoldable pub rowBelowOf : Float → Footing → Float → List Float
 rowBelowOf sw0 f alt =
     let c = dmcOf alt in
-    let a = n2Of (f .x) alt (f .dm28m) (nodesAt f alt) in
+    let a = reachedOf (f .x) (f .dm28m) (f .meso) (f .curves) alt in
     let d2 = densityIn a ⊗ (1·0 ⊕ (f .n2 ⊘ f .dm28m ⊖ 1·0) ⊗ c) in
     let he = fullOf d2 (pdmT0 ‼ 1) (f .he) (f .n2) c in
     let o2 = fullOf d2 (pdmT3 ‼ 1) (f .o2) (f .n2) c in

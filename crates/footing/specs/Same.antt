@@ -16,7 +16,7 @@ use Rattle.upper.specs.Upper.{shapeOf}
 use Rattle.stages.specs.Stages.{tinfPlan, gradientPlan, tlbPlan, nodesPlan, shapePlan, n2Plan, heliumPlan, o2Plan, argonPlan}
 use Rattle.lower.specs.declared.Meso.{Meso}
 use Rattle.lower.specs.Lower.{mesoNodesPlan, lowerPlan}
-use Rattle.footing.specs.Footing.{threeOf, footingOf}
+use Rattle.footing.specs.Footing.{threeOf, curvesOf, footingOf}
 
 -- the values but for those four are the same
 pub record Same (l m : Levels) : Type 0 where
@@ -106,6 +106,10 @@ module _ (l m : Levels) (s : Same l m) (sw : List Float) where
   unfolding threeOf
   three-same h b28 flux = rw (helium-same h 72·5 b28, o2-same h 72·5 b28, argon-same h 72·5 b28)
 
+  curves-same : (x : Site) (d : Float) (w : Meso) (tropo : Bool) → curvesOf sw x d w l tropo ≡ curvesOf sw x d w m tropo
+  unfolding curvesOf
+  curves-same x d w tropo = rw lower-same
+
   pub footing-same : (x : Site) (tropo : Bool) → footingOf sw x l tropo ≡ footingOf sw x m tropo
   unfolding footingOf
-  footing-same x tropo = rw (shape-same x 72·5, n2-same, three-same, meso-same, lower-same)
+  footing-same x tropo = rw (shape-same x 72·5, n2-same, three-same, meso-same, curves-same)

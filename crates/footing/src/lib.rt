@@ -5,9 +5,13 @@ ghost use Rattle.numbers.specs.Arithmetic.{_‼_};
 ghost use Rattle.numbers.specs.Literals.{72·5};
 ghost use Rattle.species.specs.Places.{spineAt, placeAt, mixesAt, Mixes};
 ghost use Rattle.tables.specs.Tables.{pdmT2};
-ghost use Rattle.footing.specs.Footing.{inUnitsOf, threeOf, standingOf, footingOf, nodesAt, rowBelowOf};
+ghost use Rattle.footing.specs.Footing.{inUnitsOf, threeOf, curvesOf, standingOf, footingOf, reachedOf, rowBelowOf};
+use layers::Span;
+use layers::blank;
+use layers::down;
+use layers::layer4;
+use layers::span_of;
 use lower::Meso;
-use lower::Nodes;
 use lower::dm28m;
 use lower::dmc;
 use lower::full;
@@ -19,10 +23,13 @@ use lower::unset;
 use numbers::pick;
 use places::place::Place;
 use places::place::Spine;
+use places::place::layer5;
 use places::thinning::Thinning;
 use plan::Levels;
+use profile::unchecked::Profile;
 use profile::unchecked::Shape;
 use profile::unchecked::density_in;
+use profile::unchecked::lowered;
 use profile::unchecked::temperature_in;
 use species::Blend;
 use species::Mixture;
@@ -44,8 +51,15 @@ use thermosphere::shape_stage;
 use upper::Site;
 use upper::mass;
 
-// What every altitude below 72.5 km reads of gts7 there: t[0], the mixed density of N2 and d[0], d[2], d[3], d[4] in the units asked for; and
-// the nodes from there down.
+// densm's layers for N2: from 72.5 to 32.5 km, the density at 32.5 km, from there down.
+pub struct Curves {
+    pub upper: Span,
+    pub d32: f64,
+    pub lower: Span,
+}
+
+// What every altitude below 72.5 km reads of gts7 there: t[0], the mixed density of N2 and d[0], d[2], d[3], d[4] in the units asked for; the
+// nodes from there to 32.5 km, and the layers.
 pub struct Footing {
     pub x: Site,
     pub tinf: f64,
@@ -54,7 +68,8 @@ pub struct Footing {
     pub n2: f64,
     pub o2: f64,
     pub ar: f64,
-    pub nodes: Nodes,
+    pub meso: Meso,
+    pub curves: Curves,
 }
 
 // The species at 72.5 km whose share of N2 the altitudes below carry on.
@@ -104,13 +119,51 @@ pub fn in_units(sw0: f64, d: f64) -> f64
     pick(sw0 != 0.0, d * 1.0E6, d)
 }
 
-pub fn standing(sw0: f64, x: Site, h: Shape, b: Blend, y: Three, w: Nodes) -> Footing
-    ensures { λ r. ⌜ r ≡ standingOf sw0 x h b y w ⌝ }
+// The layers; that of the troposphere and the density at 32.5 km where they are asked for. d is the density at 72.5 km.
+pub fn curves_of(sw: [f64; 24], x: Site, d: f64, m: Meso, l: Levels, tropo: bool) -> Curves
+    ensures { λ r. ⌜ r ≡ curvesOf sw x d m l tropo ⌝ }
+{
+    let p = pdm2();
+    let tn2 = m.tn2;
+    let tgn2 = m.tgn2;
+    let a = layer4(x.re, [72.5, 55.0, 45.0, 32.5], tn2, tgn2, 32.5);
+    let u = span_of(x.gsurf, x.re, p[4], a);
+    if !tropo {
+        let v = blank();
+        return Curves {
+            upper: u,
+            d32: 0.0,
+            lower: v,
+        };
+    }
+    let d32 = lowered(x.gsurf, x.re, p[4], d, a, 4);
+    let w = lower_stage(sw, 0.0, m, l);
+    let tn3 = w.tn3;
+    let tgn3 = w.tgn3;
+    let b = layer5(x.re, [32.5, 20.0, 15.0, 10.0, 0.0], tn3, tgn3, 0.0);
+    let v = span_of(x.gsurf, x.re, p[4], b);
+    Curves {
+        upper: u,
+        d32: d32,
+        lower: v,
+    }
+}
+
+pub fn standing(
+    sw0: f64,
+    x: Site,
+    h: Shape,
+    b: Blend,
+    y: Three,
+    d: f64,
+    m: Meso,
+    k: Curves,
+) -> Footing
+    ensures { λ r. ⌜ r ≡ standingOf sw0 x h b y d m k ⌝ }
 {
     let a = y.he;
     let c = y.o2;
     let e = y.ar;
-    let d = dm28m(sw0, b.dm);
     let he = in_units(sw0, a.dens);
     let n2 = in_units(sw0, b.dens);
     let o2 = in_units(sw0, c.dens);
@@ -123,11 +176,12 @@ pub fn standing(sw0: f64, x: Site, h: Shape, b: Blend, y: Three, w: Nodes) -> Fo
         n2: n2,
         o2: o2,
         ar: ar,
-        nodes: w,
+        meso: m,
+        curves: k,
     }
 }
 
-// The nodes of the troposphere are set where they are asked for.
+// What the altitudes below 72.5 km share; tropo: some of them lie below 32.5 km.
 pub fn footing_of(sw: [f64; 24], x: Site, l: Levels, tropo: bool) -> Footing
     ensures { λ r. ⌜ r ≡ footingOf sw x l tropo ⌝ }
 {
@@ -140,9 +194,9 @@ pub fn footing_of(sw: [f64; 24], x: Site, l: Levels, tropo: bool) -> Footing
     let b = n2_stage(sw, h, 72.5, p, v, t, x.zhf, l);
     let y = three_of(sw, h, s, p, t, b.b, x.flux, l);
     let e = meso_nodes(sw, h, l);
-    let z = pick(tropo, 0.0, 32.5);
-    let w = lower_stage(sw, z, e, l);
-    standing(sw[0], x, h, b, y, w)
+    let d = dm28m(sw[0], b.dm);
+    let k = curves_of(sw, x, d, e, l, tropo);
+    standing(sw[0], x, h, b, y, d, e, k)
 }
 
 // The same where an altitude below 72.5 km is asked for; elsewhere nothing reads it.
@@ -152,11 +206,15 @@ pub fn footing_where(on: bool, sw: [f64; 24], x: Site, l: Levels, tropo: bool) -
     if on {
         return footing_of(sw, x, l, tropo);
     }
-    let w = Nodes {
+    let m = Meso {
         tn2: [0.0; 4],
         tgn2: [0.0; 2],
-        tn3: [0.0; 5],
-        tgn3: [0.0; 2],
+    };
+    let s = blank();
+    let k = Curves {
+        upper: s,
+        d32: 0.0,
+        lower: s,
     };
     Footing {
         x: x,
@@ -166,22 +224,25 @@ pub fn footing_where(on: bool, sw: [f64; 24], x: Site, l: Levels, tropo: bool) -
         n2: 0.0,
         o2: 0.0,
         ar: 0.0,
-        nodes: w,
+        meso: m,
+        curves: k,
     }
 }
 
-// The nodes at an altitude: at or above 32.5 km those of the troposphere are not set.
-pub fn nodes_at(f: Footing, alt: f64) -> Nodes
-    ensures { λ r. ⌜ r ≡ nodesAt f alt ⌝ }
+// densm for N2, from its layers; at 32.5 km, where gtd7 does not set the nodes of the troposphere and still reads them, from the nodes.
+pub fn reached(x: Site, d: f64, m: Meso, k: Curves, alt: f64) -> Profile
+    ensures { λ r. ⌜ r ≡ reachedOf x d m k alt ⌝ }
 {
-    let w = f.nodes;
-    if alt < 32.5 {
-        return w;
+    if alt > 32.5 {
+        let u = k.upper;
+        return down(x.re, 72.5, u, 4, d, alt);
     }
-    let t = w.tn2;
-    let g = w.tgn2;
-    let m = Meso { tn2: t, tgn2: g };
-    unset(m)
+    if alt < 32.5 {
+        let v = k.lower;
+        return down(x.re, 32.5, v, 5, k.d32, alt);
+    }
+    let w = unset(m);
+    n2(x, alt, d, w)
 }
 
 // The eleven numbers at an altitude below 72.5 km; one densm gives density and temperature.
@@ -192,8 +253,10 @@ pub fn row_below(sw0: f64, f: Footing, alt: f64) -> [f64; 11]
     let m3 = pdm3();
     let m4 = pdm4();
     let c = dmc(alt);
-    let w = nodes_at(f, alt);
-    let a = n2(f.x, alt, f.dm28m, w);
+    let x = f.x;
+    let m = f.meso;
+    let k = f.curves;
+    let a = reached(x, f.dm28m, m, k, alt);
     let n = density_in(a);
     let t1 = temperature_in(a);
     let d2 = n * (1.0 + (f.n2 / f.dm28m - 1.0) * c);

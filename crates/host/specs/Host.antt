@@ -13,9 +13,10 @@ use Rattle.setting.specs.declared.History.{History}
 use Rattle.setting.specs.declared.History.the-variants.{Absent, Present}
 use Rattle.acceptance.specs.declared.Answer.{Answer}
 use Rattle.acceptance.specs.declared.Answer.the-variants.{Accepted, Refused}
-use Rattle.acceptance.specs.Acceptance.{acceptedOf}
+use Rattle.acceptance.specs.Acceptance.{acceptedOf, withAltOf}
 use Rattle.atmosphere.specs.Atmosphere.{answerOf, elevenOf}
 use Rattle.column.specs.Column.{columnAnswer, columnAfter}
+use Rattle.station.specs.Station.{wholeOf, numbersOf, stationAnswer}
 
 -- document 01's number of a refusal and its place, 0 and 0 where the call is accepted
 abbrev pub numberOf : Answer → ℕ
@@ -84,3 +85,20 @@ hostColumn year doy f l w alts len = lengthsOf f l w (columnAnswer w (recordOf y
 unfoldable pub hostRows : ℤ → ℤ → List Float → List Float → List ℤ → List Float → List Float → List Float
 hostRows year doy f l w alts xs =
     cond (acceptedOf (hostColumn year doy f l w alts (length xs))) (columnAfter w (recordOf year doy f l) alts xs) xs
+
+-- ---- a station: 4 for its two slices, for the record's slices, then what preparing answers
+
+unfoldable pub hostStation : ℤ → ℤ → List Float → List Float → List ℤ → ℕ → ℕ → Answer
+hostStation year doy f l w ints count =
+    cond (not (eqb ints 27)) (Refused 4 27)
+    (cond (not (eqb count 234)) (Refused 4 234)
+    (lengthsOf f l w (stationAnswer w (recordOf year doy f l) ints count)))
+
+-- its slices afterwards
+unfoldable pub hostWhole : ℤ → ℤ → List Float → List Float → List ℤ → List ℤ → ℕ → List ℤ
+hostWhole year doy f l w ys count =
+    cond (acceptedOf (hostStation year doy f l w (length ys) count)) (wholeOf w (withAltOf (recordOf year doy f l) 0·0)) ys
+
+unfoldable pub hostNumbers : ℤ → ℤ → List Float → List Float → List ℤ → ℕ → List Float → List Float
+hostNumbers year doy f l w ints xs =
+    cond (acceptedOf (hostStation year doy f l w ints (length xs))) (numbersOf w (withAltOf (recordOf year doy f l) 0·0)) xs

@@ -1,10 +1,13 @@
-// What the host links: the elementary functions, the one-altitude call and the column, on numbers and slices.
+// What the host links: the elementary functions, the one-altitude call, the column and the station, on numbers and slices.
 pub mod record;
+pub mod stations;
 
 use acceptance::Answer;
+use acceptance::accepted;
 use atmosphere::gtd7;
 use column::gtd7_column;
 use record::code;
+use record::lengths;
 use record::record_of;
 use record::switch_row;
 ghost use lib.ListN.{length};
@@ -80,14 +83,9 @@ pub extern "C" fn potirehu_gtd7(
     if row.len() != 11 {
         return code(Answer::Refused(4, 11));
     }
-    if fields.len() != 8 {
-        return code(Answer::Refused(4, 8));
-    }
-    if (ap_array.len() != 0) & (ap_array.len() != 7) {
-        return code(Answer::Refused(4, 7));
-    }
-    if switches.len() != 24 {
-        return code(Answer::Refused(4, 24));
+    let l = lengths(fields, ap_array, switches);
+    if !accepted(l) {
+        return code(l);
     }
     let w = switch_row(switches);
     let n = record_of(year, doy, fields, ap_array);
@@ -108,14 +106,9 @@ pub extern "C" fn potirehu_gtd7_column(
 ) -> u64
     ensures { λ r. ⌜ (r ≡ codeOf (hostColumn year doy (now (fields .entry)) (now («ap_array» .entry)) (now (switches .entry)) (now (altitudes .entry)) (length (now (rows .entry))))) × (now (rows .exit) ≡ hostRows year doy (now (fields .entry)) (now («ap_array» .entry)) (now (switches .entry)) (now (altitudes .entry)) (now (rows .entry))) ⌝ }
 {
-    if fields.len() != 8 {
-        return code(Answer::Refused(4, 8));
-    }
-    if (ap_array.len() != 0) & (ap_array.len() != 7) {
-        return code(Answer::Refused(4, 7));
-    }
-    if switches.len() != 24 {
-        return code(Answer::Refused(4, 24));
+    let l = lengths(fields, ap_array, switches);
+    if !accepted(l) {
+        return code(l);
     }
     let w = switch_row(switches);
     let n = record_of(year, doy, fields, ap_array);

@@ -1,5 +1,5 @@
 -- The values of the expansions that gtd7 asks for from a fresh State, each worked out once.
-use mathlib.Core.Bool.{Bool, true, cond, not, _||_}
+use mathlib.Core.Bool.{Bool, true, cond, not}
 use mathlib.Core.List.{List, [], _∷_}
 use lib.ListN.{replicate}
 use lib.Ieee.{Float, lt, le}
@@ -103,11 +103,6 @@ unfoldable pub needAt : Float → Need
 needAt alt =
     let z = cond (lt 72·5 alt) alt 72·5 in
     record { high = le 72·5 alt; pt = lt (pdlT1 ‼ 15) z; ps = lt 72·5 z; nodes = lt z 300·0; meso = not (le 72·5 alt); tropo = lt alt 32·5 }
-
--- which sets one or the other needs
-unfoldable pub bothOf : Need → Need → Need
-bothOf a b =
-    record { high = a .high || b .high; pt = a .pt || b .pt; ps = a .ps || b .ps; nodes = a .nodes || b .nodes; meso = a .meso || b .meso; tropo = a .tropo || b .tropo }
 
 -- the same with those of O, H, N and anomalous O, which gts7 asks for at every altitude
 unfoldable pub withHigh : Need → Need

@@ -7,7 +7,7 @@ ghost use Rattle.numbers.specs.Literals.{0·0};
 ghost use Rattle.tables.specs.Tables.{ptT, psT, pdT0, pdT1};
 ghost use Rattle.setting.specs.Shared.{Shared};
 ghost use Rattle.levels.specs.Activities.{activityOf, activityIn, activeFrom};
-ghost use Rattle.levels.specs.Levels.{quietOf, wideOf, warmOf, lightOf, heavyOf, highOf, nodesOf, mesoOf, tropoOf, needAt, bothOf, withHigh, levelsOf};
+ghost use Rattle.levels.specs.Levels.{quietOf, wideOf, warmOf, lightOf, heavyOf, highOf, nodesOf, mesoOf, tropoOf, needAt, withHigh, levelsOf};
 use activity::Responses;
 use activity::apdf_from;
 use activity::apt_from;
@@ -72,20 +72,6 @@ pub fn need_at(alt: f64) -> Need
         nodes: z < 300.0,
         meso: !(alt >= 72.5),
         tropo: alt < 32.5,
-    }
-}
-
-// Which sets one or the other needs.
-pub fn both(a: Need, b: Need) -> Need
-    ensures { λ r. ⌜ r ≡ bothOf a b ⌝ }
-{
-    Need {
-        high: a.high | b.high,
-        pt: a.pt | b.pt,
-        ps: a.ps | b.ps,
-        nodes: a.nodes | b.nodes,
-        meso: a.meso | b.meso,
-        tropo: a.tropo | b.tropo,
     }
 }
 

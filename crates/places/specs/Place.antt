@@ -10,6 +10,7 @@ use Rattle.numbers.specs.Constants.{rgas}
 use Rattle.elementary.specs.Log.{logOf}
 use Rattle.elementary.specs.Pow.{powOf}
 use Rattle.spline.specs.Nodes.{splintOf, spliniOf}
+use Rattle.layers.specs.Layers.{firstFive, splint-five, splini-five}
 use Rattle.profile.specs.Gravity.{zetaOf}
 use Rattle.profile.specs.Curve.{layerOf, flooredOf}
 use Rattle.profile.specs.Profile.{batesOf, gradientOf}
@@ -38,9 +39,9 @@ spineOf h zlb zn =
       glb = h .gsurf ⊘ powOf (1·0 ⊕ l .z1 ⊘ h .re) 2·0;
       t1 = l .t1;
       zgdif = l .zgdif;
-      xs = l .xs;
-      ys = l .ys;
-      y2 = l .y2;
+      xs = firstFive (l .xs);
+      ys = firstFive (l .ys);
+      y2 = firstFive (l .y2);
     }
 
 unfoldable pub readOf : List Float → List Float → List Float → Float → Read
@@ -121,7 +122,7 @@ placeOf h z zlb zn = placeOn h zlb (pointOf h z zlb zn)
 pub under-place : (h : Shape) (z zlb : Float) (zn : List Float) → lt z (zn ‼ 0) ≡ true → lt (zn ‼ 0) z ≡ false
     → underOf (h .re) (spineOf h zlb zn) z (zn ‼ 0) (zn ‼ 4) ≡ placeOf h z zlb zn
 unfolding underOf readOf spineOf placeOf placeOn pointOf onCurve flooredOf layerOf
-under-place h z zlb zn below not-above = rw (below, not-above)
+under-place h z zlb zn below not-above = rw (below, not-above, splint-five, splini-five)
 
 -- At or above za
 pub over-place : (h : Shape) (z zlb : Float) (zn : List Float) → lt z (zn ‼ 0) ≡ false → le (zn ‼ 0) z ≡ true

@@ -5,6 +5,7 @@ ghost use Rattle.spline.specs.Nodes.{splintOf};
 ghost use Rattle.places.specs.Place.{spineOf, readOf, underOf, overOf, placeOn, placeOf};
 use elementary::logarithm::log;
 use elementary::power::pow;
+use layers::first_five;
 use numbers::RGAS;
 use numbers::pick;
 use profile::curve::Curve;
@@ -31,9 +32,9 @@ pub struct Spine {
     pub glb: f64,
     pub t1: f64,
     pub zgdif: f64,
-    pub xs: [f64; 10],
-    pub ys: [f64; 10],
-    pub y2: [f64; 10],
+    pub xs: [f64; 5],
+    pub ys: [f64; 5],
+    pub y2: [f64; 5],
 }
 
 // An altitude z with all that a gas reads there: a Point, what its Shape fixes, rt = tlb / tt, r1 = t1 / tz and their logarithms.
@@ -85,9 +86,12 @@ pub fn spine_of(h: Shape, zlb: f64, zn: [f64; 5]) -> Spine
     let g = pow(1.0 + l.z1 / h.re, 2.0);
     let rt = h.tlb / tt;
     let lt = log(rt);
-    let xs = l.xs;
-    let ys = l.ys;
-    let y2 = l.y2;
+    let a = l.xs;
+    let b = l.ys;
+    let c = l.y2;
+    let xs = first_five(a);
+    let ys = first_five(b);
+    let y2 = first_five(c);
     Spine {
         base: h.gsurf / q,
         k: h.s * RGAS * h.tinf,
@@ -106,14 +110,14 @@ pub fn spine_of(h: Shape, zlb: f64, zn: [f64; 5]) -> Spine
 }
 
 // splint over arrays by value.
-pub fn value(xs: [f64; 10], ys: [f64; 10], y2: [f64; 10], x: f64) -> f64
+pub fn value(xs: [f64; 5], ys: [f64; 5], y2: [f64; 5], x: f64) -> f64
     ensures { λ r. ⌜ r ≡ splintOf xs ys y2 5 x ⌝ }
 {
     splint(&xs, &ys, &y2, 5, x)
 }
 
 // The curve read at x.
-pub fn read_at(xs: [f64; 10], ys: [f64; 10], y2: [f64; 10], x: f64) -> Read
+pub fn read_at(xs: [f64; 5], ys: [f64; 5], y2: [f64; 5], x: f64) -> Read
     ensures { λ r. ⌜ r ≡ readOf xs ys y2 x ⌝ }
 {
     let y = splint(&xs, &ys, &y2, 5, x);

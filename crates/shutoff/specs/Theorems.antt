@@ -3,9 +3,11 @@ use mathlib.Core.Path.{_≡_, refl, sym, _∙_, ap, ap₂, subst}
 use mathlib.Core.List.{List}
 use mathlib.Core.Bool.{Bool, true, false, not, _&&_, _||_, cond}
 use Prim.Native.Nat.{ℕ, _<_}
+use native.Mathlib.Decide.{ℕ-discrete}
 use lib.Dec.{T, eqb, lit<}
 use lib.ListN.{length, getD}
 use lib.IntN.{ℤ}
+use lib.Seq.{getD-set-other}
 use lib.Ieee.{Float}
 use Rattle.setting.specs.declared.Input.{Input}
 use Rattle.setting.specs.declared.State.{State}
@@ -21,8 +23,9 @@ use Rattle.upper.specs.Upper.{siteOf}
 use Rattle.lower.specs.declared.Whole.{Whole}
 use Rattle.acceptance.specs.declared.Answer.{Answer}
 use Rattle.acceptance.specs.declared.Answer.the-variants.{Accepted, Refused}
-use Rattle.acceptance.specs.Acceptance.{unfitOf, outsideOf, foundOf, judgedOf, acceptedOf}
+use Rattle.acceptance.specs.Acceptance.{unfitOf, outsideOf, foundOf, judgedOf, acceptedOf, withAltOf}
 use Rattle.atmosphere.specs.Atmosphere.{gtd7Plan, elevenAtOf, elevenOf, answerOf, rowAfter}
+use Rattle.shutoff.specs.Fields.{float, missing, field, fields}
 use Rattle.shutoff.specs.Shut.{Alike}
 use Rattle.shutoff.specs.PlainView.{plainView, view-is}
 use Rattle.shutoff.specs.Agree.{asks, asks-nine, Has, itself, run≡, alt≡, doy≡, glat≡, f107a≡}
@@ -51,6 +54,15 @@ unfolding lacksHistoryOf asksHistoryOf
 has w n e t = there (isMinusOne (given w 9)) (n .history) e (asks-nine (given w 9) t)
 
 -- ---- demand 3
+
+-- records alike under a row stay alike with another altitude in both
+pub alike-at : (w : List ℤ) (a b : Input) (z : Float) → Alike w a b → Alike w (withAltOf a z) (withAltOf b z)
+unfolding withAltOf
+alike-at w a b z like k h t = go (ℕ-discrete k 3)
+  where
+    go : Dec (k ≡ 3) → field (withAltOf a z) k ≡ field (withAltOf b z) k
+    go (yes e) = subst (λ (j : ℕ). field (withAltOf a z) j ≡ field (withAltOf b z) j) (sym e) refl
+    go (no n) = getD-set-other (fields a) 3 k (float z) missing n ∙ like k h t ∙ sym (getD-set-other (fields b) 3 k (float z) missing n)
 
 -- alike records that have their history where the row asks for it have the same eleven numbers by demand 2's definition
 pub eleven≡ : (w : List ℤ) (a b : Input) → Alike w a b → Has w a → elevenOf w a ≡ elevenOf w b

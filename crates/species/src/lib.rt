@@ -1,13 +1,10 @@
-// Each species of gts7 with the answer of its expansion given: its density at z, and the mixed density that the Rust keeps in State.
+// Each species of gts7 at a place, from its Root: its density there, and the mixed density that the Rust keeps in State.
 ghost use mathlib.Core.Path.{_≡_};
-ghost use mathlib.Core.Bool.{_&&_};
-ghost use lib.Ieee.{lt, le, ne};
-ghost use Rattle.numbers.specs.Arithmetic.{_⊗_, _‼_};
-ghost use Rattle.numbers.specs.Literals.{0·0, 200·0, 320·0};
-ghost use Rattle.places.specs.Thinning.{Logged, thinningOf};
-ghost use Rattle.tables.specs.Tables.{pdmT0, pdmT1, pdmT2, pdmT3, pdmT4, pdmT5, pdmT6};
-ghost use Rattle.species.specs.Places.{spineAt, placeAt, mixesAt, Turbopause, Mixes};
-ghost use Rattle.species.specs.Species.{densityOf, temperatureOf, mixedOf, heliumOf, oxygenOf, o2MixedOf, o2Of, argonOf, hydrogenOf, nitrogenOf, hotOf, n2Of};
+ghost use mathlib.Core.Bool.{true};
+ghost use Rattle.places.specs.Thinning.{Logged};
+ghost use Rattle.species.specs.Places.{spineAt, placeAt, Turbopause, Mixes};
+ghost use Rattle.species.specs.Species.{densityOf, temperatureOf};
+ghost use Rattle.species.specs.Rooted.{gasOf, mixingOf, turbopauseDensityOf, rootOf, n2RootOf, heliumRootOf, oxygenRootOf, o2RootOf, argonRootOf, hydrogenRootOf, nitrogenRootOf, blendedOf, n2From, heliumFrom, oxygenFrom, o2MixedFrom, o2From, argonFrom, hydrogenFrom, nitrogenFrom, hotFactorOf, hotFrom};
 use elementary::exponential::exp;
 use elementary::logarithm::log;
 use elementary::root::sqrt;
@@ -56,6 +53,14 @@ pub struct Mixture {
     pub dm: f64,
 }
 
+// What a species has whatever the altitude: its density db at the lower boundary, its mixed density b at the turbopause, and r, by which
+// ccor or ccor2 corrects it.
+pub struct Root {
+    pub db: f64,
+    pub b: f64,
+    pub r: f64,
+}
+
 // What a shape fixes for every altitude, over gts7's nodes.
 pub fn spine_at(h: Shape) -> Spine
     ensures { λ r. ⌜ r ≡ spineAt h ⌝ }
@@ -96,9 +101,9 @@ pub fn turbopause(h: Shape, s: Spine, on: bool, zh: f64, p: Place) -> Place
 }
 
 // What thins out every mixed density at p, where a species is mixed; elsewhere nothing reads it.
-pub fn mixing(on: bool, p: Place, xmm: f64) -> Thinning
+pub fn mixing_at(on: bool, p: Place, xmm: f64) -> Thinning
     requires { ⌜ Logged p ⌝ }
-    ensures { λ r. ⌜ Mixes on p xmm r ⌝ }
+    ensures { λ r. ⌜ r ≡ mixingOf on p xmm ⌝ }
 {
     if on {
         return thin(p, xmm, 0.0);
@@ -114,29 +119,29 @@ pub fn mixing(on: bool, p: Place, xmm: f64) -> Thinning
     }
 }
 
-// densu over gts7's nodes: the density at z from the density dlb at the lower boundary.
-pub fn density(h: Shape, z: f64, p: Place, dlb: f64, xm: f64, alpha: f64) -> f64
-    requires { ⌜ p ≡ placeAt h z ⌝ }
-    ensures { λ r. ⌜ r ≡ densityOf h z dlb xm alpha ⌝ }
+// The same by what it is where a species is mixed.
+pub fn mixing(on: bool, p: Place, xmm: f64) -> Thinning
+    requires { ⌜ Logged p ⌝ }
+    ensures { λ r. ⌜ Mixes on p xmm r ⌝ }
+{
+    mixing_at(on, p, xmm)
+}
+
+// A gas at a place, from its density dlb at the lower boundary.
+pub fn gas(p: Place, dlb: f64, xm: f64, alpha: f64) -> f64
+    requires { ⌜ Logged p ⌝ }
+    ensures { λ r. ⌜ r ≡ gasOf p dlb xm alpha ⌝ }
 {
     let t = thin(p, xm, alpha);
     thinned(t, dlb)
 }
 
-// The same of what is mixed, from the mixed density b.
-pub fn density_mixed(h: Shape, z: f64, p: Place, t: Thinning, b: f64, xmm: f64) -> f64
-    requires { ⌜ (p ≡ placeAt h z) × (t ≡ thinningOf p xmm 0·0) ⌝ }
-    ensures { λ r. ⌜ r ≡ densityOf h z b xmm 0·0 ⌝ }
-{
-    thinned(t, b)
-}
-
-// The same at an altitude that one species has.
-pub fn density_at(h: Shape, z: f64, dlb: f64, xm: f64, alpha: f64) -> f64
+// densu over gts7's nodes: the density at z from the density dlb at the lower boundary.
+pub fn density(h: Shape, z: f64, p: Place, dlb: f64, xm: f64, alpha: f64) -> f64
+    requires { ⌜ p ≡ placeAt h z ⌝ }
     ensures { λ r. ⌜ r ≡ densityOf h z dlb xm alpha ⌝ }
 {
-    let p = place_alone_at(h, z);
-    density(h, z, p, dlb, xm, alpha)
+    gas(p, dlb, xm, alpha)
 }
 
 // densu over gts7's nodes: the temperature at z.
@@ -149,84 +154,144 @@ pub fn temperature(h: Shape, s: Spine, z: f64) -> f64
     warmth_of(h, s, z, m[5], [l[15], 110.0, 100.0, 90.0, 72.5])
 }
 
-// A species above and below the turbopause zh, blended; w is the place there.
-pub fn mixed(
-    h: Shape,
-    z: f64,
-    p: Place,
-    zh: f64,
-    w: Place,
-    t: Thinning,
-    db: f64,
-    xm: f64,
-    alpha: f64,
-    zhm: f64,
-    xmm: f64,
-) -> Blend
-    requires { ⌜ (p ≡ placeAt h z) × (w ≡ placeAt h zh) × (t ≡ thinningOf p xmm 0·0) ⌝ }
-    ensures { λ r. ⌜ r ≡ mixedOf h z db zh xm alpha zhm xmm ⌝ }
+// The mixed density at the turbopause w, where it is asked for; xm and alpha are those of the gas less those of mixed air.
+pub fn turbopause_density(on: bool, w: Place, db: f64, xm: f64, alpha: f64) -> f64
+    requires { ⌜ (on ≡ true → Logged w) ⌝ }
+    ensures { λ r. ⌜ r ≡ turbopauseDensityOf on w db xm alpha ⌝ }
 {
-    let d0 = density(h, z, p, db, xm, alpha);
-    let b = density(h, zh, w, db, xm - xmm, alpha - 1.0);
-    let dm = density_mixed(h, z, p, t, b, xmm);
-    let d = dnet(d0, dm, zhm, xmm, xm);
-    Blend {
-        dens: d,
-        b: b,
-        dm: dm,
+    if on {
+        return gas(w, db, xm, alpha);
+    }
+    0.0
+}
+
+// The root of a species that ccor brings to its share of N2: num is N2's mixed density times that share.
+pub fn root_of(on: bool, w: Place, db: f64, xm: f64, alpha: f64, num: f64) -> Root
+    requires { ⌜ (on ≡ true → Logged w) ⌝ }
+    ensures { λ r. ⌜ r ≡ rootOf on w db xm alpha num ⌝ }
+{
+    if on {
+        let b = turbopause_density(true, w, db, xm, alpha);
+        let r = log(num / b);
+        return Root { db: db, b: b, r: r };
+    }
+    Root {
+        db: db,
+        b: 0.0,
+        r: 0.0,
     }
 }
 
-// N2, mixed at or below 160 km; the mixed density at its turbopause serves the other species.
-pub fn n2(h: Shape, sw15: f64, z: f64, p: Place, w: Place, t: Thinning, db: f64, zhf: f64) -> Blend
-    requires { ⌜ (p ≡ placeAt h z) × (w ≡ placeAt h (pdmT2 ‼ 2 ⊗ zhf)) × Mixes (mixesAt sw15 z) p (pdmT2 ‼ 4) t ⌝ }
-    ensures { λ r. ⌜ r ≡ n2Of h sw15 z db zhf ⌝ }
+// Each species' root at its turbopause w, from its density db at the lower boundary and N2's mixed density b28; xmm is the mass of mixed air.
+pub fn n2_root(w: Place, db: f64) -> Root
+    requires { ⌜ Logged w ⌝ }
+    ensures { λ r. ⌜ r ≡ n2RootOf w db ⌝ }
 {
     let m = pdm2();
-    let l = pdl1();
-    let d0 = density(h, z, p, db, 28.0, 0.0);
-    let b = density(h, m[2] * zhf, w, db, 28.0 - m[4], 0.0 - 1.0);
-    if !n2_mixes(sw15, z) {
-        return Blend {
-            dens: d0,
-            b: b,
-            dm: 0.0,
-        };
-    }
-    let dm = density_mixed(h, z, p, t, b, m[4]);
-    let d = dnet(d0, dm, m[3] * l[5], m[4], 28.0);
-    Blend {
-        dens: d,
+    let b = gas(w, db, 28.0 - m[4], 0.0 - 1.0);
+    Root {
+        db: db,
         b: b,
-        dm: dm,
+        r: 0.0,
     }
+}
+
+pub fn helium_root(on: bool, w: Place, db: f64, b28: f64, xmm: f64) -> Root
+    requires { ⌜ (on ≡ true → Logged w) ⌝ }
+    ensures { λ r. ⌜ r ≡ heliumRootOf on w db b28 xmm ⌝ }
+{
+    let m = pdm0();
+    root_of(on, w, db, 4.0 - xmm, -0.38 - 1.0, b28 * m[1])
+}
+
+pub fn oxygen_root(on: bool, w: Place, db: f64, flux: f64, xmm: f64) -> Root
+    requires { ⌜ (on ≡ true → Logged w) ⌝ }
+    ensures { λ r. ⌜ r ≡ oxygenRootOf on w db flux xmm ⌝ }
+{
+    let m = pdm1();
+    let l = pdl1();
+    let b = turbopause_density(on, w, db, 16.0 - xmm, 0.0 - 1.0);
+    Root {
+        db: db,
+        b: b,
+        r: m[1] * l[16] * flux,
+    }
+}
+
+pub fn o2_root(on: bool, w: Place, db: f64, b28: f64, xmm: f64) -> Root
+    requires { ⌜ (on ≡ true → Logged w) ⌝ }
+    ensures { λ r. ⌜ r ≡ o2RootOf on w db b28 xmm ⌝ }
+{
+    let m = pdm3();
+    root_of(on, w, db, 32.0 - xmm, 0.0 - 1.0, b28 * m[1])
+}
+
+pub fn argon_root(on: bool, w: Place, db: f64, b28: f64, xmm: f64) -> Root
+    requires { ⌜ (on ≡ true → Logged w) ⌝ }
+    ensures { λ r. ⌜ r ≡ argonRootOf on w db b28 xmm ⌝ }
+{
+    let m = pdm4();
+    root_of(on, w, db, 40.0 - xmm, 0.17 - 1.0, b28 * m[1])
+}
+
+pub fn hydrogen_root(on: bool, w: Place, db: f64, b28: f64, xmm: f64) -> Root
+    requires { ⌜ (on ≡ true → Logged w) ⌝ }
+    ensures { λ r. ⌜ r ≡ hydrogenRootOf on w db b28 xmm ⌝ }
+{
+    let m = pdm5();
+    let l = pdl1();
+    let e = sqrt(l[17] * l[17]);
+    root_of(on, w, db, 1.0 - xmm, -0.38 - 1.0, b28 * m[1] * e)
+}
+
+pub fn nitrogen_root(on: bool, w: Place, db: f64, b28: f64, xmm: f64) -> Root
+    requires { ⌜ (on ≡ true → Logged w) ⌝ }
+    ensures { λ r. ⌜ r ≡ nitrogenRootOf on w db b28 xmm ⌝ }
+{
+    let m = pdm6();
+    let l = pdl0();
+    let e = sqrt(l[2] * l[2]);
+    root_of(on, w, db, 14.0 - xmm, 0.0 - 1.0, b28 * m[1] * e)
+}
+
+// A species above and below its turbopause, blended: t thins out what is mixed.
+pub fn blended(p: Place, t: Thinning, q: Root, xm: f64, alpha: f64, zhm: f64, xmm: f64) -> Mixture
+    requires { ⌜ Logged p ⌝ }
+    ensures { λ r. ⌜ r ≡ blendedOf p t q xm alpha zhm xmm ⌝ }
+{
+    let d0 = gas(p, q.db, xm, alpha);
+    let dm = thinned(t, q.b);
+    let d = dnet(d0, dm, zhm, xmm, xm);
+    Mixture { dens: d, dm: dm }
+}
+
+// N2, mixed at or below 160 km.
+pub fn n2(sw15: f64, z: f64, p: Place, t: Thinning, q: Root) -> Mixture
+    requires { ⌜ Logged p ⌝ }
+    ensures { λ r. ⌜ r ≡ n2From sw15 z p t q ⌝ }
+{
+    if !n2_mixes(sw15, z) {
+        let d = gas(p, q.db, 28.0, 0.0);
+        return Mixture { dens: d, dm: 0.0 };
+    }
+    let m = pdm2();
+    let l = pdl1();
+    blended(p, t, q, 28.0, 0.0, m[3] * l[5], m[4])
 }
 
 // Helium, mixed strictly below 200 km.
-pub fn helium(
-    h: Shape,
-    sw15: f64,
-    z: f64,
-    p: Place,
-    w: Place,
-    t: Thinning,
-    b28: f64,
-    db: f64,
-    zhm: f64,
-    xmm: f64,
-) -> Mixture
-    requires { ⌜ (p ≡ placeAt h z) × Turbopause h (ne sw15 0·0 && lt z 200·0) (pdmT0 ‼ 2) w × Mixes (mixesAt sw15 z) p xmm t ⌝ }
-    ensures { λ r. ⌜ r ≡ heliumOf h sw15 z b28 db zhm xmm ⌝ }
+pub fn helium(sw15: f64, z: f64, p: Place, t: Thinning, q: Root, zhm: f64, xmm: f64) -> Mixture
+    requires { ⌜ Logged p ⌝ }
+    ensures { λ r. ⌜ r ≡ heliumFrom sw15 z p t q zhm xmm ⌝ }
 {
     if !he_mixes(sw15, z) {
-        let d = density(h, z, p, db, 4.0, -0.38);
+        let d = gas(p, q.db, 4.0, -0.38);
         return Mixture { dens: d, dm: 0.0 };
     }
     let m = pdm0();
     let l = pdl1();
-    let x = mixed(h, z, p, m[2], w, t, db, 4.0, -0.38, zhm, xmm);
-    let r = log(b28 * m[1] / x.b);
-    let c = ccor(z, r, m[5] * l[1], m[4] * l[0]);
+    let x = blended(p, t, q, 4.0, -0.38, zhm, xmm);
+    let c = ccor(z, q.r, m[5] * l[1], m[4] * l[0]);
     Mixture {
         dens: x.dens * c,
         dm: x.dm,
@@ -234,35 +299,18 @@ pub fn helium(
 }
 
 // Atomic oxygen, mixed at or below 300 km.
-pub fn oxygen(
-    h: Shape,
-    sw15: f64,
-    z: f64,
-    p: Place,
-    w: Place,
-    t: Thinning,
-    db: f64,
-    zhm: f64,
-    xmm: f64,
-    flux: f64,
-) -> Mixture
-    requires { ⌜ (p ≡ placeAt h z) × Turbopause h (mixesAt sw15 z) (pdmT1 ‼ 2) w × Mixes (mixesAt sw15 z) p xmm t ⌝ }
-    ensures { λ r. ⌜ r ≡ oxygenOf h sw15 z db zhm xmm flux ⌝ }
+pub fn oxygen(sw15: f64, z: f64, p: Place, t: Thinning, q: Root, zhm: f64, xmm: f64) -> Mixture
+    requires { ⌜ Logged p ⌝ }
+    ensures { λ r. ⌜ r ≡ oxygenFrom sw15 z p t q zhm xmm ⌝ }
 {
     if !o_mixes(sw15, z) {
-        let d = density(h, z, p, db, 16.0, 0.0);
+        let d = gas(p, q.db, 16.0, 0.0);
         return Mixture { dens: d, dm: 0.0 };
     }
     let m = pdm1();
     let l = pdl1();
-    let x = mixed(h, z, p, m[2], w, t, db, 16.0, 0.0, zhm, xmm);
-    let c = ccor2(
-        z,
-        m[1] * l[16] * flux,
-        m[5] * l[3],
-        m[4] * l[2],
-        m[5] * l[4],
-    );
+    let x = blended(p, t, q, 16.0, 0.0, zhm, xmm);
+    let c = ccor2(z, q.r, m[5] * l[3], m[4] * l[2], m[5] * l[4]);
     let e = ccor(z, m[3] * l[14], m[7] * l[13], m[6] * l[12]);
     Mixture {
         dens: x.dens * c * e,
@@ -271,30 +319,18 @@ pub fn oxygen(
 }
 
 // Molecular oxygen without its second correction, mixed at or below 250 km.
-pub fn o2_mixed(
-    h: Shape,
-    sw15: f64,
-    z: f64,
-    p: Place,
-    w: Place,
-    t: Thinning,
-    b28: f64,
-    db: f64,
-    zhm: f64,
-    xmm: f64,
-) -> Mixture
-    requires { ⌜ (p ≡ placeAt h z) × Turbopause h (mixesAt sw15 z) (pdmT3 ‼ 2) w × Mixes (mixesAt sw15 z) p xmm t ⌝ }
-    ensures { λ r. ⌜ r ≡ o2MixedOf h sw15 z b28 db zhm xmm ⌝ }
+pub fn o2_mixed(sw15: f64, z: f64, p: Place, t: Thinning, q: Root, zhm: f64, xmm: f64) -> Mixture
+    requires { ⌜ Logged p ⌝ }
+    ensures { λ r. ⌜ r ≡ o2MixedFrom sw15 z p t q zhm xmm ⌝ }
 {
     if !o2_mixes(sw15, z) {
-        let d = density(h, z, p, db, 32.0, 0.0);
+        let d = gas(p, q.db, 32.0, 0.0);
         return Mixture { dens: d, dm: 0.0 };
     }
     let m = pdm3();
     let l = pdl1();
-    let x = mixed(h, z, p, m[2], w, t, db, 32.0, 0.0, zhm, xmm);
-    let r = log(b28 * m[1] / x.b);
-    let c = ccor(z, r, m[5] * l[7], m[4] * l[6]);
+    let x = blended(p, t, q, 32.0, 0.0, zhm, xmm);
+    let c = ccor(z, q.r, m[5] * l[7], m[4] * l[6]);
     Mixture {
         dens: x.dens * c,
         dm: x.dm,
@@ -302,30 +338,18 @@ pub fn o2_mixed(
 }
 
 // Argon, mixed at or below 240 km.
-pub fn argon(
-    h: Shape,
-    sw15: f64,
-    z: f64,
-    p: Place,
-    w: Place,
-    t: Thinning,
-    b28: f64,
-    db: f64,
-    zhm: f64,
-    xmm: f64,
-) -> Mixture
-    requires { ⌜ (p ≡ placeAt h z) × Turbopause h (mixesAt sw15 z) (pdmT4 ‼ 2) w × Mixes (mixesAt sw15 z) p xmm t ⌝ }
-    ensures { λ r. ⌜ r ≡ argonOf h sw15 z b28 db zhm xmm ⌝ }
+pub fn argon(sw15: f64, z: f64, p: Place, t: Thinning, q: Root, zhm: f64, xmm: f64) -> Mixture
+    requires { ⌜ Logged p ⌝ }
+    ensures { λ r. ⌜ r ≡ argonFrom sw15 z p t q zhm xmm ⌝ }
 {
     if !ar_mixes(sw15, z) {
-        let d = density(h, z, p, db, 40.0, 0.17);
+        let d = gas(p, q.db, 40.0, 0.17);
         return Mixture { dens: d, dm: 0.0 };
     }
     let m = pdm4();
     let l = pdl1();
-    let x = mixed(h, z, p, m[2], w, t, db, 40.0, 0.17, zhm, xmm);
-    let r = log(b28 * m[1] / x.b);
-    let c = ccor(z, r, m[5] * l[9], m[4] * l[8]);
+    let x = blended(p, t, q, 40.0, 0.17, zhm, xmm);
+    let c = ccor(z, q.r, m[5] * l[9], m[4] * l[8]);
     Mixture {
         dens: x.dens * c,
         dm: x.dm,
@@ -333,31 +357,18 @@ pub fn argon(
 }
 
 // Hydrogen, mixed at or below 320 km.
-pub fn hydrogen(
-    h: Shape,
-    sw15: f64,
-    z: f64,
-    p: Place,
-    w: Place,
-    t: Thinning,
-    b28: f64,
-    db: f64,
-    zhm: f64,
-    xmm: f64,
-) -> Mixture
-    requires { ⌜ (p ≡ placeAt h z) × Turbopause h (ne sw15 0·0 && le z 320·0) (pdmT5 ‼ 2) w × Mixes (mixesAt sw15 z) p xmm t ⌝ }
-    ensures { λ r. ⌜ r ≡ hydrogenOf h sw15 z b28 db zhm xmm ⌝ }
+pub fn hydrogen(sw15: f64, z: f64, p: Place, t: Thinning, q: Root, zhm: f64, xmm: f64) -> Mixture
+    requires { ⌜ Logged p ⌝ }
+    ensures { λ r. ⌜ r ≡ hydrogenFrom sw15 z p t q zhm xmm ⌝ }
 {
     if !h_mixes(sw15, z) {
-        let d = density(h, z, p, db, 1.0, -0.38);
+        let d = gas(p, q.db, 1.0, -0.38);
         return Mixture { dens: d, dm: 0.0 };
     }
     let m = pdm5();
     let l = pdl1();
-    let x = mixed(h, z, p, m[2], w, t, db, 1.0, -0.38, zhm, xmm);
-    let q = sqrt(l[17] * l[17]);
-    let r = log(b28 * m[1] * q / x.b);
-    let c = ccor(z, r, m[5] * l[11], m[4] * l[10]);
+    let x = blended(p, t, q, 1.0, -0.38, zhm, xmm);
+    let c = ccor(z, q.r, m[5] * l[11], m[4] * l[10]);
     let e = ccor(z, m[3] * l[20], m[7] * l[19], m[6] * l[18]);
     Mixture {
         dens: x.dens * c * e,
@@ -366,31 +377,18 @@ pub fn hydrogen(
 }
 
 // Atomic nitrogen, mixed at or below 450 km.
-pub fn nitrogen(
-    h: Shape,
-    sw15: f64,
-    z: f64,
-    p: Place,
-    w: Place,
-    t: Thinning,
-    b28: f64,
-    db: f64,
-    zhm: f64,
-    xmm: f64,
-) -> Mixture
-    requires { ⌜ (p ≡ placeAt h z) × Turbopause h (mixesAt sw15 z) (pdmT6 ‼ 2) w × Mixes (mixesAt sw15 z) p xmm t ⌝ }
-    ensures { λ r. ⌜ r ≡ nitrogenOf h sw15 z b28 db zhm xmm ⌝ }
+pub fn nitrogen(sw15: f64, z: f64, p: Place, t: Thinning, q: Root, zhm: f64, xmm: f64) -> Mixture
+    requires { ⌜ Logged p ⌝ }
+    ensures { λ r. ⌜ r ≡ nitrogenFrom sw15 z p t q zhm xmm ⌝ }
 {
     if !n_mixes(sw15, z) {
-        let d = density(h, z, p, db, 14.0, 0.0);
+        let d = gas(p, q.db, 14.0, 0.0);
         return Mixture { dens: d, dm: 0.0 };
     }
     let m = pdm6();
     let l = pdl0();
-    let x = mixed(h, z, p, m[2], w, t, db, 14.0, 0.0, zhm, xmm);
-    let q = sqrt(l[2] * l[2]);
-    let r = log(b28 * m[1] * q / x.b);
-    let c = ccor(z, r, m[5] * l[1], m[4] * l[0]);
+    let x = blended(p, t, q, 14.0, 0.0, zhm, xmm);
+    let c = ccor(z, q.r, m[5] * l[1], m[4] * l[0]);
     let e = ccor(z, m[3] * l[5], m[7] * l[4], m[6] * l[3]);
     Mixture {
         dens: x.dens * c * e,
@@ -398,50 +396,49 @@ pub fn nitrogen(
     }
 }
 
-// Molecular oxygen; the second correction stands outside the altitude test.
+// Molecular oxygen; the second correction, by rate, stands outside the altitude test.
 pub fn o2(
-    h: Shape,
     sw15: f64,
     z: f64,
     p: Place,
-    w: Place,
     t: Thinning,
-    b28: f64,
-    db: f64,
+    q: Root,
+    rate: f64,
     zhm: f64,
     xmm: f64,
-    flux: f64,
 ) -> Mixture
-    requires { ⌜ (p ≡ placeAt h z) × Turbopause h (mixesAt sw15 z) (pdmT3 ‼ 2) w × Mixes (mixesAt sw15 z) p xmm t ⌝ }
-    ensures { λ r. ⌜ r ≡ o2Of h sw15 z b28 db zhm xmm flux ⌝ }
+    requires { ⌜ Logged p ⌝ }
+    ensures { λ r. ⌜ r ≡ o2From sw15 z p t q rate zhm xmm ⌝ }
 {
-    let x = o2_mixed(h, sw15, z, p, w, t, b28, db, zhm, xmm);
+    let x = o2_mixed(sw15, z, p, t, q, zhm, xmm);
     if !(sw15 != 0.0) {
         return x;
     }
     let m = pdm3();
     let k = pdl0();
     let l = pdl1();
-    let c = ccor2(
-        z,
-        m[3] * l[23] * flux,
-        m[7] * l[22],
-        m[6] * l[21],
-        m[7] * k[22],
-    );
+    let c = ccor2(z, rate, m[7] * l[22], m[6] * l[21], m[7] * k[22]);
     Mixture {
         dens: x.dens * c,
         dm: x.dm,
     }
 }
 
-// Anomalous oxygen; tho is its temperature.
-pub fn hot(h: Shape, z: f64, db: f64, zsht: f64, zmho: f64, tho: f64) -> f64
-    ensures { λ r. ⌜ r ≡ hotOf h z db zsht zmho tho ⌝ }
+// The factor of anomalous oxygen's exponent, whatever the altitude; tho is its temperature.
+pub fn hot_factor(gsurf: f64, re: f64, zsht: f64, zmho: f64, tho: f64) -> f64
+    ensures { λ r. ⌜ r ≡ hotFactorOf gsurf re zsht zmho tho ⌝ }
 {
-    let dd = density_at(h, z, db, 16.0, 0.0);
-    let zsho = scalh(h.gsurf, h.re, zmho, 16.0, tho);
+    let zsho = scalh(gsurf, re, zmho, 16.0, tho);
+    -zsht / zsho
+}
+
+// Anomalous oxygen at a place of its own shape, from its density db at the lower boundary and that factor.
+pub fn hot(z: f64, p: Place, db: f64, factor: f64, zsht: f64, zmho: f64) -> f64
+    requires { ⌜ Logged p ⌝ }
+    ensures { λ r. ⌜ r ≡ hotFrom z p db factor zsht zmho ⌝ }
+{
+    let dd = gas(p, db, 16.0, 0.0);
     let a = exp(-(z - zmho) / zsht);
-    let b = exp(-zsht / zsho * (a - 1.0));
+    let b = exp(factor * (a - 1.0));
     dd * b
 }

@@ -9,6 +9,12 @@ ghost use Rattle.species.specs.Places.{placeAt, mixesAt, Turbopause, Mixes};
 ghost use Rattle.tables.specs.Tables.{pdmT0, pdmT1, pdmT2, pdmT3, pdmT4, pdmT5, pdmT6};
 ghost use Rattle.stages.specs.Stages.{tinfPlan, gradientPlan, tlbPlan, n2Plan, heliumPlan, oxygenPlan, o2Plan, argonPlan, hydrogenPlan, nitrogenPlan, hotPlan};
 use elementary::exponential::exp;
+use mixing::limits::ar_mixes;
+use mixing::limits::h_mixes;
+use mixing::limits::he_mixes;
+use mixing::limits::n_mixes;
+use mixing::limits::o_mixes;
+use mixing::limits::o2_mixes;
 use places::place::Place;
 use places::thinning::Thinning;
 use plan::Levels;
@@ -16,13 +22,22 @@ use profile::unchecked::Shape;
 use species::Blend;
 use species::Mixture;
 use species::argon;
+use species::argon_root;
 use species::helium;
+use species::helium_root;
 use species::hot;
+use species::hot_factor;
 use species::hydrogen;
+use species::hydrogen_root;
 use species::n2;
+use species::n2_root;
 use species::nitrogen;
+use species::nitrogen_root;
 use species::o2;
+use species::o2_root;
 use species::oxygen;
+use species::oxygen_root;
+use species::place_alone_at;
 use tables::pd0;
 use tables::pd1;
 use tables::pd2;
@@ -96,18 +111,26 @@ pub fn n2_stage(
     let c = pd2();
     let m = pdm2();
     let g = exp(sw[21] * l.pd2);
-    n2(h, sw[15], z, p, w, t, m[0] * g * c[0], zhf)
+    let q = n2_root(w, m[0] * g * c[0]);
+    let x = n2(sw[15], z, p, t, q);
+    Blend {
+        dens: x.dens,
+        b: q.b,
+        dm: x.dm,
+    }
 }
 
 // Anomalous oxygen.
 pub fn hot_stage(sw: [f64; 24], h: Shape, z: f64, l: Levels) -> f64
     ensures { λ r. ⌜ r ≡ told (given l) (hotPlan sw h z) ⌝ }
 {
-    let p = pd8();
+    let c = pd8();
     let m = pdm7();
     let d = pdl0();
     let g = exp(sw[21] * l.pd8);
-    hot(h, z, m[0] * g * p[0], m[5], m[4], m[9] * d[6])
+    let p = place_alone_at(h, z);
+    let f = hot_factor(h.gsurf, h.re, m[5], m[4], m[9] * d[6]);
+    hot(z, p, m[0] * g * c[0], f, m[5], m[4])
 }
 
 pub fn helium_stage(
@@ -128,7 +151,9 @@ pub fn helium_stage(
     let c = pd0();
     let m = pdm0();
     let g = exp(sw[21] * l.pd0);
-    helium(h, sw[15], z, p, w, t, b28, m[0] * g * c[0], zhm, xmm)
+    let on = he_mixes(sw[15], z);
+    let q = helium_root(on, w, m[0] * g * c[0], b28, xmm);
+    helium(sw[15], z, p, t, q, zhm, xmm)
 }
 
 pub fn oxygen_stage(
@@ -149,7 +174,9 @@ pub fn oxygen_stage(
     let c = pd1();
     let m = pdm1();
     let g = exp(sw[21] * l.pd1);
-    oxygen(h, sw[15], z, p, w, t, m[0] * g * c[0], zhm, xmm, flux)
+    let on = o_mixes(sw[15], z);
+    let q = oxygen_root(on, w, m[0] * g * c[0], flux, xmm);
+    oxygen(sw[15], z, p, t, q, zhm, xmm)
 }
 
 pub fn o2_stage(
@@ -170,8 +197,11 @@ pub fn o2_stage(
 {
     let c = pd4();
     let m = pdm3();
+    let k = pdl1();
     let g = exp(sw[21] * l.pd4);
-    o2(h, sw[15], z, p, w, t, b28, m[0] * g * c[0], zhm, xmm, flux)
+    let on = o2_mixes(sw[15], z);
+    let q = o2_root(on, w, m[0] * g * c[0], b28, xmm);
+    o2(sw[15], z, p, t, q, m[3] * k[23] * flux, zhm, xmm)
 }
 
 pub fn argon_stage(
@@ -192,7 +222,9 @@ pub fn argon_stage(
     let c = pd5();
     let m = pdm4();
     let g = exp(sw[21] * l.pd5);
-    argon(h, sw[15], z, p, w, t, b28, m[0] * g * c[0], zhm, xmm)
+    let on = ar_mixes(sw[15], z);
+    let q = argon_root(on, w, m[0] * g * c[0], b28, xmm);
+    argon(sw[15], z, p, t, q, zhm, xmm)
 }
 
 pub fn hydrogen_stage(
@@ -213,7 +245,9 @@ pub fn hydrogen_stage(
     let c = pd6();
     let m = pdm5();
     let g = exp(sw[21] * l.pd6);
-    hydrogen(h, sw[15], z, p, w, t, b28, m[0] * g * c[0], zhm, xmm)
+    let on = h_mixes(sw[15], z);
+    let q = hydrogen_root(on, w, m[0] * g * c[0], b28, xmm);
+    hydrogen(sw[15], z, p, t, q, zhm, xmm)
 }
 
 pub fn nitrogen_stage(
@@ -234,5 +268,7 @@ pub fn nitrogen_stage(
     let c = pd7();
     let m = pdm6();
     let g = exp(sw[21] * l.pd7);
-    nitrogen(h, sw[15], z, p, w, t, b28, m[0] * g * c[0], zhm, xmm)
+    let on = n_mixes(sw[15], z);
+    let q = nitrogen_root(on, w, m[0] * g * c[0], b28, xmm);
+    nitrogen(sw[15], z, p, t, q, zhm, xmm)
 }

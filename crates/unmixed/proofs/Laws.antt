@@ -22,11 +22,10 @@ use Rattle.tables.specs.Tables.{pdT2, pdmT2, pdlT1}
 use Rattle.upper.specs.declared.Site.{Site}
 use Rattle.upper.specs.declared.Six.{Six}
 use Rattle.upper.specs.declared.Upper.{Upper}
-use Rattle.upper.specs.Upper.{anomalousOf, gatherOf}
+use Rattle.upper.specs.Upper.{anomalousOf, rowOf, gatherOf}
 use Rattle.stages.specs.Stages.{shapePlan, n2Plan, heliumPlan, oxygenPlan, o2Plan, argonPlan, hydrogenPlan, nitrogenPlan, speciesPlan, hotPlan, gts7Plan}
 use Rattle.thermosphere.proofs.Laws.{species-law, gts7-law}
 use Rattle.lower.specs.Lower.{aboveOf}
-use Rattle.unmixed.specs.Unmixed.{rowOf}
 
 -- what holds where a test is true need not hold where it is false
 never : {A : Type 0} (b : Bool) → b ≡ false → b ≡ true → A
@@ -90,7 +89,7 @@ n2-dens : (sw : List Float) (h : Shape) (z zhf : Float) (l : Levels) → mixesAt
 unfolding told n2Plan _>>=_ n2Of
 n2-dens sw h z zhf l none = rw (off (n2Mixed (sw ‼ 15) z) (mixesAt (sw ‼ 15) z) (mixes-160 (sw ‼ 15) z) none)
 
-gathered : (sw0 : Float) (h : Shape) (z : Float) (b : Blend) (y : Six) (o : Float)
+pub gathered : (sw0 : Float) (h : Shape) (z : Float) (b : Blend) (y : Six) (o : Float)
     → rowOf sw0 (h .tinf) (b .dens) y o (temperatureOf h (sqrtOf (z ⊗ z))) ≡ (aboveOf (gatherOf sw0 h z b y o)) .row
 unfolding rowOf aboveOf gatherOf
 gathered sw0 h z b y o = refl

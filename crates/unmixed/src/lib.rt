@@ -11,7 +11,6 @@ ghost use Rattle.species.specs.Species.{densityOf, temperatureOf};
 ghost use Rattle.species.specs.Places.{placeAt, mixesAt};
 ghost use Rattle.stages.specs.Stages.{speciesPlan, gts7Plan};
 ghost use Rattle.lower.specs.Lower.{aboveOf};
-ghost use Rattle.unmixed.specs.Unmixed.{rowOf};
 use elementary::exponential::exp;
 use elementary::root::sqrt;
 use places::place::Place;
@@ -34,8 +33,7 @@ use thermosphere::shape_stage;
 use upper::Site;
 use upper::Six;
 use upper::anomalous;
-use upper::mass;
-use upper::units;
+use upper::row_from;
 
 // N2's density, not mixed.
 pub fn n2_alone(sw: [f64; 24], h: Shape, z: f64, p: Place, l: Levels) -> f64
@@ -88,46 +86,6 @@ pub fn temperature_alone(h: Shape, z: f64) -> f64
 {
     let p = place_alone_at(h, z);
     p.tz
-}
-
-// The densities in the units asked for, and the temperatures.
-pub fn row_from(sw0: f64, tinf: f64, n2: f64, y: Six, oh: f64, t1: f64) -> [f64; 11]
-    ensures { λ r. ⌜ r ≡ rowOf sw0 tinf n2 y oh t1 ⌝ }
-{
-    let all = mass(
-        y.he.dens,
-        y.o.dens,
-        n2,
-        y.o2.dens,
-        y.ar.dens,
-        y.h.dens,
-        y.n.dens,
-    );
-    let d = units(
-        sw0,
-        y.he.dens,
-        y.o.dens,
-        n2,
-        y.o2.dens,
-        y.ar.dens,
-        all,
-        y.h.dens,
-        y.n.dens,
-        oh,
-    );
-    [
-        d[0],
-        d[1],
-        d[2],
-        d[3],
-        d[4],
-        d[5],
-        d[6],
-        d[7],
-        d[8],
-        tinf,
-        t1,
-    ]
 }
 
 pub fn unmixed_row(sw: [f64; 24], x: Site, z: f64, l: Levels) -> [f64; 11]

@@ -61,6 +61,13 @@ unitsOf sw0 he o n2 o2 ar all h n oh =
     cond (not (ne sw0 0·0)) (he ∷ o ∷ n2 ∷ o2 ∷ ar ∷ all ∷ h ∷ n ∷ oh ∷ []) (
     (he ⊗ 1·0E6) ∷ (o ⊗ 1·0E6) ∷ (n2 ⊗ 1·0E6) ∷ (o2 ⊗ 1·0E6) ∷ (ar ⊗ 1·0E6) ∷ (all ⊗ 1·0E6 ⊘ 1000·0) ∷ (h ⊗ 1·0E6) ∷ (n ⊗ 1·0E6) ∷ (oh ⊗ 1·0E6) ∷ [])
 
+-- the row of eleven, from the densities in cm and the temperatures
+unfoldable pub rowOf : Float → Float → Float → Six → Float → Float → List Float
+rowOf sw0 tinf n2 y oh t1 =
+    let all = massOf (y .he .dens) (y .o .dens) n2 (y .o2 .dens) (y .ar .dens) (y .h .dens) (y .n .dens) in
+    let d = unitsOf sw0 (y .he .dens) (y .o .dens) n2 (y .o2 .dens) (y .ar .dens) all (y .h .dens) (y .n .dens) oh in
+    (d ‼ 0) ∷ (d ‼ 1) ∷ (d ‼ 2) ∷ (d ‼ 3) ∷ (d ‼ 4) ∷ (d ‼ 5) ∷ (d ‼ 6) ∷ (d ‼ 7) ∷ (d ‼ 8) ∷ tinf ∷ t1 ∷ []
+
 -- totals, units, and the temperature at altitude
 unfoldable pub gatherOf : Float → Shape → Float → Blend → Six → Float → Upper
 gatherOf sw0 h z x y oh =

@@ -1,7 +1,7 @@
 // The arithmetic of gts7 around its expansions and species: place, temperatures, nodes, totals.
 ghost use mathlib.Core.Path.{_≡_};
 ghost use Rattle.species.specs.Places.{spineAt};
-ghost use Rattle.upper.specs.Upper.{siteOf, variedOf, meanOf, shapeOf, anomalousOf, massOf, unitsOf, gatherOf};
+ghost use Rattle.upper.specs.Upper.{siteOf, variedOf, meanOf, shapeOf, anomalousOf, massOf, unitsOf, rowOf, gatherOf};
 use elementary::root::sqrt;
 use elementary::trigonometry::cos;
 use elementary::trigonometry::sin;
@@ -170,6 +170,46 @@ pub fn units(
         h * 1.0E6,
         n * 1.0E6,
         oh * 1.0E6,
+    ]
+}
+
+// The row of eleven: the densities in the units asked for, and the temperatures.
+pub fn row_from(sw0: f64, tinf: f64, n2: f64, y: Six, oh: f64, t1: f64) -> [f64; 11]
+    ensures { λ r. ⌜ r ≡ rowOf sw0 tinf n2 y oh t1 ⌝ }
+{
+    let all = mass(
+        y.he.dens,
+        y.o.dens,
+        n2,
+        y.o2.dens,
+        y.ar.dens,
+        y.h.dens,
+        y.n.dens,
+    );
+    let d = units(
+        sw0,
+        y.he.dens,
+        y.o.dens,
+        n2,
+        y.o2.dens,
+        y.ar.dens,
+        all,
+        y.h.dens,
+        y.n.dens,
+        oh,
+    );
+    [
+        d[0],
+        d[1],
+        d[2],
+        d[3],
+        d[4],
+        d[5],
+        d[6],
+        d[7],
+        d[8],
+        tinf,
+        t1,
     ]
 }
 

@@ -2,7 +2,7 @@
 use mathlib.Core.Path.{_∙_}
 use borrow.Author.Tests.{ltb-false, not-true, not-false}
 use Rattle.atmosphere.proofs.Laws.{verdict}
-use Rattle.column.proofs.Laws.{accepted-room, kept, written}
+use Rattle.column.proofs.Laws.{accepted-room, accepted-altitudes, kept, written}
 use borrow.Author.Needs.{needs}
 use Rattle.column.proofs.gtd7_column.Statement.{statement}
 use Rattle.column.proofs.gtd7_column.Tie as tie
@@ -21,7 +21,8 @@ returns c =
 rows-requires : tie.Need-rows-requires
 rows-requires c κs =
     let at = c .before in
-    ltb-false _ _ (accepted-room _ _ _ _ (verdict (at .before .before .column-answer .ensures) (at .before .accepted .ensures) (not-false _ (at .if1 .left))))
+    let fit = verdict (at .before .before .column-answer .ensures) (at .before .accepted .ensures) (not-false _ (at .if1 .left)) in
+    (ltb-false _ _ (accepted-room _ _ _ _ fit), accepted-altitudes _ _ _ _ fit)
 
 same-length : tie.Need-same-length
 same-length c = search needs

@@ -6,54 +6,25 @@ use native.Mathlib.Omega.{arith}
 use borrow.Author.Needs.{needs}
 use lib.ListN.{length, take, drop}
 use lib.Seq.{take-length}
-use Rattle.column.specs.Column.{rowsAt}
+use Rattle.column.specs.Parts.{rowsStored}
 use Rattle.column.proofs.Laws.{more-length, turn}
 use Rattle.column.proofs.rows_at.Statement.{statement}
 use Rattle.column.proofs.rows_at.Tie as tie
 
 abbrev Inv-loop : tie.InvT-loop
-Inv-loop sw x l f alts out₀ i₀ out i =
-    (i ≤ length alts) × (length out ≡ length out₀) × (length (rowsAt sw x l (take i alts)) ≡ 11 * i) × (out ≡ rowsAt sw x l (take i alts) ++ drop (11 * i) out₀)
+Inv-loop sw0 sw15 s alts out₀ i₀ out i =
+    (i ≤ length alts) × (length out ≡ length out₀) × (length (rowsStored sw0 sw15 s (take i alts)) ≡ 11 * i)
+    × (out ≡ rowsStored sw0 sw15 s (take i alts) ++ drop (11 * i) out₀)
 
 abbrev μ-loop : tie.MeasureT-loop
-μ-loop sw x l f alts out₀ i₀ out i = length alts - i
+μ-loop sw0 sw15 s alts out₀ i₀ out i = length alts - i
 
 loop-holds : tie.Need-loop-holds Inv-loop μ-loop
-unfolding rowsAt
+unfolding rowsStored
 loop-holds c = (search needs, refl, refl, refl)
 
-mul-z : tie.Need-mul-z Inv-loop μ-loop
-mul-z c = search needs
-
-shared-slice-read-z : tie.Need-shared-slice-read-z Inv-loop μ-loop
-shared-slice-read-z c = search needs
-
-mul-lo : tie.Need-mul-lo Inv-loop μ-loop
-mul-lo c = search needs
-
-add-hi : tie.Need-add-hi Inv-loop μ-loop
-add-hi c = search needs
-
-mul-row-on : tie.Need-mul-row-on Inv-loop μ-loop
-mul-row-on c = search needs
-
-sub-row-on : tie.Need-sub-row-on Inv-loop μ-loop
-sub-row-on c = search needs
-
-part-row-on-start : tie.Need-part-row-on-start Inv-loop μ-loop
-part-row-on-start c = search needs
-
-part-row-on-end : tie.Need-part-row-on-end Inv-loop μ-loop
-part-row-on-end c = search needs
-
 row-on-requires : tie.Need-row-on-requires Inv-loop μ-loop
-row-on-requires c κs = (omega (arith, c .row-on-arg .given .1), c .before .before .before .before .before .before .pre .1 (c .before .before .before .loop .i) (c .before .before .loop-test .taken))
-
-add-i : tie.Need-add-i Inv-loop μ-loop
-add-i c = search needs
-
-loop-less : tie.Need-loop-less Inv-loop μ-loop
-loop-less c = search needs
+row-on-requires c κs = (search needs, omega (arith, c .row-on-arg .given .1))
 
 loop-again : tie.Need-loop-again Inv-loop μ-loop
 loop-again c =
@@ -66,34 +37,16 @@ loop-again c =
       turn _ _ _ _ _ _ _ (at .i) (test .loop-test .taken) (at .inv .2) (at .inv .3) (row .ensures),
     )
 
-same-length : tie.Need-same-length Inv-loop μ-loop
-same-length c = search needs
-
 returns : tie.Need-returns Inv-loop μ-loop
 returns c =
     let at = c .before .loop in
-    let alts = c .before .before .before .before .args .alts .now in
+    let alts = c .before .before .before .before .before .args .alts .now in
     let e : at .i ≡ length alts = omega arith in
     at .inv .3 ∙ rw (e, take-length alts)
 
 pub rows-at-spec : {M : Type 1} → statement M
 rows-at-spec =
     tie.close
-    (tie.spec
-    Inv-loop
-    μ-loop
-    loop-holds
-    mul-z
-    shared-slice-read-z
-    mul-lo
-    add-hi
-    mul-row-on
-    sub-row-on
-    part-row-on-start
-    part-row-on-end
-    row-on-requires
-    add-i
-    loop-less
-    loop-again
-    same-length
-    returns)
+    (tie.spec Inv-loop μ-loop loop-holds (λ c. search needs) (λ c. search needs) (λ c. search needs) (λ c. search needs) (λ c. search needs)
+    (λ c. search needs) (λ c. search needs) (λ c. search needs) row-on-requires (λ c. search needs) (λ c. search needs) loop-again
+    (λ c. search needs) returns)

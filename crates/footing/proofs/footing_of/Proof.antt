@@ -32,13 +32,13 @@ three-of-requires c κs = let A = c .before .before .before .before .before .bef
 returns : tie.Need-returns
 returns c = let A = c .before .before .before .before .before .before .before .before .before .before .before .before .before .args in
     footing-law (A .t1) (A .x) (A .l) (A .tropo)
-    (c .standing .result) (c .before .lower-stage .result) (c .before .before .pick .result) (c .before .before .before .meso-nodes .result) (c .before .before .before .before .three-of .result) (c .before .before .before .before .before .n2-stage .result) (c .before .before .before .before .before .before .before .before .before .before .before .before .shape-stage .result)
-    (c .standing .ensures) (c .before .lower-stage .ensures) (c .before .before .pick .ensures) (c .before .before .before .meso-nodes .ensures) (c .before .before .before .before .three-of .ensures) (c .before .before .before .before .before .n2-stage .ensures) (c .before .before .before .before .before .before .before .before .before .before .before .before .shape-stage .ensures)
+    (c .standing .result) (c .before .curves-of .result) (c .before .before .dm28m .result) (c .before .before .before .meso-nodes .result) (c .before .before .before .before .three-of .result) (c .before .before .before .before .before .n2-stage .result) (c .before .before .before .before .before .before .before .before .before .before .before .before .shape-stage .result)
+    (c .standing .ensures) (c .before .curves-of .ensures) (c .before .before .dm28m .ensures) (c .before .before .before .meso-nodes .ensures) (c .before .before .before .before .three-of .ensures) (c .before .before .before .before .before .n2-stage .ensures) (c .before .before .before .before .before .before .before .before .before .before .before .before .shape-stage .ensures)
 
 pub footing-of-spec : {M : Type 1} → statement M
 footing-of-spec =
     tie.close
     (tie.spec
     (λ c κs. search needs) (λ c κs. search needs) (λ c κs. search needs) (λ c κs. search needs) (λ c. search needs) (λ c κs. search needs)
-    (λ c. search needs) (λ c. search needs) mixing-requires n2-stage-requires three-of-requires (λ c κs. search needs) (λ c κs. search needs)
-    (λ c κs. search needs) (λ c. search needs) (λ c κs. search needs) returns)
+    (λ c. search needs) (λ c. search needs) mixing-requires n2-stage-requires three-of-requires (λ c κs. search needs) (λ c. search needs)
+    (λ c κs. search needs) (λ c κs. search needs) (λ c. search needs) (λ c κs. search needs) returns)

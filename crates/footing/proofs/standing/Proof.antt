@@ -6,10 +6,10 @@ use Rattle.footing.proofs.standing.Tie as tie
 
 returns : tie.Need-returns
 unfolding standingOf
-returns c = simp (← c .in-units4 .ensures, ← c .before .in-units3 .ensures, ← c .before .before .in-units2 .ensures, ← c .before .before .before .in-units .ensures, ← c .before .before .before .before .dm28m .ensures)
+returns c = simp (← c .in-units4 .ensures, ← c .before .in-units3 .ensures, ← c .before .before .in-units2 .ensures, ← c .before .before .before .in-units .ensures)
 
 pub standing-spec : {M : Type 1} → statement M
 standing-spec =
     tie.close
     (tie.spec
-    (λ c κs. search needs) (λ c κs. search needs) (λ c κs. search needs) (λ c κs. search needs) (λ c κs. search needs) returns)
+    (λ c κs. search needs) (λ c κs. search needs) (λ c κs. search needs) (λ c κs. search needs) returns)

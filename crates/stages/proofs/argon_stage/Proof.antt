@@ -1,63 +1,29 @@
 -- `argon_stage` meets its contract.
-use lib.Ieee.{Float}
 use Rattle.numbers.specs.Arithmetic.{_‼_}
-use Rattle.species.specs.Species.{argonOf}
-use Rattle.tables.specs.Names.{PD5}
+use Rattle.mixing.specs.Limits.{arMixed}
 use Rattle.tables.specs.Tables.{pdmT4}
-use Rattle.stages.proofs.Laws.{species-law}
-use Rattle.plan.specs.Plan.{told, _>>=_}
-use Rattle.stages.specs.Stages.{argonPlan}
+use Rattle.species.specs.Places.{mixesAt}
+use Rattle.species.proofs.Order.{mixes-240}
+use Rattle.species.proofs.Laws.{logged-at}
+use Rattle.stages.proofs.Laws.{logged-there, argon-law}
 use borrow.Author.Needs.{needs}
 use Rattle.stages.proofs.argon_stage.Statement.{statement}
 use Rattle.stages.proofs.argon_stage.Tie as tie
 
-pd5-requires : tie.Need-pd5-requires
-pd5-requires c κs = search needs
-
-pdm4-requires : tie.Need-pdm4-requires
-pdm4-requires c κs = search needs
-
-array-read-exp : tie.Need-array-read-exp
-array-read-exp c = search needs
-
-exp-requires : tie.Need-exp-requires
-exp-requires c κs = search needs
-
-array-read-argon : tie.Need-array-read-argon
-array-read-argon c = search needs
-
-array-read-argon-2 : tie.Need-array-read-argon-2
-array-read-argon-2 c = search needs
-
-array-read-argon-3 : tie.Need-array-read-argon-3
-array-read-argon-3 c = search needs
+argon-root-requires : tie.Need-argon-root-requires
+argon-root-requires c κs = let A = c .before .before .before .before .before .args in
+    logged-there (A .h) (pdmT4 ‼ 2) (A .w) _ (arMixed (A .t1 ‼ 15) (A .z)) (mixesAt (A .t1 ‼ 15) (A .z)) (c .before .before .before .before .before .pre .1) (mixes-240 (A .t1 ‼ 15) (A .z)) (c .ar-mixes .ensures)
 
 argon-requires : tie.Need-argon-requires
-argon-requires c κs = c .before .before .before .before .pre
+argon-requires c κs = let A = c .before .before .before .before .before .before .args in logged-at (A .h) (A .z) (A .p) (c .before .before .before .before .before .before .pre .0)
 
 returns : tie.Need-returns
-unfolding told argonPlan _>>=_
-returns c = let A = (c .before .before .before .before .before .args) in
-    species-law (A .l) (λ (x : Float). argonOf (A .h) (A .t1 ‼ 15) (A .z) (A .b28) x (A .zhm) (A .xmm)) (A .t1 ‼ 21) PD5 pdmT4
-    (c .argon .result)
-    (c .before .exp .result)
-    (c .before .before .before .pdm4 .result)
-    (c .before .before .before .before .pd5 .result)
-    (c .argon .ensures)
-    (c .before .exp .ensures)
-    (c .before .before .before .pdm4 .ensures)
-    (c .before .before .before .before .pd5 .ensures)
+returns c = let A = c .before .before .before .before .before .before .before .args in
+    argon-law (A .t1) (A .h) (A .z) (A .p) (A .w) (A .t) (A .b28) (A .zhm) (A .xmm) (A .l)
+    (c .argon .result) (c .before .argon-root .result) (c .before .before .ar-mixes .result) (c .before .before .before .exp .result) (c .before .before .before .before .before .pdm4 .result) (c .before .before .before .before .before .before .pd5 .result)
+    (c .argon .ensures) (c .before .argon-root .ensures) (c .before .before .ar-mixes .ensures) (c .before .before .before .exp .ensures) (c .before .before .before .before .before .pdm4 .ensures) (c .before .before .before .before .before .before .pd5 .ensures) (c .before .before .before .before .before .before .before .pre)
 
 pub argon-stage-spec : {M : Type 1} → statement M
 argon-stage-spec =
     tie.close
-    (tie.spec
-    pd5-requires
-    pdm4-requires
-    array-read-exp
-    exp-requires
-    array-read-argon
-    array-read-argon-2
-    array-read-argon-3
-    argon-requires
-    returns)
+    (tie.spec (λ c κs. search needs) (λ c κs. search needs) (λ c. search needs) (λ c κs. search needs) (λ c. search needs) (λ c κs. search needs) (λ c. search needs) (λ c. search needs) argon-root-requires (λ c. search needs) argon-requires returns)

@@ -1,63 +1,29 @@
 -- `o2_stage` meets its contract.
-use lib.Ieee.{Float}
 use Rattle.numbers.specs.Arithmetic.{_‼_}
-use Rattle.species.specs.Species.{o2Of}
-use Rattle.tables.specs.Names.{PD4}
+use Rattle.mixing.specs.Limits.{o2Mixed}
 use Rattle.tables.specs.Tables.{pdmT3}
-use Rattle.stages.proofs.Laws.{species-law}
-use Rattle.plan.specs.Plan.{told, _>>=_}
-use Rattle.stages.specs.Stages.{o2Plan}
+use Rattle.species.specs.Places.{mixesAt}
+use Rattle.species.proofs.Order.{mixes-250}
+use Rattle.species.proofs.Laws.{logged-at}
+use Rattle.stages.proofs.Laws.{logged-there, o2-law}
 use borrow.Author.Needs.{needs}
 use Rattle.stages.proofs.o2_stage.Statement.{statement}
 use Rattle.stages.proofs.o2_stage.Tie as tie
 
-pd4-requires : tie.Need-pd4-requires
-pd4-requires c κs = search needs
-
-pdm3-requires : tie.Need-pdm3-requires
-pdm3-requires c κs = search needs
-
-array-read-exp : tie.Need-array-read-exp
-array-read-exp c = search needs
-
-exp-requires : tie.Need-exp-requires
-exp-requires c κs = search needs
-
-array-read-o2 : tie.Need-array-read-o2
-array-read-o2 c = search needs
-
-array-read-o2-2 : tie.Need-array-read-o2-2
-array-read-o2-2 c = search needs
-
-array-read-o2-3 : tie.Need-array-read-o2-3
-array-read-o2-3 c = search needs
+o2-root-requires : tie.Need-o2-root-requires
+o2-root-requires c κs = let A = c .before .before .before .before .before .before .args in
+    logged-there (A .h) (pdmT3 ‼ 2) (A .w) _ (o2Mixed (A .t1 ‼ 15) (A .z)) (mixesAt (A .t1 ‼ 15) (A .z)) (c .before .before .before .before .before .before .pre .1) (mixes-250 (A .t1 ‼ 15) (A .z)) (c .o2-mixes .ensures)
 
 o2-requires : tie.Need-o2-requires
-o2-requires c κs = c .before .before .before .before .pre
+o2-requires c κs = let A = c .before .before .before .before .before .before .before .args in logged-at (A .h) (A .z) (A .p) (c .before .before .before .before .before .before .before .pre .0)
 
 returns : tie.Need-returns
-unfolding told o2Plan _>>=_
-returns c = let A = (c .before .before .before .before .before .args) in
-    species-law (A .l) (λ (x : Float). o2Of (A .h) (A .t1 ‼ 15) (A .z) (A .b28) x (A .zhm) (A .xmm) (A .flux)) (A .t1 ‼ 21) PD4 pdmT3
-    (c .o2 .result)
-    (c .before .exp .result)
-    (c .before .before .before .pdm3 .result)
-    (c .before .before .before .before .pd4 .result)
-    (c .o2 .ensures)
-    (c .before .exp .ensures)
-    (c .before .before .before .pdm3 .ensures)
-    (c .before .before .before .before .pd4 .ensures)
+returns c = let A = c .before .before .before .before .before .before .before .before .args in
+    o2-law (A .t1) (A .h) (A .z) (A .p) (A .w) (A .t) (A .b28) (A .zhm) (A .xmm) (A .flux) (A .l)
+    (c .o2 .result) (c .before .o2-root .result) (c .before .before .o2-mixes .result) (c .before .before .before .exp .result) (c .before .before .before .before .before .before .pdm3 .result) (c .before .before .before .before .before .before .before .pd4 .result) (c .before .before .before .before .before .pdl1 .result)
+    (c .o2 .ensures) (c .before .o2-root .ensures) (c .before .before .o2-mixes .ensures) (c .before .before .before .exp .ensures) (c .before .before .before .before .before .before .pdm3 .ensures) (c .before .before .before .before .before .before .before .pd4 .ensures) (c .before .before .before .before .before .pdl1 .ensures) (c .before .before .before .before .before .before .before .before .pre)
 
 pub o2-stage-spec : {M : Type 1} → statement M
 o2-stage-spec =
     tie.close
-    (tie.spec
-    pd4-requires
-    pdm3-requires
-    array-read-exp
-    exp-requires
-    array-read-o2
-    array-read-o2-2
-    array-read-o2-3
-    o2-requires
-    returns)
+    (tie.spec (λ c κs. search needs) (λ c κs. search needs) (λ c κs. search needs) (λ c. search needs) (λ c κs. search needs) (λ c. search needs) (λ c κs. search needs) (λ c. search needs) (λ c. search needs) o2-root-requires (λ c. search needs) (λ c. search needs) (λ c. search needs) o2-requires returns)

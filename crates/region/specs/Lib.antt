@@ -1,0 +1,2 @@
+-- What a region fixes and the row in it.
+pub mod Region

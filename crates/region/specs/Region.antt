@@ -1,0 +1,110 @@
+-- What a region of altitude fixes above 72.5 km, and the row of an altitude in it. A reader who believes Stages.antt need not read it.
+use mathlib.Core.Bool.{true, cond}
+use lib.Ieee.{Float, lt}
+use Rattle.numbers.specs.Arithmetic.{_⊗_, _‼_}
+use Rattle.numbers.specs.Literals.{72·5}
+use Rattle.elementary.specs.Exp.{expOf}
+use Rattle.elementary.specs.Root.{sqrtOf}
+use Rattle.mixing.specs.Limits.{nMixed}
+use Rattle.places.specs.Place.{underOf}
+use Rattle.places.specs.declared.place.Spine.{Spine}
+use Rattle.places.specs.declared.place.Place.{Place}
+use Rattle.places.specs.declared.thinning.Thinning.{Thinning}
+use Rattle.plan.specs.declared.Levels.{Levels}
+use Rattle.profile.specs.declared.unchecked.Shape.{Shape}
+use Rattle.species.specs.declared.Root.{Root}
+use Rattle.species.specs.Places.{placeAt}
+use Rattle.species.specs.Rooted.{mixingOf, n2RootOf, heliumRootOf, oxygenRootOf, o2RootOf, argonRootOf, hydrogenRootOf, nitrogenRootOf, n2From, heliumFrom, oxygenFrom, o2From, argonFrom, hydrogenFrom, nitrogenFrom, hotFactorOf, hotFrom}
+use Rattle.tables.specs.Tables.{pdT0, pdT1, pdT2, pdT4, pdT5, pdT6, pdT7, pdT8, pdmT0, pdmT1, pdmT2, pdmT3, pdmT4, pdmT5, pdmT6, pdmT7, pdlT0, pdlT1}
+use Rattle.upper.specs.declared.Site.{Site}
+use Rattle.upper.specs.declared.Six.{Six}
+use Rattle.upper.specs.Upper.{anomalousOf, rowOf}
+use mathlib.Core.List.{List}
+use Rattle.region.specs.declared.ThinBases.{ThinBases}
+use Rattle.region.specs.declared.DenseBases.{DenseBases}
+use Rattle.region.specs.declared.Bases.{Bases}
+use Rattle.region.specs.declared.Turbopauses.{Turbopauses}
+use Rattle.region.specs.declared.Roots.{Roots}
+
+-- a density at the lower boundary, from the value of its expansion
+unfoldable pub baseOf : Float → Float → Float → Float → Float
+baseOf m f level c = m ⊗ expOf (f ⊗ level) ⊗ c
+
+unfoldable pub thinBasesOf : Float → Levels → ThinBases
+thinBasesOf f l =
+    record {
+      he = baseOf (pdmT0 ‼ 0) f (l .pd0) (pdT0 ‼ 0);
+      h = baseOf (pdmT5 ‼ 0) f (l .pd6) (pdT6 ‼ 0);
+      n = baseOf (pdmT6 ‼ 0) f (l .pd7) (pdT7 ‼ 0);
+      hot = baseOf (pdmT7 ‼ 0) f (l .pd8) (pdT8 ‼ 0);
+    }
+
+unfoldable pub denseBasesOf : Float → Levels → DenseBases
+denseBasesOf f l =
+    record {
+      n2 = baseOf (pdmT2 ‼ 0) f (l .pd2) (pdT2 ‼ 0);
+      o = baseOf (pdmT1 ‼ 0) f (l .pd1) (pdT1 ‼ 0);
+      o2 = baseOf (pdmT3 ‼ 0) f (l .pd4) (pdT4 ‼ 0);
+      ar = baseOf (pdmT4 ‼ 0) f (l .pd5) (pdT5 ‼ 0);
+    }
+
+unfoldable pub basesOf : Float → Levels → Bases
+basesOf f l = record { thin = thinBasesOf f l; dense = denseBasesOf f l }
+
+-- the turbopauses of N2, helium, O (and O2, argon, N) and hydrogen
+unfoldable pub turbopausesOf : Shape → Float → Turbopauses
+turbopausesOf h zhf =
+    record { n2 = placeAt h (pdmT2 ‼ 2 ⊗ zhf); he = placeAt h (pdmT0 ‼ 2); o = placeAt h (pdmT1 ‼ 2); h = placeAt h (pdmT5 ‼ 2) }
+
+unfoldable pub rootsFrom : Float → Float → Turbopauses → Float → Bases → Roots
+rootsFrom gsurf re w flux d =
+    let xmm = pdmT2 ‼ 4 in
+    let n2 = n2RootOf (w .n2) (d .dense .n2) in
+    record {
+      n2 = n2;
+      he = heliumRootOf true (w .he) (d .thin .he) (n2 .b) xmm;
+      o = oxygenRootOf true (w .o) (d .dense .o) flux xmm;
+      o2 = o2RootOf true (w .o) (d .dense .o2) (n2 .b) xmm;
+      ar = argonRootOf true (w .o) (d .dense .ar) (n2 .b) xmm;
+      h = hydrogenRootOf true (w .h) (d .thin .h) (n2 .b) xmm;
+      n = nitrogenRootOf true (w .o) (d .thin .n) (n2 .b) xmm;
+      rate = pdmT3 ‼ 3 ⊗ pdlT1 ‼ 23 ⊗ flux;
+      hot = d .thin .hot;
+      factor = hotFactorOf gsurf re (pdmT7 ‼ 5) (pdmT7 ‼ 4) (pdmT7 ‼ 9 ⊗ pdlT0 ‼ 6);
+    }
+
+-- over a shape
+unfoldable pub rootsOf : Shape → Site → Bases → Roots
+rootsOf h x d = rootsFrom (h .gsurf) (h .re) (turbopausesOf h (x .zhf)) (x .flux) d
+
+unfoldable pub sixAt : Float → Float → Roots → Place → Thinning → Float → Float → Six
+sixAt sw15 z q p t zhm xmm =
+    record {
+      he = heliumFrom sw15 z p t (q .he) zhm xmm;
+      o = oxygenFrom sw15 z p t (q .o) zhm xmm;
+      o2 = o2From sw15 z p t (q .o2) (q .rate) zhm xmm;
+      ar = argonFrom sw15 z p t (q .ar) zhm xmm;
+      h = hydrogenFrom sw15 z p t (q .h) zhm xmm;
+      n = nitrogenFrom sw15 z p t (q .n) zhm xmm;
+    }
+
+-- the row at z, whose place is p; k is its place over anomalous oxygen's shape
+unfoldable pub rowAt : Float → Float → Float → Float → Roots → Place → Place → Float → List Float
+rowAt sw0 sw15 z tinf q p k t1 =
+    let t = mixingOf (nMixed sw15 z) p (pdmT2 ‼ 4) in
+    let n2 = n2From sw15 z p t (q .n2) in
+    let y = sixAt sw15 z q p t (pdmT2 ‼ 3 ⊗ pdlT1 ‼ 5) (pdmT2 ‼ 4) in
+    rowOf sw0 tinf (n2 .dens) y (hotFrom z k (q .hot) (q .factor) (pdmT7 ‼ 5) (pdmT7 ‼ 4)) t1
+
+-- at or above za
+unfoldable pub rowOver : Float → Float → Shape → Roots → Float → List Float
+rowOver sw0 sw15 h q z =
+    rowAt sw0 sw15 z (h .tinf) q (placeAt h z) (placeAt (anomalousOf h) z) ((placeAt h (sqrtOf (z ⊗ z))) .tz)
+
+unfoldable pub warmthAt : Shape → Spine → Float → Float
+warmthAt h s r = cond (lt r (pdlT1 ‼ 15)) ((underOf (h .re) s r (pdlT1 ‼ 15) 72·5) .tz) ((placeAt h r) .tz)
+
+-- below za, from the spines
+unfoldable pub rowUnder : Float → Float → Shape → Spine → Spine → Roots → Float → List Float
+rowUnder sw0 sw15 h s g q z =
+    rowAt sw0 sw15 z (h .tinf) q (underOf (h .re) s z (pdlT1 ‼ 15) 72·5) (underOf (h .re) g z (pdlT1 ‼ 15) 72·5) (warmthAt h s (sqrtOf (z ⊗ z)))

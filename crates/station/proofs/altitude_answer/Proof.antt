@@ -1,0 +1,41 @@
+-- `altitude_answer` meets its contract.
+use mathlib.Core.Path.{sym, ap, _∙_}
+use mathlib.Core.Bool.{not}
+use borrow.Author.Needs.{needs}
+use borrow.Author.Tests.{eq-eqb, ne-eqb}
+use Rattle.station.specs.Station.{altitudeAnswer}
+use Rattle.station.proofs.altitude_answer.Statement.{statement}
+use Rattle.station.proofs.altitude_answer.Tie as tie
+
+returns : tie.Need-returns
+unfolding altitudeAnswer
+returns c = simp (ne-eqb _ _ (c .if1 .taken))
+
+returns-2 : tie.Need-returns-2
+unfolding altitudeAnswer
+returns-2 c = simp (eq-eqb _ _ (c .before .if1 .left), ne-eqb _ _ (c .if2 .taken))
+
+returns-3 : tie.Need-returns-3
+unfolding altitudeAnswer
+returns-3 c = simp (eq-eqb _ _ (c .before .before .if1 .left), eq-eqb _ _ (c .before .if2 .left), ne-eqb _ _ (c .if3 .taken))
+
+returns-4 : tie.Need-returns-4
+unfolding altitudeAnswer
+returns-4 c =
+    simp (← c .before .finite .ensures, eq-eqb _ _ (c .before .before .before .before .if1 .left), eq-eqb _ _ (c .before .before .before .if2 .left), eq-eqb _ _ (c .before .before .if3 .left))
+    (simp (c .if4 .taken))
+
+returns-5 : tie.Need-returns-5
+unfolding altitudeAnswer
+returns-5 c =
+    simp (← c .before .within .ensures, ← c .before .before .before .finite .ensures, eq-eqb _ _ (c .before .before .before .before .before .before .if1 .left), eq-eqb _ _ (c .before .before .before .before .before .if2 .left), eq-eqb _ _ (c .before .before .before .before .if3 .left))
+    (simp (c .if5 .taken, c .before .before .if4 .left))
+
+returns-6 : tie.Need-returns-6
+unfolding altitudeAnswer
+returns-6 c =
+    simp (← c .before .within .ensures, ← c .before .before .before .finite .ensures, eq-eqb _ _ (c .before .before .before .before .before .before .if1 .left), eq-eqb _ _ (c .before .before .before .before .before .if2 .left), eq-eqb _ _ (c .before .before .before .before .if3 .left))
+    (simp (c .if5 .left, c .before .before .if4 .left))
+
+pub altitude-answer-spec : {M : Type 1} → statement M
+altitude-answer-spec = tie.close (tie.spec returns returns-2 returns-3 (λ c κs. search needs) returns-4 (λ c κs. search needs) returns-5 returns-6)

@@ -1,0 +1,175 @@
+-- Parts written one behind the other, and what they are.
+use Prim.Native.Nat.{ℕ, _+_}
+use mathlib.Core.Path.{_≡_, refl, sym, ap, _∙_}
+use mathlib.Core.Bool.{Bool, true, false, cond, not}
+use mathlib.Core.List.{List, [], _∷_, _++_, append-assoc, append-nil}
+use native.Mathlib.Omega.{arith}
+use borrow.Rule.Slice.PartMut.{putMid}
+use lib.ListN.{length, take, drop, take-append-drop}
+use lib.Seq.{length-take-le, take-at, drop-at, drop-drop, drop-length}
+use lib.Ieee.{Float, lt, le, eq, ofBits}
+use Rattle.numbers.specs.Arithmetic.{_‼_}
+use Rattle.numbers.specs.Literals.{0·0, 72·5, 100·0, 200·0, 300·0}
+use Rattle.elementary.specs.Log.{logOf}
+use Rattle.layers.specs.declared.Span.{Span}
+use Rattle.places.specs.declared.place.Spine.{Spine}
+use Rattle.plan.specs.declared.Levels.{Levels}
+use Rattle.plan.specs.Plan.{told, given}
+use Rattle.profile.specs.declared.unchecked.Shape.{Shape}
+use Rattle.species.specs.Places.{spineAt}
+use Rattle.tables.specs.Tables.{pdlT1}
+use Rattle.upper.specs.declared.Site.{Site}
+use Rattle.upper.specs.Upper.{anomalousOf}
+use Rattle.stages.specs.Stages.{shapePlan}
+use Rattle.region.specs.declared.Bases.{Bases}
+use Rattle.region.specs.declared.Roots.{Roots}
+use Rattle.region.specs.Region.{basesOf, rootsOf, rowOver, rowUnder}
+use Rattle.footing.specs.declared.Footing.{Footing}
+use Rattle.footing.specs.Footing.{footingOf}
+use Rattle.stored.specs.declared.Parts.{Parts}
+use Rattle.stored.specs.Stored.{part, regionNumbers, spineNumbers, spanNumbers, groundNumbers, footingNumbers, shapeIn, rootsIn, spineIn, regionStored, lowStored, footingStored, summitStored, storedOf, lowRow}
+use Rattle.stored.specs.Rows.{grown, footing-length, low-length, region-length, numbers-36, numbers-24}
+
+-- a row behind what is done
+next : (done row xs out : List Float) (k m : ℕ) → length done ≡ k → out ≡ done ++ drop k xs → putMid k m out row ≡ (done ++ row) ++ drop (k + m) xs
+next done row xs out k m len e =
+    let X = drop k xs in
+    rw (e, take-at done X k len, drop-at done X k len, drop-drop) (sym (append-assoc done row (drop (k + m) xs)))
+
+nothing-left : (xs : List Float) (n : ℕ) → length xs ≡ n → drop n xs ≡ []
+nothing-left xs n e = ap (λ (k : ℕ). drop k xs) (sym e) ∙ drop-length xs
+
+-- 72.5 km is at or above itself
+pub at-itself : le 72·5 72·5 ≡ true
+unfolding le lt eq ofBits
+at-itself = refl
+
+-- three parts that fill a slice
+pub three-laid : (out a b c : List Float) (i j k : ℕ) → length out ≡ i + j + k → length a ≡ i → length b ≡ j
+    → putMid (i + j) k (putMid i j (putMid 0 i out a) b) c ≡ a ++ (b ++ c)
+three-laid out a b c i j k len ea eb =
+    let z : 0 + i ≡ i = omega arith in
+    let one : putMid 0 i out a ≡ a ++ drop i out = next [] a out out 0 i refl refl ∙ ap (λ (k : ℕ). a ++ drop k out) z in
+    let two = next a b out _ i j ea one in
+    next (a ++ b) c out _ (i + j) k (grown a b i j ea eb) two
+    ∙ ap (λ (r : List Float). ((a ++ b) ++ c) ++ r) (nothing-left out (i + j + k) len)
+    ∙ append-nil ((a ++ b) ++ c)
+    ∙ append-assoc a b c
+
+low-is : (on : Bool) (sw : List Float) (x : Site) (l : Levels) (d : Bases) (h : Shape) (s k : Spine) (q : Roots) (g : Shape)
+    → not on ≡ false
+    → h ≡ told (given l) (shapePlan sw x 100·0)
+    → s ≡ spineAt h
+    → q ≡ rootsOf h x d
+    → g ≡ anomalousOf h
+    → k ≡ spineAt g
+    → regionNumbers h q ++ (spineNumbers s ++ spineNumbers k) ≡ lowStored on sw x l d
+unfolding lowStored
+low-is on sw x l d h s k q g o e0 e1 e2 e3 e4 = simp (o, e4, e3, e2, e1, e0)
+
+pub low-law : (on : Bool) (sw : List Float) (x : Site) (l : Levels) (d : Bases) (out r1 r2 r3 a b c : List Float) (h : Shape) (s k : Spine) (q : Roots) (g : Shape)
+    → length out ≡ 84
+    → r1 ≡ a → r2 ≡ b → r3 ≡ c
+    → a ≡ regionNumbers h q → b ≡ spineNumbers s → c ≡ spineNumbers k
+    → not on ≡ false
+    → h ≡ told (given l) (shapePlan sw x 100·0)
+    → s ≡ spineAt h
+    → q ≡ rootsOf h x d
+    → g ≡ anomalousOf h
+    → k ≡ spineAt g
+    → putMid 60 24 (putMid 36 24 (putMid 0 36 out r1) r2) r3 ≡ lowStored on sw x l d
+low-law on sw x l d out r1 r2 r3 a b c h s k q g len f1 f2 f3 ea eb ec o e0 e1 e2 e3 e4 =
+    rw (f1, f2, f3, ea, eb, ec)
+    (three-laid out (regionNumbers h q) (spineNumbers s) (spineNumbers k) 36 24 24 len (numbers-36 h q) (numbers-24 s) ∙ low-is on sw x l d h s k q g o e0 e1 e2 e3 e4)
+
+ground-17 : (f : Footing) → length (groundNumbers f) ≡ 17
+unfolding groundNumbers
+ground-17 f = refl
+
+span-18 : (s : Span) → length (spanNumbers s) ≡ 18
+unfolding spanNumbers
+span-18 s = refl
+
+footing-is : (on : Bool) (sw : List Float) (x : Site) (l : Levels) (tropo : Bool) (f : Footing) → not on ≡ false → f ≡ footingOf sw x l tropo
+    → groundNumbers f ++ (spanNumbers (f .curves .upper) ++ spanNumbers (f .curves .lower)) ≡ footingStored on sw x l tropo
+unfolding footingStored footingNumbers
+footing-is on sw x l tropo f o e = simp (o, e)
+
+pub footing-law : (on : Bool) (sw : List Float) (x : Site) (l : Levels) (tropo : Bool) (out r1 r2 r3 a b c : List Float) (f : Footing)
+    → length out ≡ 53
+    → r1 ≡ a → r2 ≡ b → r3 ≡ c
+    → a ≡ groundNumbers f → b ≡ spanNumbers (f .curves .upper) → c ≡ spanNumbers (f .curves .lower)
+    → not on ≡ false
+    → f ≡ footingOf sw x l tropo
+    → putMid 35 18 (putMid 17 18 (putMid 0 17 out r1) r2) r3 ≡ footingStored on sw x l tropo
+footing-law on sw x l tropo out r1 r2 r3 a b c f len f1 f2 f3 ea eb ec o e =
+    rw (f1, f2, f3, ea, eb, ec)
+    (three-laid out (groundNumbers f) (spanNumbers (f .curves .upper)) (spanNumbers (f .curves .lower)) 17 18 18 len (ground-17 f) (span-18 (f .curves .upper)) ∙ footing-is on sw x l tropo f o e)
+
+-- five parts behind the record's fourteen numbers
+pub store-law : (p : Parts) (sw : List Float) (x : Site) (l : Levels) (out r1 r2 r3 r4 r5 a3 a4 a5 : List Float) (d : Bases)
+    → length out ≡ 234
+    → r1 ≡ footingStored (p .below) sw x l (p .tropo)
+    → r2 ≡ lowStored (p .low) sw x l d
+    → r3 ≡ a3 → r4 ≡ a4 → r5 ≡ a5
+    → a3 ≡ regionStored (p .mid) sw x l d 200·0
+    → a4 ≡ regionStored (p .top) sw x l d 300·0
+    → a5 ≡ summitStored (p .summit) sw x l
+    → d ≡ basesOf (sw ‼ 21) l
+    → putMid 223 11 (putMid 187 36 (putMid 151 36 (putMid 67 84 (putMid 14 53 out r1) r2) r3) r4) r5 ≡ take 14 out ++ storedOf p sw x l
+unfolding storedOf
+store-law p sw x l out r1 r2 r3 r4 r5 a3 a4 a5 d len e1 e2 f3 f4 f5 e3 e4 e5 ed =
+    let F = footingStored (p .below) sw x l (p .tropo) in
+    let L = lowStored (p .low) sw x l (basesOf (sw ‼ 21) l) in
+    let M = regionStored (p .mid) sw x l (basesOf (sw ‼ 21) l) 200·0 in
+    let U = regionStored (p .top) sw x l (basesOf (sw ‼ 21) l) 300·0 in
+    let S = summitStored (p .summit) sw x l in
+    let R = take 14 out in
+    let r14 : length R ≡ 14 = length-take-le 14 out (omega (arith, len)) in
+    let r67 = grown R F 14 53 r14 (footing-length (p .below) sw x l (p .tropo)) in
+    let r151 = grown (R ++ F) L 67 84 r67 (low-length (p .low) sw x l (basesOf (sw ‼ 21) l)) in
+    let r187 = grown ((R ++ F) ++ L) M 151 36 r151 (region-length (p .mid) sw x l (basesOf (sw ‼ 21) l) 200·0) in
+    let r223 = grown (((R ++ F) ++ L) ++ M) U 187 36 r187 (region-length (p .top) sw x l (basesOf (sw ‼ 21) l) 300·0) in
+    let one = next R F out out 14 53 r14 (sym (take-append-drop 14 out)) in
+    let two = next (R ++ F) L out _ 67 84 r67 one in
+    let three = next ((R ++ F) ++ L) M out _ 151 36 r151 two in
+    let four = next (((R ++ F) ++ L) ++ M) U out _ 187 36 r187 three in
+    rw (e1, e2, f3, f4, f5, e3, e4, e5, ed)
+    (next ((((R ++ F) ++ L) ++ M) ++ U) S out _ 223 11 r223 four
+    ∙ ap (λ (r : List Float). (((((R ++ F) ++ L) ++ M) ++ U) ++ S) ++ r) (nothing-left out 234 len)
+    ∙ append-nil (((((R ++ F) ++ L) ++ M) ++ U) ++ S)
+    ∙ append-assoc (((R ++ F) ++ L) ++ M) U S
+    ∙ append-assoc ((R ++ F) ++ L) M (U ++ S)
+    ∙ append-assoc (R ++ F) L (M ++ (U ++ S))
+    ∙ append-assoc R F (L ++ (M ++ (U ++ S))))
+
+-- a spine that was read has its logarithm
+pub spine-logged : (xs : List Float) (s : Spine) → s ≡ spineIn xs → s .lt ≡ logOf (s .rt)
+unfolding spineIn
+spine-logged xs s e = rw e
+
+pub under-law : (sw0 sw15 : Float) (xs : List Float) (alt : Float) (row l : List Float) (h : Shape) (q : Roots) (a b : Spine)
+    → row ≡ rowUnder sw0 sw15 h a b q alt
+    → b ≡ spineIn (part 60 24 xs) → a ≡ spineIn (part 36 24 xs) → q ≡ rootsIn (part 0 36 xs) → h ≡ shapeIn (part 0 36 xs)
+    → not (lt alt (l ‼ 15)) ≡ false
+    → l ≡ pdlT1
+    → row ≡ lowRow sw0 sw15 xs alt
+unfolding lowRow
+under-law sw0 sw15 xs alt row l h q a b e0 e1 e2 e3 e4 t el = rw (e0, e1, e2, e3, e4, rw el at t)
+
+pub over-law : (sw0 sw15 : Float) (xs : List Float) (alt : Float) (row l : List Float)
+    → row ≡ rowOver sw0 sw15 (shapeIn (part 0 36 xs)) (rootsIn (part 0 36 xs)) alt
+    → not (lt alt (l ‼ 15)) ≡ true
+    → l ≡ pdlT1
+    → row ≡ lowRow sw0 sw15 xs alt
+unfolding lowRow
+over-law sw0 sw15 xs alt row l e t el = rw (e, rw el at t)
+
+pub region-law : (on : Bool) (sw : List Float) (x : Site) (l : Levels) (d : Bases) (z : Float) (r : List Float) (h : Shape) (q : Roots)
+    → r ≡ regionNumbers h q
+    → q ≡ rootsOf h x d
+    → h ≡ told (given l) (shapePlan sw x z)
+    → not on ≡ false
+    → r ≡ regionStored on sw x l d z
+unfolding regionStored
+region-law on sw x l d z r h q e0 e1 e2 o = rw (o, e0, e1, e2)

@@ -1,0 +1,119 @@
+-- The row out of what is stored of a record is the one-altitude call's, at every altitude whose part is stored.
+use mathlib.Core.Path.{_≡_, refl, sym, ap, _∙_}
+use mathlib.Core.Bool.{Bool, true, false, cond, not, _&&_, _||_, false≢true}
+use mathlib.Core.List.{List, _++_}
+use lib.IntN.{ℤ}
+use lib.ListN.{length}
+use lib.Ieee.{Float, lt, le, ofBits}
+use Rattle.numbers.specs.Arithmetic.{_‼_}
+use Rattle.numbers.specs.Literals.{72·5, 300·0, 2500·0}
+use Rattle.setting.specs.declared.Input.{Input}
+use Rattle.setting.specs.View.{turnedOf, viewOf}
+use Rattle.acceptance.specs.Acceptance.{withAltOf}
+use Rattle.levels.specs.declared.Need.{Need}
+use Rattle.levels.specs.Levels.{needAt, levelsOf}
+use Rattle.tables.specs.Tables.{pdlT1}
+use Rattle.upper.specs.declared.Site.{Site}
+use Rattle.upper.specs.Upper.{siteOf}
+use Rattle.atmosphere.specs.Atmosphere.{elevenFrom, elevenOf}
+use Rattle.atmosphere.specs.Answers.{Covers, eleven-covered}
+use Rattle.stored.specs.declared.Parts.{Parts}
+use Rattle.stored.specs.Stored.{allParts, needOf, storedOf, rowStored}
+use Rattle.stored.specs.Rows.{partsAt, Holds, stored-told}
+
+-- ---- the sets that the parts read hold those that an altitude needs
+
+first : (a b : Bool) → a ≡ true → (a || b) ≡ true
+first true b e = refl
+first false b e = absurd (false≢true e)
+
+later : (a b : Bool) → b ≡ true → (a || b) ≡ true
+later true b e = refl
+later false b e = e
+
+pair : (a b : Bool) → a ≡ true → b ≡ true → (a && b) ≡ true
+pair a b e f = rw (e, f)
+
+-- by the value of a test
+when : {A : Type 0} (b : Bool) → (b ≡ true → A) → (b ≡ false → A) → A
+when true f g = f refl
+when false f g = g refl
+
+not-above-72 : lt (pdlT1 ‼ 15) 72·5 ≡ false
+unfolding lt ofBits pdlT1
+not-above-72 = refl
+
+not-over-72 : lt 72·5 72·5 ≡ false
+unfolding lt ofBits
+not-over-72 = refl
+
+module _ (p : Parts) (z : Float) (h : Holds p (partsAt z)) where
+  at-summit : le 72·5 z ≡ true → lt 72·5 z ≡ false → p .summit ≡ true
+  unfolding partsAt
+  at-summit e f = h .summit (pair (le 72·5 z) (not (lt 72·5 z)) e (ap not f))
+
+  in-low : lt 72·5 z ≡ true → lt (pdlT1 ‼ 15) z ≡ false → p .low ≡ true
+  unfolding partsAt
+  in-low e f = h .low (pair (lt 72·5 z) (not (lt (pdlT1 ‼ 15) z)) e (ap not f))
+
+  in-mid : lt (pdlT1 ‼ 15) z ≡ true → lt z 300·0 ≡ true → p .mid ≡ true
+  unfolding partsAt
+  in-mid e f = h .mid (pair (lt (pdlT1 ‼ 15) z) (lt z 300·0) e f)
+
+  in-top : lt (pdlT1 ‼ 15) z ≡ true → lt z 300·0 ≡ false → p .top ≡ true
+  unfolding partsAt
+  in-top e f = h .top (pair (lt (pdlT1 ‼ 15) z) (not (lt z 300·0)) e (ap not f))
+
+  above-za : lt (pdlT1 ‼ 15) z ≡ true → (p .mid || p .top) ≡ true
+  above-za e = when (lt z 300·0) (λ f. first (p .mid) (p .top) (in-mid e f)) (λ f. later (p .mid) (p .top) (in-top e f))
+
+  over-72 : lt 72·5 z ≡ true → (p .low || (p .mid || p .top)) ≡ true
+  over-72 e = when (lt (pdlT1 ‼ 15) z) (λ f. later (p .low) (p .mid || p .top) (above-za f)) (λ f. first (p .low) (p .mid || p .top) (in-low e f))
+
+  up-to : (b : Bool) → lt 72·5 z ≡ b → lt (cond b z 72·5) 300·0 ≡ true → (p .summit || (p .below || (p .low || p .mid))) ≡ true
+  unfolding partsAt
+  up-to true e f =
+      later (p .summit) _ (later (p .below) _ (when (lt (pdlT1 ‼ 15) z) (λ g. later (p .low) (p .mid) (in-mid g f)) (λ g. first (p .low) (p .mid) (in-low e g))))
+  up-to false e f =
+      when (le 72·5 z) (λ g. first (p .summit) _ (at-summit g e)) (λ g. later (p .summit) _ (first (p .below) _ (h .below (ap not g))))
+
+  warm : (b : Bool) → lt 72·5 z ≡ b → lt (pdlT1 ‼ 15) (cond b z 72·5) ≡ true → (p .mid || p .top) ≡ true
+  warm true e f = above-za f
+  warm false e f = absurd (false≢true (sym not-above-72 ∙ f))
+
+  steep : (b : Bool) → lt 72·5 z ≡ b → lt 72·5 (cond b z 72·5) ≡ true → (p .low || (p .mid || p .top)) ≡ true
+  steep true e f = over-72 f
+  steep false e f = absurd (false≢true (sym not-over-72 ∙ f))
+
+  pub need-covers : Covers (needOf p) (needAt z)
+  unfolding needOf needAt partsAt
+  need-covers =
+      record {
+        high = λ e. when (lt 72·5 z) (λ f. later (p .summit) _ (over-72 f)) (λ f. first (p .summit) _ (at-summit e f));
+        pt = warm (lt 72·5 z) refl;
+        ps = steep (lt 72·5 z) refl;
+        nodes = up-to (lt 72·5 z) refl;
+        meso = h .below;
+        tropo = h .tropo;
+      }
+
+-- all parts hold those of every altitude
+pub all-hold : (a : Parts) → Holds allParts a
+unfolding allParts
+all-hold a = record { summit = λ e. refl; below = λ e. refl; tropo = λ e. refl; low = λ e. refl; mid = λ e. refl; top = λ e. refl }
+
+-- nothing of the View and the Site depends on the record's own altitude
+eleven-at : (w : List ℤ) (n : Input) (m : Need) (z : Float) → Covers m (needAt z)
+    → elevenFrom ((viewOf w n) .sw) (siteOf ((viewOf w n) .sw) (n .«g_lat») ((viewOf w n) .doy) (n .f107a)) (levelsOf (viewOf w n) m) z ≡ elevenOf w (withAltOf n z)
+unfolding elevenOf withAltOf viewOf turnedOf
+eleven-at w n m z c =
+    let v = viewOf w n in
+    sym (eleven-covered v m (siteOf (v .sw) (n .«g_lat») (v .doy) (n .f107a)) z c)
+
+-- The row out of the numbers stored of a record, of the parts p, is the one-altitude call's with that altitude
+pub stored-eleven : (w : List ℤ) (n : Input) (p : Parts) (rec : List Float) (z : Float) → length rec ≡ 14 → le z 2500·0 ≡ true → Holds p (partsAt z)
+    → rowStored ((viewOf w n) .sw ‼ 0) ((viewOf w n) .sw ‼ 15) (rec ++ storedOf p ((viewOf w n) .sw) (siteOf ((viewOf w n) .sw) (n .«g_lat») ((viewOf w n) .doy) (n .f107a)) (levelsOf (viewOf w n) (needOf p))) z
+    ≡ elevenOf w (withAltOf n z)
+stored-eleven w n p rec z len fits h =
+    stored-told p ((viewOf w n) .sw) (siteOf ((viewOf w n) .sw) (n .«g_lat») ((viewOf w n) .doy) (n .f107a)) (levelsOf (viewOf w n) (needOf p)) rec z len fits h
+    ∙ eleven-at w n (needOf p) z (need-covers p z h)

@@ -1,0 +1,534 @@
+// What a station stores of a record and a switch row, as a list of numbers that no altitude changes; and the row of an altitude out of that list,
+// with no expansion worked out.
+ghost use mathlib.Core.Path.{_≡_};
+ghost use mathlib.Core.List.{_++_};
+ghost use Prim.Native.Nat.{_+_, _≤_};
+ghost use lib.ListN.{length, take, drop};
+ghost use Rattle.region.specs.Region.{rowOver};
+ghost use Rattle.stored.specs.Rows.{partsAt};
+ghost use Rattle.stored.specs.Stored.{allParts, needOf, regionNumbers, spineNumbers, spanNumbers, groundNumbers, fiveIn, shapeIn, rootIn, rootsIn, spineIn, spanIn, footingIn, regionStored, lowStored, footingStored, summitStored, storedOf, lowRow, rowStored};
+use atmosphere::row_above;
+use elementary::logarithm::log;
+use footing::Curves;
+use footing::Footing;
+use footing::footing_of;
+use footing::row_below;
+use layers::Span;
+use levels::Need;
+use lower::Meso;
+use places::place::Spine;
+use plan::Levels;
+use profile::unchecked::Shape;
+use region::Bases;
+use region::Roots;
+use region::bases_of;
+use region::roots_of;
+use region::row_over;
+use region::row_under;
+use species::Root;
+use species::spine_at;
+use tables::pdl1;
+use thermosphere::shape_stage;
+use upper::Site;
+use upper::anomalous;
+
+// Which of its parts are asked for: the row at 72.5 km; what lies below it, and below 32.5 km; the region up to za; from there to 300 km; from 300 km.
+pub struct Parts {
+    pub summit: bool,
+    pub below: bool,
+    pub tropo: bool,
+    pub low: bool,
+    pub mid: bool,
+    pub top: bool,
+}
+
+// The parts that an altitude reads.
+pub fn parts_at(alt: f64) -> Parts
+    ensures { λ r. ⌜ r ≡ partsAt alt ⌝ }
+{
+    let l = pdl1();
+    Parts {
+        summit: (alt >= 72.5) & !(alt > 72.5),
+        below: !(alt >= 72.5),
+        tropo: alt < 32.5,
+        low: (alt > 72.5) & !(alt > l[15]),
+        mid: (alt > l[15]) & (alt < 300.0),
+        top: (alt > l[15]) & !(alt < 300.0),
+    }
+}
+
+// All of them.
+pub fn all_parts() -> Parts
+    ensures { λ r. ⌜ r ≡ allParts ⌝ }
+{
+    Parts {
+        summit: true,
+        below: true,
+        tropo: true,
+        low: true,
+        mid: true,
+        top: true,
+    }
+}
+
+// The coefficient sets that the parts read.
+pub fn need_of(p: Parts) -> Need
+    ensures { λ r. ⌜ r ≡ needOf p ⌝ }
+{
+    Need {
+        high: p.summit | (p.low | (p.mid | p.top)),
+        pt: p.mid | p.top,
+        ps: p.low | (p.mid | p.top),
+        nodes: p.summit | (p.below | (p.low | p.mid)),
+        meso: p.below,
+        tropo: p.tropo,
+    }
+}
+
+// ---- the numbers of each part
+
+// A region: its shape and the species' Roots.
+pub fn region_numbers(h: Shape, q: Roots) -> [f64; 36]
+    ensures { λ r. ⌜ r ≡ regionNumbers h q ⌝ }
+{
+    let a = h.tn;
+    let b = h.tgn;
+    [
+        h.gsurf,
+        h.re,
+        h.tinf,
+        h.tlb,
+        h.s,
+        a[0],
+        a[1],
+        a[2],
+        a[3],
+        a[4],
+        b[0],
+        b[1],
+        q.n2.db,
+        q.n2.b,
+        q.n2.r,
+        q.he.db,
+        q.he.b,
+        q.he.r,
+        q.o.db,
+        q.o.b,
+        q.o.r,
+        q.o2.db,
+        q.o2.b,
+        q.o2.r,
+        q.ar.db,
+        q.ar.b,
+        q.ar.r,
+        q.h.db,
+        q.h.b,
+        q.h.r,
+        q.n.db,
+        q.n.b,
+        q.n.r,
+        q.rate,
+        q.hot,
+        q.factor,
+    ]
+}
+
+// A spine, but for the logarithm lt, which is worked out when it is read.
+pub fn spine_numbers(s: Spine) -> [f64; 24]
+    ensures { λ r. ⌜ r ≡ spineNumbers s ⌝ }
+{
+    let a = s.xs;
+    let b = s.ys;
+    let c = s.y2;
+    [
+        s.base,
+        s.k,
+        s.s,
+        s.zg2,
+        s.tt,
+        s.rt,
+        s.glb,
+        s.t1,
+        s.zgdif,
+        a[0],
+        a[1],
+        a[2],
+        a[3],
+        a[4],
+        b[0],
+        b[1],
+        b[2],
+        b[3],
+        b[4],
+        c[0],
+        c[1],
+        c[2],
+        c[3],
+        c[4],
+    ]
+}
+
+// The layer of a span.
+pub fn span_numbers(s: Span) -> [f64; 18]
+    ensures { λ r. ⌜ r ≡ spanNumbers s ⌝ }
+{
+    let a = s.xs;
+    let b = s.ys;
+    let c = s.y2;
+    [
+        s.t1,
+        s.zgdif,
+        s.gamm,
+        a[0],
+        a[1],
+        a[2],
+        a[3],
+        a[4],
+        b[0],
+        b[1],
+        b[2],
+        b[3],
+        b[4],
+        c[0],
+        c[1],
+        c[2],
+        c[3],
+        c[4],
+    ]
+}
+
+// A footing but for its spans.
+pub fn ground_numbers(f: Footing) -> [f64; 17]
+    ensures { λ r. ⌜ r ≡ groundNumbers f ⌝ }
+{
+    let x = f.x;
+    let m = f.meso;
+    let k = f.curves;
+    let a = m.tn2;
+    let b = m.tgn2;
+    [
+        x.gsurf,
+        x.re,
+        x.zhf,
+        x.flux,
+        f.tinf,
+        f.dm28m,
+        f.he,
+        f.n2,
+        f.o2,
+        f.ar,
+        a[0],
+        a[1],
+        a[2],
+        a[3],
+        b[0],
+        b[1],
+        k.d32,
+    ]
+}
+
+// ---- read again
+
+pub fn five_at(s: &[f64], at: usize) -> [f64; 5]
+    requires { ⌜ at + 5 ≤ length (now s) ⌝ }
+    ensures { λ r. ⌜ r ≡ fiveIn (now (s .entry)) at ⌝ }
+{
+    [s[at], s[at + 1], s[at + 2], s[at + 3], s[at + 4]]
+}
+
+pub fn shape_from(s: &[f64]) -> Shape
+    requires { ⌜ length (now s) ≡ 36 ⌝ }
+    ensures { λ r. ⌜ r ≡ shapeIn (now (s .entry)) ⌝ }
+{
+    let a = five_at(s, 5);
+    Shape {
+        gsurf: s[0],
+        re: s[1],
+        tinf: s[2],
+        tlb: s[3],
+        s: s[4],
+        tn: a,
+        tgn: [s[10], s[11]],
+    }
+}
+
+pub fn root_at(s: &[f64], at: usize) -> Root
+    requires { ⌜ at + 3 ≤ length (now s) ⌝ }
+    ensures { λ r. ⌜ r ≡ rootIn (now (s .entry)) at ⌝ }
+{
+    Root {
+        db: s[at],
+        b: s[at + 1],
+        r: s[at + 2],
+    }
+}
+
+pub fn roots_from(s: &[f64]) -> Roots
+    requires { ⌜ length (now s) ≡ 36 ⌝ }
+    ensures { λ r. ⌜ r ≡ rootsIn (now (s .entry)) ⌝ }
+{
+    let n2 = root_at(s, 12);
+    let he = root_at(s, 15);
+    let o = root_at(s, 18);
+    let o2 = root_at(s, 21);
+    let ar = root_at(s, 24);
+    let h = root_at(s, 27);
+    let n = root_at(s, 30);
+    Roots {
+        n2: n2,
+        he: he,
+        o: o,
+        o2: o2,
+        ar: ar,
+        h: h,
+        n: n,
+        rate: s[33],
+        hot: s[34],
+        factor: s[35],
+    }
+}
+
+pub fn spine_from(s: &[f64]) -> Spine
+    requires { ⌜ length (now s) ≡ 24 ⌝ }
+    ensures { λ r. ⌜ r ≡ spineIn (now (s .entry)) ⌝ }
+{
+    let rt = s[5];
+    let lt = log(rt);
+    let xs = five_at(s, 9);
+    let ys = five_at(s, 14);
+    let y2 = five_at(s, 19);
+    Spine {
+        base: s[0],
+        k: s[1],
+        s: s[2],
+        zg2: s[3],
+        tt: s[4],
+        rt: rt,
+        lt: lt,
+        glb: s[6],
+        t1: s[7],
+        zgdif: s[8],
+        xs: xs,
+        ys: ys,
+        y2: y2,
+    }
+}
+
+pub fn span_from(s: &[f64]) -> Span
+    requires { ⌜ length (now s) ≡ 18 ⌝ }
+    ensures { λ r. ⌜ r ≡ spanIn (now (s .entry)) ⌝ }
+{
+    let xs = five_at(s, 3);
+    let ys = five_at(s, 8);
+    let y2 = five_at(s, 13);
+    Span {
+        t1: s[0],
+        zgdif: s[1],
+        gamm: s[2],
+        xs: xs,
+        ys: ys,
+        y2: y2,
+    }
+}
+
+pub fn footing_from(s: &[f64]) -> Footing
+    requires { ⌜ length (now s) ≡ 53 ⌝ }
+    ensures { λ r. ⌜ r ≡ footingIn (now (s .entry)) ⌝ }
+{
+    let u = span_from(&s[17..35]);
+    let v = span_from(&s[35..53]);
+    let x = Site {
+        gsurf: s[0],
+        re: s[1],
+        zhf: s[2],
+        flux: s[3],
+    };
+    let m = Meso {
+        tn2: [s[10], s[11], s[12], s[13]],
+        tgn2: [s[14], s[15]],
+    };
+    let k = Curves {
+        upper: u,
+        d32: s[16],
+        lower: v,
+    };
+    Footing {
+        x: x,
+        tinf: s[4],
+        dm28m: s[5],
+        he: s[6],
+        n2: s[7],
+        o2: s[8],
+        ar: s[9],
+        meso: m,
+        curves: k,
+    }
+}
+
+// ---- written
+
+pub fn put(out: &mut [f64], v: &[f64])
+    requires { ⌜ length (now out) ≡ length (now v) ⌝ }
+    ensures { λ _. ⌜ now (out .exit) ≡ now (v .entry) ⌝ }
+{
+    let mut i: usize = 0;
+    while i < v.len() {
+        out[i] = v[i];
+        i += 1;
+    }
+}
+
+// A region, made at one of its altitudes; zeros where it is not asked for.
+pub fn region_stored(on: bool, sw: [f64; 24], x: Site, l: Levels, d: Bases, z: f64) -> [f64; 36]
+    ensures { λ r. ⌜ r ≡ regionStored on sw x l d z ⌝ }
+{
+    if !on {
+        return [0.0; 36];
+    }
+    let h = shape_stage(sw, x, z, l);
+    let s = spine_at(h);
+    let q = roots_of(h, s, x, d);
+    region_numbers(h, q)
+}
+
+// The region up to za, whose altitudes read two spines besides.
+pub fn put_low(on: bool, sw: [f64; 24], x: Site, l: Levels, d: Bases, out: &mut [f64])
+    requires { ⌜ length (now out) ≡ 84 ⌝ }
+    ensures { λ _. ⌜ now (out .exit) ≡ lowStored on sw x l d ⌝ }
+{
+    if !on {
+        let zeros = [0.0; 84];
+        put(out, &zeros);
+        return;
+    }
+    let h = shape_stage(sw, x, 100.0, l);
+    let s = spine_at(h);
+    let q = roots_of(h, s, x, d);
+    let a = region_numbers(h, q);
+    put(&mut out[0..36], &a);
+    let b = spine_numbers(s);
+    put(&mut out[36..60], &b);
+    let g = anomalous(h);
+    let k = spine_at(g);
+    let c = spine_numbers(k);
+    put(&mut out[60..84], &c);
+}
+
+pub fn put_footing(on: bool, sw: [f64; 24], x: Site, l: Levels, tropo: bool, out: &mut [f64])
+    requires { ⌜ length (now out) ≡ 53 ⌝ }
+    ensures { λ _. ⌜ now (out .exit) ≡ footingStored on sw x l tropo ⌝ }
+{
+    if !on {
+        let zeros = [0.0; 53];
+        put(out, &zeros);
+        return;
+    }
+    let f = footing_of(sw, x, l, tropo);
+    let a = ground_numbers(f);
+    put(&mut out[0..17], &a);
+    let k = f.curves;
+    let u = k.upper;
+    let b = span_numbers(u);
+    put(&mut out[17..35], &b);
+    let v = k.lower;
+    let c = span_numbers(v);
+    put(&mut out[35..53], &c);
+}
+
+// The row at 72.5 km, the one altitude whose temperatures have no part of PT and PS.
+pub fn summit_stored(on: bool, sw: [f64; 24], x: Site, l: Levels) -> [f64; 11]
+    ensures { λ r. ⌜ r ≡ summitStored on sw x l ⌝ }
+{
+    if !on {
+        return [0.0; 11];
+    }
+    row_above(sw, x, l, 72.5)
+}
+
+// All of it behind the first fourteen numbers, which are the record's.
+pub fn store(p: Parts, sw: [f64; 24], x: Site, l: Levels, out: &mut [f64])
+    requires { ⌜ length (now out) ≡ 234 ⌝ }
+    ensures { λ _. ⌜ now (out .exit) ≡ take 14 (now (out .entry)) ++ storedOf p sw x l ⌝ }
+{
+    let d = bases_of(sw[21], l);
+    put_footing(p.below, sw, x, l, p.tropo, &mut out[14..67]);
+    put_low(p.low, sw, x, l, d, &mut out[67..151]);
+    let b = region_stored(p.mid, sw, x, l, d, 200.0);
+    put(&mut out[151..187], &b);
+    let c = region_stored(p.top, sw, x, l, d, 300.0);
+    put(&mut out[187..223], &c);
+    let a = summit_stored(p.summit, sw, x, l);
+    put(&mut out[223..234], &a);
+}
+
+// ---- the row of an altitude
+
+pub fn eleven_from(s: &[f64]) -> [f64; 11]
+    requires { ⌜ length (now s) ≡ 11 ⌝ }
+    ensures { λ r. ⌜ r ≡ now (s .entry) ⌝ }
+{
+    let mut r = [0.0; 11];
+    let mut i: usize = 0;
+    while i < 11 {
+        r[i] = s[i];
+        i += 1;
+    }
+    r
+}
+
+// At or above za in a region.
+pub fn over_from(sw0: f64, sw15: f64, s: &[f64], alt: f64) -> [f64; 11]
+    requires { ⌜ length (now s) ≡ 36 ⌝ }
+    ensures { λ r. ⌜ r ≡ rowOver sw0 sw15 (shapeIn (now (s .entry))) (rootsIn (now (s .entry))) alt ⌝ }
+{
+    let h = shape_from(s);
+    let q = roots_from(s);
+    row_over(sw0, sw15, h, q, alt)
+}
+
+// Above 72.5 km up to za.
+pub fn low_from(sw0: f64, sw15: f64, s: &[f64], alt: f64) -> [f64; 11]
+    requires { ⌜ length (now s) ≡ 84 ⌝ }
+    ensures { λ r. ⌜ r ≡ lowRow sw0 sw15 (now (s .entry)) alt ⌝ }
+{
+    let l = pdl1();
+    if !(alt < l[15]) {
+        return over_from(sw0, sw15, &s[0..36], alt);
+    }
+    let h = shape_from(&s[0..36]);
+    let q = roots_from(&s[0..36]);
+    let a = spine_from(&s[36..60]);
+    let b = spine_from(&s[60..84]);
+    row_under(sw0, sw15, h, a, b, q, alt)
+}
+
+// The eleven numbers at an altitude; sw0 and sw15 are the main effects of switches 0 and 15.
+pub fn row_stored(sw0: f64, sw15: f64, s: &[f64], alt: f64) -> [f64; 11]
+    requires { ⌜ length (now s) ≡ 234 ⌝ }
+    ensures { λ r. ⌜ r ≡ rowStored sw0 sw15 (now (s .entry)) alt ⌝ }
+{
+    let l = pdl1();
+    if !(alt > 72.5) {
+        if alt >= 72.5 {
+            return eleven_from(&s[223..234]);
+        }
+        let f = footing_from(&s[14..67]);
+        return row_below(sw0, f, alt);
+    }
+    if !(alt > l[15]) {
+        return low_from(sw0, sw15, &s[67..151], alt);
+    }
+    if alt < 300.0 {
+        return over_from(sw0, sw15, &s[151..187], alt);
+    }
+    over_from(sw0, sw15, &s[187..223], alt)
+}
+
+// The eleven numbers at an altitude into a lent row of eleven: no View, no record. The station's call and the column fill their rows by it.
+pub fn row_on(sw0: f64, sw15: f64, s: &[f64], alt: f64, out: &mut [f64])
+    requires { ⌜ (length (now s) ≡ 234) × (length (now out) ≡ 11) ⌝ }
+    ensures { λ _. ⌜ now (out .exit) ≡ rowStored sw0 sw15 (now (s .entry)) alt ⌝ }
+{
+    let r = row_stored(sw0, sw15, s, alt);
+    put(out, &r);
+}

@@ -1,0 +1,56 @@
+/* A controller over one place: prepares a station once, asks it for altitude after altitude, and moves sec and lst on between the orbits. A change
+   that is refused leaves the station as it was. All switches are on, densities in kg/m^3. */
+#include <inttypes.h>
+#include <math.h>
+#include <stdio.h>
+
+#include "potirehu.h"
+
+static int32_t whole[POTIREHU_STATION_WHOLE];
+static double numbers[POTIREHU_STATION_NUMBERS];
+
+/* One line of densities, from 200 km up. */
+static uint64_t profile(const char *name) {
+    printf("%-22s", name);
+    for (double alt = 200.0; alt <= 600.0; alt += 100.0) {
+        double row[11];
+        uint64_t code = potirehu_station_gtd7(whole, POTIREHU_STATION_WHOLE, numbers, POTIREHU_STATION_NUMBERS, alt, row, 11);
+        if (code) return code;
+        printf("  %.5e", row[5]);
+    }
+    puts("");
+    return 0;
+}
+
+static uint64_t sec(double x) { return potirehu_station_sec(whole, POTIREHU_STATION_WHOLE, numbers, POTIREHU_STATION_NUMBERS, x); }
+
+static uint64_t lst(double x) { return potirehu_station_lst(whole, POTIREHU_STATION_WHOLE, numbers, POTIREHU_STATION_NUMBERS, x); }
+
+static int refused(uint64_t code) {
+    printf("refused %" PRIu64 " %" PRIu64 "\n", code >> 32, code & 0xffffffff);
+    return 1;
+}
+
+int main(void) {
+    /* sec, alt (not looked at), g_lat, g_long, lst, f107a, f107, ap */
+    const double fields[8] = {0.0, 0.0, 45.0, 15.0, 1.0, 150.0, 150.0, 4.0};
+    int32_t switches[24];
+    for (int i = 0; i < 24; i++) switches[i] = 1;
+    uint64_t code = potirehu_station(2026, 172, fields, 8, NULL, 0, switches, 24, whole, POTIREHU_STATION_WHOLE, numbers, POTIREHU_STATION_NUMBERS);
+    if (code) return refused(code);
+
+    puts("lst (hours)             200 km       300 km       400 km       500 km       600 km");
+    /* sixteen orbits of an hour and a half; lst is sec / 3600 + g_long / 15 */
+    for (int orbit = 0; orbit < 16; orbit++) {
+        char name[32];
+        double seconds = 5400.0 * orbit, hours = seconds / 3600.0 + 1.0;
+        if ((code = sec(seconds)) || (code = lst(hours))) return refused(code);
+        snprintf(name, sizeof name, "%.1f", hours);
+        if ((code = profile(name))) return refused(code);
+    }
+
+    printf("lst NaN: ");
+    refused(lst(NAN));
+    if ((code = profile("the last line again"))) return refused(code);
+    return 0;
+}
