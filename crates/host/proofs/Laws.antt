@@ -1,45 +1,68 @@
 -- The outcomes of the host's calls, by the tests on their slices.
 use Prim.Native.Nat.{ℕ}
-use mathlib.Core.Path.{_≡_, refl, sym, _∙_, ap}
-use mathlib.Core.Bool.{Bool, true, false, cond, not, _&&_}
+use mathlib.Core.Path.{_≡_, refl, sym, _∙_, ap, ap₂}
+use mathlib.Core.Bool.{Bool, true, false, cond, not, _&&_, true≢false, false≢true}
 use mathlib.Core.List.{List}
-use borrow.Author.Tests.{eq-eqb, ne-eqb}
+use borrow.Author.Tests.{eq-eqb, ne-eqb, eqb-true}
 use lib.Dec.{eqb}
 use lib.IntN.{ℤ}
 use lib.ListN.{length}
 use lib.Ieee.{Float}
 use Rattle.setting.specs.declared.Input.{Input}
 use Rattle.acceptance.specs.declared.Answer.{Answer}
-use Rattle.acceptance.specs.declared.Answer.the-variants.{Refused}
+use Rattle.acceptance.specs.declared.Answer.the-variants.{Accepted, Refused}
 use Rattle.acceptance.specs.Acceptance.{acceptedOf}
-use Rattle.atmosphere.specs.Atmosphere.{answerOf, rowAfter}
+use Rattle.atmosphere.specs.Atmosphere.{answerOf}
 use Rattle.column.specs.Column.{columnAnswer, columnAfter}
-use Rattle.host.specs.Host.{codeOf, recordOf, lengthsOf, hostAnswer, hostRow, hostColumn, hostRows}
+use Rattle.host.specs.Host.{codeOf, recordOf, lengthsOf, hostAnswer, hostColumn, hostRows}
 
 -- a refusal: its number and place, the lent memory as it was
-pub refused : (d : Answer) (ys xs : List Float) (n k x : ℕ) → d ≡ Refused n k → x ≡ codeOf (Refused n k)
+pub refused : (d r : Answer) (ys xs : List Float) (x : ℕ) → d ≡ r → acceptedOf r ≡ false → x ≡ codeOf r
     → (x ≡ codeOf d) × (xs ≡ cond (acceptedOf d) ys xs)
-refused d ys xs n k x e c = (c ∙ sym (ap codeOf e), sym (ap (λ (r : Answer). cond (acceptedOf r) ys xs) e))
+refused d r ys xs x e t c = (c ∙ sym (ap codeOf e), sym (ap (λ (b : Bool). cond b ys xs) (ap acceptedOf e ∙ t)))
 
--- what the tests of the three slices say
-module _ (f l : List Float) (w : List ℤ) (rest : Answer) where
-  pub no-fields : (length f ≡ 8 → ⊥) → lengthsOf f l w rest ≡ Refused 4 8
+-- ---- the record's three slices, by their tests
+
+abbrev tests : Bool → Bool → Bool → Answer → Answer
+tests a b c rest = cond (not a) (Refused 4 8) (cond b (Refused 4 7) (cond (not c) (Refused 4 24) rest))
+
+halted : (a b c : Bool) (rest : Answer) → acceptedOf (tests a b c Accepted) ≡ false → tests a b c rest ≡ tests a b c Accepted
+halted false b c rest h = refl
+halted true true c rest h = refl
+halted true false false rest h = refl
+halted true false true rest h = absurd (true≢false h)
+
+all-passed : (a b c : Bool) → acceptedOf (tests a b c Accepted) ≡ true → (a ≡ true) × (c ≡ true) × ((rest : Answer) → tests a b c rest ≡ rest)
+all-passed false b c h = absurd (false≢true h)
+all-passed true true c h = absurd (false≢true h)
+all-passed true false false h = absurd (false≢true h)
+all-passed true false true h = (refl, refl, λ rest. refl)
+
+-- what the slices' own answer says of a call's
+module _ (f l : List Float) (w : List ℤ) (a : Answer) (e : a ≡ lengthsOf f l w Accepted) where
+  pub stopped : acceptedOf a ≡ false → (rest : Answer) → lengthsOf f l w rest ≡ a
   unfolding lengthsOf
-  no-fields h = simp (ne-eqb _ _ h)
+  stopped t rest = halted (eqb (length f) 8) (not (eqb (length l) 0) && not (eqb (length l) 7)) (eqb (length w) 24) rest (sym (ap acceptedOf e) ∙ t) ∙ sym e
 
-  module _ (b : length f ≡ 8) where
-    pub no-array : (not (eqb (length l) 0) && not (eqb (length l) 7)) ≡ true → lengthsOf f l w rest ≡ Refused 4 7
+  module _ (t : acceptedOf a ≡ true) where
+    fit : (eqb (length f) 8 ≡ true) × (eqb (length w) 24 ≡ true) × ((rest : Answer) → lengthsOf f l w rest ≡ rest)
     unfolding lengthsOf
-    no-array h = simp (eq-eqb _ _ b, h)
+    fit = all-passed (eqb (length f) 8) (not (eqb (length l) 0) && not (eqb (length l) 7)) (eqb (length w) 24) (sym (ap acceptedOf e) ∙ t)
 
-    module _ (c : (not (eqb (length l) 0) && not (eqb (length l) 7)) ≡ false) where
-      pub no-switches : (length w ≡ 24 → ⊥) → lengthsOf f l w rest ≡ Refused 4 24
-      unfolding lengthsOf
-      no-switches h = simp (eq-eqb _ _ b, c, ne-eqb _ _ h)
+    pub fields-fit : length f ≡ 8
+    fields-fit = eqb-true (length f) 8 (fit .0)
 
-      pub passed : length w ≡ 24 → lengthsOf f l w rest ≡ rest
-      unfolding lengthsOf
-      passed h = simp (eq-eqb _ _ b, c, eq-eqb _ _ h)
+    pub switches-fit : length w ≡ 24
+    switches-fit = eqb-true (length w) 24 (fit .1)
+
+    pub passed : (rest : Answer) → lengthsOf f l w rest ≡ rest
+    passed = fit .2
+
+-- ---- the calls
+
+-- a record whose year and day came as other terms for the same numbers
+pub dated : (f l : List Float) (n : Input) (y d year doy : ℤ) → n ≡ recordOf y d f l → y ≡ year → d ≡ doy → n ≡ recordOf year doy f l
+dated f l n y d year doy e0 e1 e2 = e0 ∙ ap₂ (λ (a b : ℤ). recordOf a b f l) e1 e2
 
 module _ (year doy : ℤ) (f l : List Float) (w : List ℤ) where
   abbrev pub rest : List Float → Answer
@@ -54,17 +77,17 @@ module _ (year doy : ℤ) (f l : List Float) (w : List ℤ) where
     unfolding hostAnswer
     a-row h = simp (eq-eqb _ _ h)
 
-    -- no test of a slice fails: the one-altitude call's answer and row
-    pub answered : (x : ℕ) (r : Answer) (n : Input) (v : List ℤ) (ys : List Float)
+    -- no test of a slice fails: the one-altitude call's answer, and the row that it or gtd7d gives
+    pub answered : (row : List ℤ → Input → List Float) (x : ℕ) (r : Answer) (n : Input) (v : List ℤ) (ys : List Float)
         → x ≡ codeOf r
         → r ≡ answerOf v n (length xs)
-        → ys ≡ rowAfter v n xs
+        → ys ≡ cond (acceptedOf (answerOf v n (length xs))) (row v n) xs
         → n ≡ recordOf year doy f l
         → v ≡ w
         → hostAnswer year doy f l w (length xs) ≡ rest xs
-        → (x ≡ codeOf (hostAnswer year doy f l w (length xs))) × (ys ≡ hostRow year doy f l w xs)
-    unfolding hostRow rowAfter
-    answered x r n v ys e0 e1 e2 e3 e4 e5 = (simp (e0, e1, e3, e4, e5), simp (e2, e3, e4, e5))
+        → (x ≡ codeOf (hostAnswer year doy f l w (length xs)))
+        × (ys ≡ cond (acceptedOf (hostAnswer year doy f l w (length xs))) (row w (recordOf year doy f l)) xs)
+    answered row x r n v ys e0 e1 e2 e3 e4 e5 = (simp (e0, e1, e3, e4, e5), simp (e2, e3, e4, e5))
 
   module _ (alts xs : List Float) where
     twice : (b : Bool) (ys : List Float) → cond b ys xs ≡ cond b (cond b ys xs) xs

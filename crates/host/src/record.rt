@@ -1,7 +1,8 @@
 // A record and a switch row out of the host's numbers and slices, and an answer as one number.
 ghost use mathlib.Core.Path.{_≡_};
 ghost use lib.ListN.{length};
-ghost use Rattle.host.specs.Host.{numberOf, placeOf, packedOf, codeOf, historyOf, valuesOf, recordOf};
+ghost use Rattle.acceptance.specs.declared.Answer.the-variants.{Accepted};
+ghost use Rattle.host.specs.Host.{numberOf, placeOf, packedOf, codeOf, historyOf, valuesOf, recordOf, lengthsOf};
 use acceptance::Answer;
 use setting::History;
 use setting::Input;
@@ -57,6 +58,22 @@ pub fn record_of(year: i32, doy: i32, fields: &[f64], ap_array: &[f64]) -> Input
         history: h,
         ap_array: a,
     }
+}
+
+// 4 for the first of the record's slices that has not its length; accepted where all have.
+pub fn lengths(fields: &[f64], ap_array: &[f64], switches: &[i32]) -> Answer
+    ensures { λ r. ⌜ r ≡ lengthsOf (now (fields .entry)) (now («ap_array» .entry)) (now (switches .entry)) Accepted ⌝ }
+{
+    if fields.len() != 8 {
+        return Answer::Refused(4, 8);
+    }
+    if (ap_array.len() != 0) & (ap_array.len() != 7) {
+        return Answer::Refused(4, 7);
+    }
+    if switches.len() != 24 {
+        return Answer::Refused(4, 24);
+    }
+    Answer::Accepted
 }
 
 // Document 01's number of a refusal, 0 where the call is accepted.

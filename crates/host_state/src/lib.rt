@@ -4,7 +4,9 @@ ghost use lib.ListN.{length};
 ghost use Rattle.host.specs.Host.{codeOf};
 ghost use Rattle.host_state.specs.HostState.{nodesOf, lastOf, numberOf, numbersOf, leftOf, stateAnswer, stateNumbers};
 use acceptance::Answer;
+use acceptance::accepted;
 use host::record::code;
+use host::record::lengths;
 use host::record::record_of;
 use host::record::switch_row;
 use model_state::gtd7_from_fresh;
@@ -132,14 +134,9 @@ pub extern "C" fn state_after_gtd7(
     if numbers.len() != 78 {
         return code(Answer::Refused(4, 78));
     }
-    if fields.len() != 8 {
-        return code(Answer::Refused(4, 8));
-    }
-    if (ap_array.len() != 0) & (ap_array.len() != 7) {
-        return code(Answer::Refused(4, 7));
-    }
-    if switches.len() != 24 {
-        return code(Answer::Refused(4, 24));
+    let l = lengths(fields, ap_array, switches);
+    if !accepted(l) {
+        return code(l);
     }
     let w = switch_row(switches);
     let n = record_of(year, doy, fields, ap_array);

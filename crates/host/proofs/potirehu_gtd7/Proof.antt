@@ -1,100 +1,68 @@
 -- `potirehu_gtd7` meets its contract: each return is an outcome of its definition.
-use mathlib.Core.Path.{_∙_, ap₂}
+use mathlib.Core.Path.{refl, sym, _∙_}
 use borrow.Author.Needs.{needs}
+use borrow.Author.Tests.{not-true, not-false}
 use mir.Facts.{toZ-ofZ}
-use lib.IntN.{ℤ}
 use lib.ListN.{length}
-use Rattle.atmosphere.specs.Atmosphere.{elevenOf}
+use Rattle.acceptance.specs.declared.Answer.the-variants.{Refused}
+use Rattle.atmosphere.specs.Atmosphere.{elevenOf, rowAfter}
 use Rattle.host.specs.Host.{recordOf, hostAnswer, hostRow}
-use Rattle.host.proofs.Laws.{refused, no-row, a-row, rest, no-fields, no-array, no-switches, passed, answered}
+use Rattle.host.proofs.Laws.{refused, stopped, fields-fit, switches-fit, passed, dated, no-row, a-row, rest, answered}
 use Rattle.host.proofs.potirehu_gtd7.Statement.{statement}
 use Rattle.host.proofs.potirehu_gtd7.Tie as tie
-
-code-requires : tie.Need-code-requires
-code-requires c κs = search needs
 
 returns : tie.Need-returns
 unfolding hostRow
 returns c =
     let A = c .before .before .before .before .before .args in
-    refused (hostAnswer (A .year) (A .doy) (A .fields .now) (A .ap-array .now) (A .switches .now) (length (A .row .now))) (elevenOf (A .switches .now) (recordOf (A .year) (A .doy) (A .fields .now) (A .ap-array .now))) (A .row .now) 4 11 _
+    refused (hostAnswer (A .year) (A .doy) (A .fields .now) (A .ap-array .now) (A .switches .now) (length (A .row .now))) (Refused 4 11) (elevenOf (A .switches .now) (recordOf (A .year) (A .doy) (A .fields .now) (A .ap-array .now))) (A .row .now) _
     (no-row (A .year) (A .doy) (A .fields .now) (A .ap-array .now) (A .switches .now) (A .row .now) (c .before .if1 .taken))
+    refl
     (c .code .ensures)
-
-code-requires-2 : tie.Need-code-requires-2
-code-requires-2 c κs = search needs
 
 returns-2 : tie.Need-returns-2
 unfolding hostRow
 returns-2 c =
-    let A = c .before .before .before .before .before .before .args in
-    refused (hostAnswer (A .year) (A .doy) (A .fields .now) (A .ap-array .now) (A .switches .now) (length (A .row .now))) (elevenOf (A .switches .now) (recordOf (A .year) (A .doy) (A .fields .now) (A .ap-array .now))) (A .row .now) 4 8 _
-    (a-row (A .year) (A .doy) (A .fields .now) (A .ap-array .now) (A .switches .now) (A .row .now) (c .before .before .if1 .left) ∙ no-fields (A .fields .now) (A .ap-array .now) (A .switches .now) (rest (A .year) (A .doy) (A .fields .now) (A .ap-array .now) (A .switches .now) (A .row .now)) (c .before .if2 .taken))
+    let at = c .before .before in
+    let k = at .before .lengths in
+    let A = at .before .before .before .before .before .before .args in
+    let t = sym (at .accepted .ensures) ∙ not-true _ (c .before .if2 .taken) in
+    refused (hostAnswer (A .year) (A .doy) (A .fields .now) (A .ap-array .now) (A .switches .now) (length (A .row .now))) (k .result) (elevenOf (A .switches .now) (recordOf (A .year) (A .doy) (A .fields .now) (A .ap-array .now))) (A .row .now) _
+    (a-row (A .year) (A .doy) (A .fields .now) (A .ap-array .now) (A .switches .now) (A .row .now) (at .before .before .if1 .left)
+    ∙ stopped (A .fields .now) (A .ap-array .now) (A .switches .now) (k .result) (k .ensures) t (rest (A .year) (A .doy) (A .fields .now) (A .ap-array .now) (A .switches .now) (A .row .now)))
+    t
     (c .code2 .ensures)
 
-code-requires-3 : tie.Need-code-requires-3
-code-requires-3 c κs = search needs
-
-returns-3 : tie.Need-returns-3
-unfolding hostRow
-returns-3 c =
-    let A = c .before .before .before .before .before .before .before .args in
-    refused (hostAnswer (A .year) (A .doy) (A .fields .now) (A .ap-array .now) (A .switches .now) (length (A .row .now))) (elevenOf (A .switches .now) (recordOf (A .year) (A .doy) (A .fields .now) (A .ap-array .now))) (A .row .now) 4 7 _
-    (a-row (A .year) (A .doy) (A .fields .now) (A .ap-array .now) (A .switches .now) (A .row .now) (c .before .before .before .if1 .left) ∙ no-array (A .fields .now) (A .ap-array .now) (A .switches .now) (rest (A .year) (A .doy) (A .fields .now) (A .ap-array .now) (A .switches .now) (A .row .now)) (c .before .before .if2 .left) (c .before .if3 .taken))
-    (c .code3 .ensures)
-
-code-requires-4 : tie.Need-code-requires-4
-code-requires-4 c κs = search needs
-
-returns-4 : tie.Need-returns-4
-unfolding hostRow
-returns-4 c =
-    let A = c .before .before .before .before .before .before .before .before .args in
-    refused (hostAnswer (A .year) (A .doy) (A .fields .now) (A .ap-array .now) (A .switches .now) (length (A .row .now))) (elevenOf (A .switches .now) (recordOf (A .year) (A .doy) (A .fields .now) (A .ap-array .now))) (A .row .now) 4 24 _
-    (a-row (A .year) (A .doy) (A .fields .now) (A .ap-array .now) (A .switches .now) (A .row .now) (c .before .before .before .before .if1 .left) ∙ no-switches (A .fields .now) (A .ap-array .now) (A .switches .now) (rest (A .year) (A .doy) (A .fields .now) (A .ap-array .now) (A .switches .now) (A .row .now)) (c .before .before .before .if2 .left) (c .before .before .if3 .left) (c .before .if4 .taken))
-    (c .code4 .ensures)
-
 switch-row-requires : tie.Need-switch-row-requires
-switch-row-requires c κs = search needs
+switch-row-requires c κs =
+    let at = c .before in
+    switches-fit _ _ _ (at .before .lengths .result) (at .before .lengths .ensures) (sym (at .accepted .ensures) ∙ not-false _ (c .if2 .left))
 
 record-of-requires : tie.Need-record-of-requires
-record-of-requires c κs = search needs
+record-of-requires c κs =
+    let at = c .before .before in
+    fields-fit _ _ _ (at .before .lengths .result) (at .before .lengths .ensures) (sym (at .accepted .ensures) ∙ not-false _ (c .before .if2 .left))
 
-gtd7-requires : tie.Need-gtd7-requires
-gtd7-requires c κs = search needs
-
-code-requires-5 : tie.Need-code-requires-5
-code-requires-5 c κs = search needs
-
-same-length : tie.Need-same-length
-same-length c = search needs
-
-returns-5 : tie.Need-returns-5
-returns-5 c =
-    let A = c .before .before .before .before .before .before .before .before .before .before .before .before .before .before .args in
-    let F = c .before .before .before .before .before .before .before .before .before .before .before .before .before .before .fits in
+returns-3 : tie.Need-returns-3
+unfolding hostRow rowAfter
+returns-3 c =
     let g = c .before .before .before .gtd7 in
-    answered (A .year) (A .doy) (A .fields .now) (A .ap-array .now) (A .switches .now) (A .row .now) _ (g .result) (c .before .before .before .before .before .record-of .result) (c .before .before .before .before .before .before .switch-row .result) _
-    (c .code5 .ensures) (g .ensures .0) (g .ensures .1)
-    (c .before .before .before .before .before .record-of .ensures ∙ ap₂ (λ (y d : ℤ). recordOf y d (A .fields .now) (A .ap-array .now)) (toZ-ofZ (F .year)) (toZ-ofZ (F .doy)))
-    (c .before .before .before .before .before .before .switch-row .ensures)
-    (a-row (A .year) (A .doy) (A .fields .now) (A .ap-array .now) (A .switches .now) (A .row .now) (c .before .before .before .before .before .before .before .before .before .before .if1 .left) ∙ passed (A .fields .now) (A .ap-array .now) (A .switches .now) (rest (A .year) (A .doy) (A .fields .now) (A .ap-array .now) (A .switches .now) (A .row .now)) (c .before .before .before .before .before .before .before .before .before .if2 .left) (c .before .before .before .before .before .before .before .before .if3 .left) (c .before .before .before .before .before .before .before .if4 .left))
+    let n = c .before .before .before .before .before .record-of in
+    let w = c .before .before .before .before .before .before .switch-row in
+    let else2 = c .before .before .before .before .before .before .before in
+    let k = else2 .before .before .lengths in
+    let start = else2 .before .before .before .before .before .before .before in
+    let A = start .args in
+    answered (A .year) (A .doy) (A .fields .now) (A .ap-array .now) (A .switches .now) (A .row .now) elevenOf _ (g .result) (n .result) (w .result) _
+    (c .code3 .ensures) (g .ensures .0) (g .ensures .1)
+    (dated (A .fields .now) (A .ap-array .now) (n .result) _ _ (A .year) (A .doy) (n .ensures) (toZ-ofZ (start .fits .year)) (toZ-ofZ (start .fits .doy)))
+    (w .ensures)
+    (a-row (A .year) (A .doy) (A .fields .now) (A .ap-array .now) (A .switches .now) (A .row .now) (else2 .before .before .before .if1 .left)
+    ∙ passed (A .fields .now) (A .ap-array .now) (A .switches .now) (k .result) (k .ensures) (sym (else2 .before .accepted .ensures) ∙ not-false _ (else2 .if2 .left)) (rest (A .year) (A .doy) (A .fields .now) (A .ap-array .now) (A .switches .now) (A .row .now)))
 
 pub potirehu-gtd7-spec : {M : Type 1} → statement M
 potirehu-gtd7-spec =
     tie.close
     (tie.spec
-    code-requires
-    returns
-    code-requires-2
-    returns-2
-    code-requires-3
-    returns-3
-    code-requires-4
-    returns-4
-    switch-row-requires
-    record-of-requires
-    gtd7-requires
-    code-requires-5
-    same-length
-    returns-5)
+    (λ c κs. search needs) returns (λ c κs. search needs) (λ c κs. search needs) (λ c κs. search needs) returns-2 switch-row-requires record-of-requires
+    (λ c κs. search needs) (λ c κs. search needs) (λ c. search needs) returns-3)
