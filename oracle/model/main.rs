@@ -376,8 +376,10 @@ fn apart(a: f64, b: f64) -> f64 {
 
 // The 1E-6 rule against the untouched Rust; with any entry 9, a line for each record beyond it.
 fn near(g: &mut Random, count: u64, any: bool) -> u64 {
-    let (mut worst, mut beyond) = (0.0f64, 0u64);
-    for _ in 0..count {
+    let (mut drawn, mut compared, mut worst, mut beyond) = (0u64, 0u64, 0.0f64, 0u64);
+    // docs/EXCEPTIONS.md is the list of `any` over so many records drawn; the rule is about so many that are accepted
+    while (if any { drawn } else { compared }) < count {
+        drawn += 1;
         let mut w = row_of(g);
         let mut r = record(g);
         r.f107a = g.between(60.0, 400.0);
@@ -390,6 +392,7 @@ fn near(g: &mut Random, count: u64, any: bool) -> u64 {
         if ours(&r, &w, &mut row) != (0, 0) {
             continue;
         }
+        compared += 1;
         let (expect, _) = untouched::astro::atmosphere::shim::gtd7(&r, w);
         let differences: Vec<f64> = (0..11).map(|k| apart(row[k], expect[k])).map(|d| if d.is_nan() { f64::INFINITY } else { d }).collect();
         let d = differences.iter().fold(0.0, |a: f64, b| a.max(*b));
@@ -405,7 +408,7 @@ fn near(g: &mut Random, count: u64, any: bool) -> u64 {
             worst = worst.max(d);
         }
     }
-    println!("untouched Rust: {count} records, fluxes 60 to 400, worst relative difference {worst:.2e}, {beyond} beyond 1E-6");
+    println!("untouched Rust: {compared} accepted records of {drawn}, fluxes 60 to 400, worst relative difference {worst:.2e}, {beyond} beyond 1E-6");
     if any { 0 } else { beyond }
 }
 
