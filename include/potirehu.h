@@ -59,6 +59,9 @@ uint64_t potirehu_station(int32_t year, int32_t doy, const double *fields, size_
    and leaves row as it was. */
 uint64_t potirehu_station_gtd7(const int32_t *whole, size_t n_whole, const double *numbers, size_t n_numbers, double alt, double *row, size_t n_row);
 
+/* The same for drag: the row that potirehu_gtd7d gives on that record. Answers and refusals are those of potirehu_station_gtd7. */
+uint64_t potirehu_station_gtd7d(const int32_t *whole, size_t n_whole, const double *numbers, size_t n_numbers, double alt, double *row, size_t n_row);
+
 /* Changes sec, the seconds of the day. Answers 0; or 4 at the length needed, for whole or numbers, then what potirehu_gtd7 refuses of the changed
    record, its altitude not looked at, and leaves the station as it was. */
 uint64_t potirehu_station_sec(int32_t *whole, size_t n_whole, double *numbers, size_t n_numbers, double sec);

@@ -67,6 +67,7 @@ extern "C" {
         n_numbers: usize,
     ) -> u64;
     fn potirehu_station_gtd7(whole: *const i32, n_whole: usize, numbers: *const f64, n_numbers: usize, alt: f64, row: *mut f64, n_row: usize) -> u64;
+    fn potirehu_station_gtd7d(whole: *const i32, n_whole: usize, numbers: *const f64, n_numbers: usize, alt: f64, row: *mut f64, n_row: usize) -> u64;
     fn potirehu_station_sec(whole: *mut i32, n_whole: usize, numbers: *mut f64, n_numbers: usize, sec: f64) -> u64;
     fn potirehu_station_lst(whole: *mut i32, n_whole: usize, numbers: *mut f64, n_numbers: usize, lst: f64) -> u64;
     fn potirehu_station_g_long(whole: *mut i32, n_whole: usize, numbers: *mut f64, n_numbers: usize, g_long: f64) -> u64;
@@ -157,6 +158,10 @@ pub fn station(year: i32, doy: i32, fields: &[f64], ap: &[f64], w: &[i32], whole
 
 pub fn station_gtd7(whole: &[i32], numbers: &[f64], alt: f64, row: &mut [f64]) -> (u64, u64) {
     parted(unsafe { potirehu_station_gtd7(whole.as_ptr(), whole.len(), numbers.as_ptr(), numbers.len(), alt, row.as_mut_ptr(), row.len()) })
+}
+
+pub fn station_gtd7d(whole: &[i32], numbers: &[f64], alt: f64, row: &mut [f64]) -> (u64, u64) {
+    parted(unsafe { potirehu_station_gtd7d(whole.as_ptr(), whole.len(), numbers.as_ptr(), numbers.len(), alt, row.as_mut_ptr(), row.len()) })
 }
 
 // What a station's calls change.
