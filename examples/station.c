@@ -1,5 +1,5 @@
 /* A controller over one place: prepares a station once, asks it for altitude after altitude, and moves sec and lst on between the orbits. A change
-   that is refused leaves the station as it was. All switches are on, densities in kg/m^3. */
+   that is refused leaves the station as it was. The last line is the density that a drag model takes. All switches are on, densities in kg/m^3. */
 #include <inttypes.h>
 #include <math.h>
 #include <stdio.h>
@@ -52,5 +52,9 @@ int main(void) {
     printf("lst NaN: ");
     refused(lst(NAN));
     if ((code = profile("the last line again"))) return refused(code);
+
+    double row[11];
+    if ((code = potirehu_station_gtd7d(whole, POTIREHU_STATION_WHOLE, numbers, POTIREHU_STATION_NUMBERS, 600.0, row, 11))) return refused(code);
+    printf("for drag, 600 km        %.5e\n", row[5]);
     return 0;
 }

@@ -1,5 +1,5 @@
-/* What libhost.a offers: NRLMSISE-00 at one altitude, at a column of them and from a prepared station, and the elementary functions it is built on.
-   Nothing is kept between calls; only memcpy and memset are needed from outside. docs/RULES.md has every rule. */
+/* What libhost.a offers: NRLMSISE-00 at one altitude, also for drag, at a column of altitudes and from a prepared station, and the elementary
+   functions it is built on. Nothing is kept between calls; only memcpy and memset are needed from outside. docs/RULES.md has every rule. */
 #ifndef POTIREHU_H
 #define POTIREHU_H
 
@@ -37,6 +37,11 @@ uint64_t potirehu_gtd7(int32_t year, int32_t doy, const double *fields, size_t n
 uint64_t potirehu_gtd7_column(int32_t year, int32_t doy, const double *fields, size_t n_fields, const double *ap_array, size_t n_ap,
                               const int32_t *switches, size_t n_switches, const double *altitudes, size_t n, double *rows, size_t n_rows);
 
+/* potirehu_gtd7 for drag: row[5], the mass density, is summed again with the anomalous oxygen in it (16 times row[8]), which counts above 500 km.
+   Answers, refusals and the other ten numbers are those of potirehu_gtd7. */
+uint64_t potirehu_gtd7d(int32_t year, int32_t doy, const double *fields, size_t n_fields, const double *ap_array, size_t n_ap,
+                        const int32_t *switches, size_t n_switches, double *row, size_t n_row);
+
 /* A prepared station is a record and a switch row with the values stored that do not depend on the altitude: two arrays of the caller's, of these
    lengths. What they hold is the library's own; they may be copied and moved, and need not be given back. An altitude asked of it works out no
    expansion. What is said here of a station holds for one that these calls gave. */
@@ -53,6 +58,9 @@ uint64_t potirehu_station(int32_t year, int32_t doy, const double *fields, size_
    and writes the row; or 4 at the length needed, for row, whole or numbers of another length, in this order, then 2 or 3 at 3 for the altitude,
    and leaves row as it was. */
 uint64_t potirehu_station_gtd7(const int32_t *whole, size_t n_whole, const double *numbers, size_t n_numbers, double alt, double *row, size_t n_row);
+
+/* The same for drag: the row that potirehu_gtd7d gives on that record. Answers and refusals are those of potirehu_station_gtd7. */
+uint64_t potirehu_station_gtd7d(const int32_t *whole, size_t n_whole, const double *numbers, size_t n_numbers, double alt, double *row, size_t n_row);
 
 /* Changes sec, the seconds of the day. Answers 0; or 4 at the length needed, for whole or numbers, then what potirehu_gtd7 refuses of the changed
    record, its altitude not looked at, and leaves the station as it was. */

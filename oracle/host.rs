@@ -1,19 +1,43 @@
 // Our calls as libhost.a offers them: 0, or a refusal's number and place.
 use untouched::astro::atmosphere::NrlmsiseInput as Input;
 
+// A one-altitude call as the library has it.
+pub type OneAltitude = unsafe extern "C" fn(
+    year: i32,
+    doy: i32,
+    fields: *const f64,
+    n_fields: usize,
+    ap_array: *const f64,
+    n_ap: usize,
+    switches: *const i32,
+    n_switches: usize,
+    row: *mut f64,
+    n_row: usize,
+) -> u64;
+
+macro_rules! one_altitude {
+    ($call:ident) => {
+        extern "C" {
+            #[allow(dead_code)]
+            pub fn $call(
+                year: i32,
+                doy: i32,
+                fields: *const f64,
+                n_fields: usize,
+                ap_array: *const f64,
+                n_ap: usize,
+                switches: *const i32,
+                n_switches: usize,
+                row: *mut f64,
+                n_row: usize,
+            ) -> u64;
+        }
+    };
+}
+one_altitude!(potirehu_gtd7);
+one_altitude!(potirehu_gtd7d);
+
 extern "C" {
-    fn potirehu_gtd7(
-        year: i32,
-        doy: i32,
-        fields: *const f64,
-        n_fields: usize,
-        ap_array: *const f64,
-        n_ap: usize,
-        switches: *const i32,
-        n_switches: usize,
-        row: *mut f64,
-        n_row: usize,
-    ) -> u64;
     fn potirehu_gtd7_column(
         year: i32,
         doy: i32,
@@ -43,6 +67,7 @@ extern "C" {
         n_numbers: usize,
     ) -> u64;
     fn potirehu_station_gtd7(whole: *const i32, n_whole: usize, numbers: *const f64, n_numbers: usize, alt: f64, row: *mut f64, n_row: usize) -> u64;
+    fn potirehu_station_gtd7d(whole: *const i32, n_whole: usize, numbers: *const f64, n_numbers: usize, alt: f64, row: *mut f64, n_row: usize) -> u64;
     fn potirehu_station_sec(whole: *mut i32, n_whole: usize, numbers: *mut f64, n_numbers: usize, sec: f64) -> u64;
     fn potirehu_station_lst(whole: *mut i32, n_whole: usize, numbers: *mut f64, n_numbers: usize, lst: f64) -> u64;
     fn potirehu_station_g_long(whole: *mut i32, n_whole: usize, numbers: *mut f64, n_numbers: usize, g_long: f64) -> u64;
@@ -81,9 +106,14 @@ fn parted(code: u64) -> (u64, u64) {
     (code >> 32, code & 0xffff_ffff)
 }
 
+// A one-altitude call; the slices as they are handed over, so that they may have any length.
+pub fn one_altitude(call: OneAltitude, year: i32, doy: i32, fields: &[f64], ap: &[f64], w: &[i32], row: &mut [f64]) -> (u64, u64) {
+    parted(unsafe { call(year, doy, fields.as_ptr(), fields.len(), ap.as_ptr(), ap.len(), w.as_ptr(), w.len(), row.as_mut_ptr(), row.len()) })
+}
+
 pub fn ours(r: &Input, w: &[i32; 24], row: &mut [f64]) -> (u64, u64) {
     let (fields, ap, n_ap) = numbers(r);
-    parted(unsafe { potirehu_gtd7(r.year, r.doy, fields.as_ptr(), 8, ap.as_ptr(), n_ap, w.as_ptr(), 24, row.as_mut_ptr(), row.len()) })
+    one_altitude(potirehu_gtd7, r.year, r.doy, &fields, &ap[..n_ap], w, row)
 }
 
 pub fn ours_column(r: &Input, w: &[i32; 24], alts: &[f64], rows: &mut [f64]) -> (u64, u64) {
@@ -128,6 +158,10 @@ pub fn station(year: i32, doy: i32, fields: &[f64], ap: &[f64], w: &[i32], whole
 
 pub fn station_gtd7(whole: &[i32], numbers: &[f64], alt: f64, row: &mut [f64]) -> (u64, u64) {
     parted(unsafe { potirehu_station_gtd7(whole.as_ptr(), whole.len(), numbers.as_ptr(), numbers.len(), alt, row.as_mut_ptr(), row.len()) })
+}
+
+pub fn station_gtd7d(whole: &[i32], numbers: &[f64], alt: f64, row: &mut [f64]) -> (u64, u64) {
+    parted(unsafe { potirehu_station_gtd7d(whole.as_ptr(), whole.len(), numbers.as_ptr(), numbers.len(), alt, row.as_mut_ptr(), row.len()) })
 }
 
 // What a station's calls change.

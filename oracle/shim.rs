@@ -158,15 +158,26 @@ pub mod shim {
         unpack(state).glob7s(p, input, &Flags::new(switches))
     }
 
+    fn row(out: &NrlmsiseOutput) -> [f64; 11] {
+        let mut row = [0.0; 11];
+        row[..9].copy_from_slice(&out.d);
+        row[9..].copy_from_slice(&out.t);
+        row
+    }
+
     // State::gtd7 from State::new, with no check before it.
     pub fn gtd7(input: &NrlmsiseInput, switches: [i32; 24]) -> ([f64; 11], [f64; STATE]) {
         let mut s = State::new();
         let mut out = NrlmsiseOutput::default();
         s.gtd7(input, &Flags::new(switches), &mut out);
-        let mut row = [0.0; 11];
-        row[..9].copy_from_slice(&out.d);
-        row[9..].copy_from_slice(&out.t);
-        (row, pack(&s))
+        (row(&out), pack(&s))
+    }
+
+    // State::gtd7d from State::new, in the same way.
+    pub fn gtd7d(input: &NrlmsiseInput, switches: [i32; 24]) -> [f64; 11] {
+        let mut out = NrlmsiseOutput::default();
+        State::new().gtd7d(input, &Flags::new(switches), &mut out);
+        row(&out)
     }
 
     // The 25 coefficient sets: the eleven of globe7, then the fourteen of glob7s.

@@ -1,4 +1,4 @@
-// Our one-altitude call against the Rust: the eleven numbers to the bit, the refusals, pairs under the shut-off list, the 1E-6 rule,
+// Our one-altitude calls, gtd7 and gtd7d, against the Rust: the eleven numbers to the bit, the refusals, pairs under the shut-off list, the 1E-6 rule,
 // the published samples, calls of each elementary function, and time per call. The expansions, the line program and prepared stations stand in
 // files of their own.
 mod expansions;
@@ -8,7 +8,7 @@ mod lines;
 #[path = "../random.rs"]
 mod random;
 mod stations;
-use host::{numbers, ours, ours_column};
+use host::{numbers, one_altitude, ours, ours_column, potirehu_gtd7, potirehu_gtd7d, OneAltitude};
 use random::Random;
 use std::time::Instant;
 
@@ -40,6 +40,51 @@ macro_rules! to_copy {
 }
 to_copy!(to_routed, routed);
 to_copy!(to_counted, counted);
+
+type Row = fn(&Input, [i32; 24]) -> [f64; 11];
+
+// A one-altitude call of ours, with the Rust's that decides it.
+struct Call {
+    name: &'static str,
+    call: OneAltitude,
+    routed: Row,
+    untouched: Row,
+}
+
+impl Call {
+    fn ours(&self, r: &Input, w: &[i32; 24], row: &mut [f64]) -> (u64, u64) {
+        let (fields, ap, n_ap) = numbers(r);
+        one_altitude(self.call, r.year, r.doy, &fields, &ap[..n_ap], w, row)
+    }
+}
+
+const GTD7: Call = Call {
+    name: "gtd7",
+    call: potirehu_gtd7,
+    routed: |r, w| routed::astro::atmosphere::shim::gtd7(&to_routed(r), w).0,
+    untouched: |r, w| untouched::astro::atmosphere::shim::gtd7(r, w).0,
+};
+
+const GTD7D: Call = Call {
+    name: "gtd7d",
+    call: potirehu_gtd7d,
+    routed: |r, w| {
+        let row = routed::astro::atmosphere::shim::gtd7d(&to_routed(r), w);
+        assert!(row.iter().zip(summed(r, w)).all(|(a, b)| same(*a, b)), "the Rust's gtd7d is not document 02's: {r:?} {w:?}");
+        row
+    },
+    untouched: |r, w| untouched::astro::atmosphere::shim::gtd7d(r, w),
+};
+
+// gtd7's row with d[5] as document 02 words it for gtd7d, over the numbers as they stand in the row.
+fn summed(r: &Input, w: [i32; 24]) -> [f64; 11] {
+    let mut d = routed::astro::atmosphere::shim::gtd7(&to_routed(r), w).0;
+    d[5] = 1.66E-24 * (4.0 * d[0] + 16.0 * d[1] + 28.0 * d[2] + 32.0 * d[3] + 40.0 * d[4] + d[6] + 14.0 * d[7] + 16.0 * d[8]);
+    if w[0] == 1 {
+        d[5] /= 1000.0;
+    }
+    d
+}
 
 // State after gtd7, its 78 numbers.
 fn state(r: &Input, w: &[i32; 24]) -> Vec<f64> {
@@ -198,7 +243,7 @@ fn show(what: &str, r: &Input, w: &[i32; 24], a: &[f64], b: &[f64]) {
 }
 
 // Rows and refusals against the routed Rust.
-fn differential(g: &mut Random, count: u64) -> u64 {
+fn differential(call: &Call, g: &mut Random, count: u64) -> u64 {
     let (mut accepted, mut refused, mut nan, mut bad) = (0u64, 0u64, 0u64, 0u64);
     for i in 0..count {
         let w = row_of(g);
@@ -208,9 +253,9 @@ fn differential(g: &mut Random, count: u64) -> u64 {
         }
         let before: [f64; 11] = std::array::from_fn(|_| f64::from_bits(g.next()));
         let mut row = before;
-        let answer = ours(&r, &w, &mut row);
+        let answer = call.ours(&r, &w, &mut row);
         let want = judged(&r, &w);
-        let expect = if want == (0, 0) { routed::astro::atmosphere::shim::gtd7(&to_routed(&r), w).0 } else { before };
+        let expect = if want == (0, 0) { (call.routed)(&r, w) } else { before };
         let equal = if want == (0, 0) {
             accepted += 1;
             nan += expect.iter().any(|x| x.is_nan()) as u64;
@@ -226,7 +271,29 @@ fn differential(g: &mut Random, count: u64) -> u64 {
             }
         }
     }
-    println!("routed Rust: {count} records, {accepted} accepted ({nan} with a NaN), {refused} refused, {bad} differences");
+    println!("routed Rust, {}: {count} records, {accepted} accepted ({nan} with a NaN), {refused} refused, {bad} differences", call.name);
+    bad
+}
+
+// Slices that have not their length: 4 and the length needed, for the row, the fields, the array, the switches; and the row as it was.
+fn lengths(call: &Call, g: &mut Random, count: u64) -> u64 {
+    let mut bad = 0;
+    for _ in 0..count {
+        let mut n = |right: usize| if g.below(3) > 0 { right } else { g.below(right as u64 + 4) as usize };
+        let (n_row, n_fields, n_ap, n_switches) = (n(11), n(8), n(7), n(24));
+        let slices = [(n_row, 11), (n_fields, 8), (if n_ap == 0 { 7 } else { n_ap }, 7), (n_switches, 24)];
+        let want = slices.iter().find(|(have, need)| have != need).map_or((0, 0), |(_, need)| (4, *need as u64));
+        let mut row = [7.5; 16];
+        let have = one_altitude(call.call, 1, 1, &[40.0; 12][..n_fields], &[4.0; 12][..n_ap], &[1; 32][..n_switches], &mut row[..n_row]);
+        let kept = if want == (0, 0) { row[11..] == [7.5; 5] && row[..11] != [7.5; 11] } else { row == [7.5; 16] };
+        if have != want || !kept {
+            bad += 1;
+            if bad <= 3 {
+                println!("lengths {slices:?}: answer {have:?}, wanted {want:?}, row {row:?}");
+            }
+        }
+    }
+    println!("lengths of slices, {}: {count} calls, {bad} differences", call.name);
     bad
 }
 
@@ -254,7 +321,7 @@ fn states(g: &mut Random, count: u64) -> u64 {
 }
 
 // Pairs that differ only where document 01's list shuts a field off.
-fn pairs(g: &mut Random, count: u64) -> u64 {
+fn pairs(call: &Call, g: &mut Random, count: u64) -> u64 {
     let (mut done, mut bad) = (0u64, 0u64);
     while done < count {
         let w = row_of(g);
@@ -283,7 +350,7 @@ fn pairs(g: &mut Random, count: u64) -> u64 {
             x[0] = y[0];
         }
         let (mut x, mut y) = ([0.0; 11], [1.0; 11]);
-        if ours(&a, &w, &mut x) != (0, 0) || ours(&b, &w, &mut y) != (0, 0) {
+        if call.ours(&a, &w, &mut x) != (0, 0) || call.ours(&b, &w, &mut y) != (0, 0) {
             continue;
         }
         done += 1;
@@ -294,7 +361,7 @@ fn pairs(g: &mut Random, count: u64) -> u64 {
             }
         }
     }
-    println!("pairs under the shut-off list: {done}, {bad} differences");
+    println!("pairs under the shut-off list, {}: {done}, {bad} differences", call.name);
     bad
 }
 
@@ -375,9 +442,11 @@ fn apart(a: f64, b: f64) -> f64 {
 }
 
 // The 1E-6 rule against the untouched Rust; with any entry 9, a line for each record beyond it.
-fn near(g: &mut Random, count: u64, any: bool) -> u64 {
-    let (mut worst, mut beyond) = (0.0f64, 0u64);
-    for _ in 0..count {
+fn near(call: &Call, g: &mut Random, count: u64, any: bool) -> u64 {
+    let (mut drawn, mut compared, mut worst, mut beyond) = (0u64, 0u64, 0.0f64, 0u64);
+    // docs/EXCEPTIONS.md is the list of `any` over so many records drawn; the rule is about so many that are accepted
+    while (if any { drawn } else { compared }) < count {
+        drawn += 1;
         let mut w = row_of(g);
         let mut r = record(g);
         r.f107a = g.between(60.0, 400.0);
@@ -387,10 +456,11 @@ fn near(g: &mut Random, count: u64, any: bool) -> u64 {
             w[9] = 1;
         }
         let mut row = [0.0; 11];
-        if ours(&r, &w, &mut row) != (0, 0) {
+        if call.ours(&r, &w, &mut row) != (0, 0) {
             continue;
         }
-        let (expect, _) = untouched::astro::atmosphere::shim::gtd7(&r, w);
+        compared += 1;
+        let expect = (call.untouched)(&r, w);
         let differences: Vec<f64> = (0..11).map(|k| apart(row[k], expect[k])).map(|d| if d.is_nan() { f64::INFINITY } else { d }).collect();
         let d = differences.iter().fold(0.0, |a: f64, b| a.max(*b));
         if d > 1e-6 {
@@ -405,7 +475,7 @@ fn near(g: &mut Random, count: u64, any: bool) -> u64 {
             worst = worst.max(d);
         }
     }
-    println!("untouched Rust: {count} records, fluxes 60 to 400, worst relative difference {worst:.2e}, {beyond} beyond 1E-6");
+    println!("untouched Rust, {}: {compared} accepted records of {drawn}, fluxes 60 to 400, worst relative difference {worst:.2e}, {beyond} beyond 1E-6", call.name);
     if any { 0 } else { beyond }
 }
 
@@ -552,8 +622,11 @@ fn main() {
     let mut g = Random(number(2, 1));
     let count = number(3, 1_000_000);
     let bad = match args.get(1).map(String::as_str) {
-        Some("differential") => differential(&mut g, count),
-        Some("pairs") => pairs(&mut g, count),
+        Some("differential") => differential(&GTD7, &mut g, count),
+        Some("gtd7d") => differential(&GTD7D, &mut g, count),
+        Some("lengths") => lengths(&GTD7, &mut g, count) + lengths(&GTD7D, &mut g, count),
+        Some("pairs") => pairs(&GTD7, &mut g, count),
+        Some("pairs-d") => pairs(&GTD7D, &mut g, count),
         Some("states") => states(&mut g, count),
         Some("expansions") => expansions::expansions(&mut g, count),
         Some("columns") => columns(&mut g, count),
@@ -561,8 +634,9 @@ fn main() {
         Some("hostile") => lines::hostile(&args[4], &mut g, count),
         Some("stations") => stations::stations(&mut g, count),
         Some("hostile-stations") => stations::hostile(&mut g, count),
-        Some("near") => near(&mut g, count, false),
-        Some("near-any") => near(&mut g, count, true),
+        Some("near") => near(&GTD7, &mut g, count, false),
+        Some("near-d") => near(&GTD7D, &mut g, count, false),
+        Some("near-any") => near(&GTD7, &mut g, count, true),
         Some("samples") => samples(&args[2]),
         Some("counts") => {
             counts();
@@ -579,7 +653,7 @@ fn main() {
             0
         }
         _ => {
-            eprintln!("model differential|pairs|states|expansions|columns|stations|hostile-stations|near|near-any [SEED] [COUNT], lines|hostile SEED COUNT PROGRAM, forms SEED COUNT INPUT OUTPUT, samples FILE, counts, time");
+            eprintln!("model differential|gtd7d|lengths|pairs|pairs-d|states|expansions|columns|stations|hostile-stations|near|near-d|near-any [SEED] [COUNT], lines|hostile SEED COUNT PROGRAM, forms SEED COUNT INPUT OUTPUT, samples FILE, counts, time");
             std::process::exit(2);
         }
     };

@@ -1,7 +1,7 @@
-// Prepared stations: histories of altitudes and changes against the routed Rust on the record as it then is; stations with any contents, which
+// Prepared stations: histories of altitudes, also for drag, and changes against the routed Rust on the record as it then is; stations with any contents, which
 // need only answer; and time per altitude, preparing and change.
-use super::host::{station, station_change, station_gtd7, Change, NUMBERS, WHOLE};
-use super::{altitude, judged, numbers, ours_column, record, row_of, same, sample, spoiled, timed, to_routed, Input, Random};
+use super::host::{station, station_change, station_gtd7, station_gtd7d, Change, NUMBERS, WHOLE};
+use super::{altitude, judged, numbers, ours_column, record, row_of, same, sample, spoiled, timed, Input, Random, GTD7, GTD7D};
 use std::hint::black_box;
 use std::time::Instant;
 use Change::{Fluxes, Long, Lst, Sec};
@@ -64,8 +64,9 @@ impl Memory {
         bits(&guards(&self.row)).eq(bits(&guards(&before.row)))
     }
 
-    fn ask(&mut self, n: &Lengths, alt: f64) -> (u64, u64) {
-        station_gtd7(&self.whole[GUARD..GUARD + n.whole], &self.numbers[GUARD..GUARD + n.numbers], alt, &mut self.row[GUARD..GUARD + n.row])
+    fn ask(&mut self, n: &Lengths, alt: f64, drag: bool) -> (u64, u64) {
+        let call = if drag { station_gtd7d } else { station_gtd7 };
+        call(&self.whole[GUARD..GUARD + n.whole], &self.numbers[GUARD..GUARD + n.numbers], alt, &mut self.row[GUARD..GUARD + n.row])
     }
 
     fn change(&mut self, n: &Lengths, change: Change) -> (u64, u64) {
@@ -203,6 +204,7 @@ struct Figures {
     not_prepared: u64,
     altitudes: u64,
     rows: u64,
+    drag: u64,
     nan: u64,
     changes: u64,
     changes_refused: u64,
@@ -273,7 +275,8 @@ impl History {
         let n = lengths(g);
         self.memory.row = any_bits(g, 11);
         let before = self.memory.clone();
-        let have = self.memory.ask(&n, alt);
+        let drag = g.below(3) == 0;
+        let have = self.memory.ask(&n, alt, drag);
         let misfit = n.altitude_refused();
         f.misfits += misfit.is_some() as u64;
         f.altitudes += 1;
@@ -281,7 +284,8 @@ impl History {
         let r = Input { alt, ..self.record };
         let good = if want == (0, 0) {
             f.rows += 1;
-            let expect = routed::astro::atmosphere::shim::gtd7(&to_routed(&r), self.row).0;
+            f.drag += drag as u64;
+            let expect = (if drag { GTD7D } else { GTD7 }.routed)(&r, self.row);
             f.nan += expect.iter().any(|x| x.is_nan()) as u64;
             self.memory.row_guards_kept(&before) && between(&self.memory.row).iter().zip(&expect).all(|(a, b)| same(*a, *b))
         } else {
@@ -334,9 +338,9 @@ pub fn stations(g: &mut Random, count: u64) -> u64 {
             }
         }
     }
-    let Figures { histories, prepared, not_prepared, altitudes, rows, nan, changes, changes_refused, misfits, bad } = f;
+    let Figures { histories, prepared, not_prepared, altitudes, rows, drag, nan, changes, changes_refused, misfits, bad } = f;
     println!(
-        "stations: {histories} histories, {prepared} prepared, {not_prepared} refused; {altitudes} altitudes, {rows} accepted ({nan} with a NaN), {} refused; \
+        "stations: {histories} histories, {prepared} prepared, {not_prepared} refused; {altitudes} altitudes, {rows} accepted ({drag} of gtd7d, {nan} with a NaN), {} refused; \
          {changes} changes accepted, {changes_refused} refused; {misfits} refusals for a slice's length; {bad} differences",
         altitudes - rows
     );
@@ -402,7 +406,7 @@ pub fn hostile(g: &mut Random, count: u64) -> u64 {
             let n = lengths(g);
             let before = m.clone();
             let asked = g.below(2) == 0;
-            let (have, misfit) = if asked { (m.ask(&n, any_altitude(g)), n.altitude_refused()) } else { (m.change(&n, any_change(g)), n.change_refused()) };
+            let (have, misfit) = if asked { (m.ask(&n, any_altitude(g), g.below(3) == 0), n.altitude_refused()) } else { (m.change(&n, any_change(g)), n.change_refused()) };
             let accepted = have == (0, 0) && misfit.is_none();
             altitudes += asked as u64;
             rows += (asked && accepted) as u64;

@@ -78,7 +78,7 @@ module _ (year doy : ℤ) (f l : List Float) (w : List ℤ) where
     unfolding hostAnswer
     a-row h = simp (eq-eqb _ _ h)
 
-    -- no test of a slice fails: the one-altitude call's answer, and its row
+    -- no test of a slice fails: the one-altitude call's answer, and the row that it or gtd7d gives
     pub answered : (row : List ℤ → Input → List Float) (x : ℕ) (r : Answer) (n : Input) (v : List ℤ) (ys : List Float)
         → x ≡ codeOf r
         → r ≡ answerOf v n (length xs)

@@ -17,6 +17,7 @@ use Rattle.acceptance.specs.Acceptance.{acceptedOf, withAltOf}
 use Rattle.atmosphere.specs.Atmosphere.{answerOf, elevenOf}
 use Rattle.column.specs.Column.{columnAnswer, columnAfter}
 use Rattle.station.specs.Station.{wholeOf, numbersOf, stationAnswer}
+use Rattle.drag.specs.Drag.{dragOf}
 
 -- document 01's number of a refusal and its place, 0 and 0 where the call is accepted
 abbrev pub numberOf : Answer → ℕ
@@ -76,6 +77,11 @@ hostAnswer year doy f l w len =
 unfoldable pub hostRow : ℤ → ℤ → List Float → List Float → List ℤ → List Float → List Float
 hostRow year doy f l w xs =
     cond (acceptedOf (hostAnswer year doy f l w (length xs))) (elevenOf w (recordOf year doy f l)) xs
+
+-- the lent row after gtd7d, whose answer is the same
+unfoldable pub hostDrag : ℤ → ℤ → List Float → List Float → List ℤ → List Float → List Float
+hostDrag year doy f l w xs =
+    cond (acceptedOf (hostAnswer year doy f l w (length xs))) (dragOf w (recordOf year doy f l)) xs
 
 -- 4 for the slices, then the column's answer
 unfoldable pub hostColumn : ℤ → ℤ → List Float → List Float → List ℤ → List Float → ℕ → Answer

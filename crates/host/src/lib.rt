@@ -1,4 +1,4 @@
-// What the host links: the elementary functions, the one-altitude call, the column and the station, on numbers and slices.
+// What the host links: the elementary functions, the one-altitude call, also for drag, the column and the station, on numbers and slices.
 pub mod record;
 pub mod stations;
 
@@ -6,12 +6,13 @@ use acceptance::Answer;
 use acceptance::accepted;
 use atmosphere::gtd7;
 use column::gtd7_column;
+use drag::gtd7d;
 use record::code;
 use record::lengths;
 use record::record_of;
 use record::switch_row;
 ghost use lib.ListN.{length};
-ghost use Rattle.host.specs.Host.{hostAnswer, hostRow, hostColumn, hostRows, codeOf};
+ghost use Rattle.host.specs.Host.{hostAnswer, hostRow, hostDrag, hostColumn, hostRows, codeOf};
 use elementary::exponential::exp;
 use elementary::logarithm::log;
 use elementary::power::pow;
@@ -93,7 +94,32 @@ pub extern "C" fn potirehu_gtd7(
     code(a)
 }
 
-// The same at 0 to 512 altitudes, the record's own altitude not looked at; each altitude's eleven numbers go into their own part of rows.
+// The same for drag: the mass density is gtd7d's.
+#[no_mangle]
+pub extern "C" fn potirehu_gtd7d(
+    year: i32,
+    doy: i32,
+    fields: &[f64],
+    ap_array: &[f64],
+    switches: &[i32],
+    row: &mut [f64],
+) -> u64
+    ensures { λ r. ⌜ (r ≡ codeOf (hostAnswer year doy (now (fields .entry)) (now («ap_array» .entry)) (now (switches .entry)) (length (now (row .entry))))) × (now (row .exit) ≡ hostDrag year doy (now (fields .entry)) (now («ap_array» .entry)) (now (switches .entry)) (now (row .entry))) ⌝ }
+{
+    if row.len() != 11 {
+        return code(Answer::Refused(4, 11));
+    }
+    let l = lengths(fields, ap_array, switches);
+    if !accepted(l) {
+        return code(l);
+    }
+    let w = switch_row(switches);
+    let n = record_of(year, doy, fields, ap_array);
+    let a = gtd7d(w, n, row);
+    code(a)
+}
+
+// potirehu_gtd7 at 0 to 512 altitudes, the record's own altitude not looked at; each altitude's eleven numbers go into their own part of rows.
 #[no_mangle]
 pub extern "C" fn potirehu_gtd7_column(
     year: i32,

@@ -1,7 +1,7 @@
 // A prepared station on the host: 27 whole numbers and 234 numbers that the caller keeps.
 ghost use mathlib.Core.Path.{_≡_};
 ghost use lib.ListN.{length};
-ghost use Rattle.station.specs.Station.{toSec, toLst, toLong, toFluxes, altitudeAnswer, altitudeRow, changeAnswer, changedNumbers};
+ghost use Rattle.station.specs.Station.{toSec, toLst, toLong, toFluxes, altitudeAnswer, altitudeRow, altitudeDrag, changeAnswer, changedNumbers};
 ghost use Rattle.host.specs.Host.{codeOf, hostStation, hostWhole, hostNumbers};
 use super::record::code;
 use super::record::lengths;
@@ -14,6 +14,7 @@ use station::change_g_long;
 use station::change_lst;
 use station::change_sec;
 use station::gtd7;
+use station::gtd7d;
 use station::prepare;
 
 // Prepares a station from a record, whose altitude is not looked at, and a switch row.
@@ -59,6 +60,21 @@ pub extern "C" fn potirehu_station_gtd7(
         × (now (row .exit) ≡ altitudeRow (now (whole .entry)) (now (numbers .entry)) alt (now (row .entry))) ⌝ }
 {
     let a = gtd7(whole, numbers, alt, row);
+    code(a)
+}
+
+// The same for drag: the mass density is gtd7d's.
+#[no_mangle]
+pub extern "C" fn potirehu_station_gtd7d(
+    whole: &[i32],
+    numbers: &[f64],
+    alt: f64,
+    row: &mut [f64],
+) -> u64
+    ensures { λ r. ⌜ (r ≡ codeOf (altitudeAnswer (length (now (row .entry))) (length (now (whole .entry))) (length (now (numbers .entry))) alt))
+        × (now (row .exit) ≡ altitudeDrag (now (whole .entry)) (now (numbers .entry)) alt (now (row .entry))) ⌝ }
+{
+    let a = gtd7d(whole, numbers, alt, row);
     code(a)
 }
 

@@ -27,7 +27,8 @@ use Rattle.upper.specs.Upper.{siteOf}
 use Rattle.stored.specs.declared.Parts.{Parts}
 use Rattle.setting.specs.Switches.{isOne, onOff}
 use Rattle.stored.specs.Stored.{allParts, needOf, storedOf, rowStored}
-use Rattle.station.specs.Station.{wholeOf, recordNumbers, numbersOf, recordIn, Change, changeOf, stationAnswer, wholeAfter, numbersAfter, altitudeAnswer, altitudeRow, replacedOf, changeAnswer, changedNumbers}
+use Rattle.drag_sum.specs.DragSum.{draggedOf}
+use Rattle.station.specs.Station.{wholeOf, recordNumbers, numbersOf, recordIn, Change, changeOf, stationAnswer, wholeAfter, numbersAfter, altitudeAnswer, altitudeRow, altitudeDrag, replacedOf, changeAnswer, changedNumbers}
 
 -- behind the first three of a list
 pub past-three : (a b c : ℤ) (w : List ℤ) (i : ℕ) → (i ≡ 0 → ⊥) → (i ≡ 1 → ⊥) → (i ≡ 2 → ⊥) → getD w (i - 3) (pos 0) ≡ getD (a ∷ b ∷ c ∷ w) i (pos 0)
@@ -159,3 +160,13 @@ module _ (whole : List ℤ) (xs : List Float) (alt : Float) (row : List Float) w
       → r ≡ rowStored s t xs alt → s ≡ onOff (isOne (getD whole 3 (pos 0))) → t ≡ onOff (isOne (getD whole 18 (pos 0))) → r ≡ altitudeRow whole xs alt row
   unfolding altitudeRow
   altitude-given r s t h e f g = simp h (rw (f, g) at e)
+
+  -- gtd7d, by gtd7's row
+  pub drag-refused : (r : List Float) → acceptedOf (altitudeAnswer (length row) (length whole) (length xs) alt) ≡ false → r ≡ altitudeRow whole xs alt row → r ≡ altitudeDrag whole xs alt row
+  unfolding altitudeRow altitudeDrag
+  drag-refused r h e = simp h (rw h at e)
+
+  pub drag-given : (r d : List Float) (s : Float) → acceptedOf (altitudeAnswer (length row) (length whole) (length xs) alt) ≡ true
+      → d ≡ draggedOf s r → s ≡ onOff (isOne (getD whole 3 (pos 0))) → r ≡ altitudeRow whole xs alt row → d ≡ altitudeDrag whole xs alt row
+  unfolding altitudeRow altitudeDrag
+  drag-given r d s h e f g = simp h (e ∙ rw (f, rw h at g))

@@ -21,6 +21,7 @@ use Rattle.acceptance.specs.Acceptance.{withinOf, judgedOf, acceptedOf, withAlt
 use Rattle.levels.specs.Levels.{levelsOf}
 use Rattle.upper.specs.Upper.{siteOf}
 use Rattle.stored.specs.Stored.{allParts, needOf, storedOf, rowStored}
+use Rattle.drag_sum.specs.DragSum.{draggedOf}
 
 -- ---- what the two slices hold: 27 whole numbers and 234 numbers
 
@@ -95,6 +96,12 @@ unfoldable pub altitudeRow : List ℤ → List Float → Float → List Float �
 altitudeRow whole xs alt row =
     cond (acceptedOf (altitudeAnswer (length row) (length whole) (length xs) alt))
     (rowStored (onOff (isOne (getD whole 3 (pos 0)))) (onOff (isOne (getD whole 18 (pos 0)))) xs alt) row
+
+-- the lent row after gtd7d, whose answer is the same
+unfoldable pub altitudeDrag : List ℤ → List Float → Float → List Float → List Float
+altitudeDrag whole xs alt row =
+    cond (acceptedOf (altitudeAnswer (length row) (length whole) (length xs) alt))
+    (draggedOf (onOff (isOne (getD whole 3 (pos 0)))) (rowStored (onOff (isOne (getD whole 3 (pos 0)))) (onOff (isOne (getD whole 18 (pos 0)))) xs alt)) row
 
 -- ---- changes of sec, of lst, of g_long, of the fluxes
 

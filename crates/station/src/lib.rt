@@ -5,12 +5,13 @@ ghost use lib.IntN.{pos};
 ghost use lib.ListN.{length, drop, getD};
 ghost use Rattle.setting.specs.Switches.{isOne, onOff};
 ghost use Rattle.acceptance.specs.Acceptance.{judgedOf};
-ghost use Rattle.station.specs.Station.{markOf, historyIn, wholeOf, recordNumbers, numbersOf, recordIn, withSecOf, withLstOf, withLongOf, withFluxesOf, toSec, toLst, toLong, toFluxes, stationAnswer, wholeAfter, numbersAfter, altitudeAnswer, altitudeRow, replacedOf, changeAnswer, changedNumbers};
+ghost use Rattle.station.specs.Station.{markOf, historyIn, wholeOf, recordNumbers, numbersOf, recordIn, withSecOf, withLstOf, withLongOf, withFluxesOf, toSec, toLst, toLong, toFluxes, stationAnswer, wholeAfter, numbersAfter, altitudeAnswer, altitudeRow, altitudeDrag, replacedOf, changeAnswer, changedNumbers};
 use acceptance::Answer;
 use acceptance::accepted;
 use acceptance::judge;
 use acceptance::with_alt;
 use acceptance::within;
+use drag_sum::drag_on;
 use levels::levels_of;
 use numbers::finite;
 use setting::History;
@@ -260,6 +261,20 @@ pub fn gtd7(whole: &[i32], numbers: &[f64], alt: f64, out: &mut [f64]) -> Answer
     let sw0 = main_in(whole, 3);
     let sw15 = main_in(whole, 18);
     row_on(sw0, sw15, numbers, alt, out);
+    a
+}
+
+// The same for drag: d[5] summed again in the row that gtd7 gave.
+pub fn gtd7d(whole: &[i32], numbers: &[f64], alt: f64, out: &mut [f64]) -> Answer
+    ensures { λ r. ⌜ (r ≡ altitudeAnswer (length (now (out .entry))) (length (now (whole .entry))) (length (now (numbers .entry))) alt)
+        × (now (out .exit) ≡ altitudeDrag (now (whole .entry)) (now (numbers .entry)) alt (now (out .entry))) ⌝ }
+{
+    let a = gtd7(whole, numbers, alt, out);
+    if !accepted(a) {
+        return a;
+    }
+    let units = main_in(whole, 3);
+    drag_on(units, out);
     a
 }
 

@@ -1,0 +1,70 @@
+-- gtd7d of a station that its calls gave is the one-altitude gtd7d on the record as it then is.
+use mathlib.Core.Path.{_≡_, refl, sym, _∙_}
+use mathlib.Core.Bool.{Bool, true, false, cond}
+use mathlib.Core.List.{List}
+use lib.IntN.{ℤ, pos}
+use lib.ListN.{length, getD}
+use lib.Ieee.{Float}
+use Rattle.setting.specs.declared.Input.{Input}
+use Rattle.setting.specs.Switches.{isOne, onOff, swAt}
+use Rattle.acceptance.specs.declared.Answer.the-variants.{Accepted}
+use Rattle.acceptance.specs.Acceptance.{acceptedOf, withAltOf}
+use Rattle.atmosphere.specs.Atmosphere.{elevenOf, answerOf, rowAfter}
+use Rattle.shutoff.specs.Shut.{Alike}
+use Rattle.shutoff.specs.Theorems.{alike-at}
+use Rattle.drag_sum.specs.DragSum.{draggedOf}
+use Rattle.drag.specs.Drag.{dragOf, dragAfter}
+use Rattle.drag.specs.Theorems.{demand-3-drag}
+use Rattle.station.specs.Station.{wholeOf, numbersOf, altitudeAnswer, altitudeRow, altitudeDrag, Change}
+use Rattle.station.specs.Theorems.{Held, recordAfter, stationAfter, kept, altitude-told}
+
+-- where the row is written, the sum sees what is written
+seen : (b : Bool) (f : List Float → List Float) (x r : List Float) → cond b (f x) r ≡ cond b (f (cond b x r)) r
+seen true f x r = refl
+seen false f x r = refl
+
+main-0 : (w : List ℤ) (n : Input) → onOff (isOne (getD (wholeOf w n) 3 (pos 0))) ≡ swAt w 0
+unfolding wholeOf
+main-0 w n = refl
+
+-- gtd7d of a station is its gtd7 with d[5] summed again
+pub summed : (whole : List ℤ) (xs : List Float) (z : Float) (row : List Float)
+    → altitudeDrag whole xs z row
+    ≡ cond (acceptedOf (altitudeAnswer (length row) (length whole) (length xs) z)) (draggedOf (onOff (isOne (getD whole 3 (pos 0)))) (altitudeRow whole xs z row)) row
+unfolding altitudeDrag altitudeRow
+summed whole xs z row = seen (acceptedOf (altitudeAnswer (length row) (length whole) (length xs) z)) (draggedOf (onOff (isOne (getD whole 3 (pos 0))))) _ row
+
+-- An altitude of a station that holds a record: gtd7d's row with that altitude; the answer is `altitude-told`'s
+pub drag-told : (w : List ℤ) (n : Input) (z : Float) (row : List Float) → Held w n
+    → altitudeDrag (wholeOf w n) (numbersOf w n) z row ≡ dragAfter w (withAltOf n z) row
+unfolding dragAfter dragOf rowAfter
+drag-told w n z row h =
+    let t = altitude-told w n z row h in
+    summed (wholeOf w n) (numbersOf w n) z row
+    ∙ rw (t .0, t .1, main-0 w n)
+    (sym (seen (acceptedOf (answerOf w (withAltOf n z) (length row))) (draggedOf (swAt w 0)) (elevenOf w (withAltOf n z)) row))
+
+-- the same after any changes: the record as it then is
+pub drag-kept : (w : List ℤ) (n : Input) (cs : List Change) (z : Float) (row : List Float) → Held w n
+    → altitudeDrag (wholeOf w n) (stationAfter (wholeOf w n) (numbersOf w n) cs) z row ≡ dragAfter w (withAltOf (recordAfter w n cs) z) row
+drag-kept w n cs z row h =
+    let r = kept w n cs h in
+    rw (r .0, ← r .1) (drag-told w (recordAfter w n cs) z row (r .2))
+
+-- Demand 3 for gtd7d of stations, as `demand-3-station` has it for gtd7.
+pub demand-3-station-drag : (w : List ℤ) (a b : Input) (z : Float) (xs ys : List Float)
+    → Alike w a b
+    → Held w a
+    → Held w b
+    → altitudeAnswer (length xs) (length (wholeOf w a)) (length (numbersOf w a)) z ≡ Accepted
+    → altitudeAnswer (length ys) (length (wholeOf w b)) (length (numbersOf w b)) z ≡ Accepted
+    → (altitudeDrag (wholeOf w a) (numbersOf w a) z xs ≡ altitudeDrag (wholeOf w b) (numbersOf w b) z ys)
+    × (altitudeDrag (wholeOf w a) (numbersOf w a) z xs ≡ dragOf w (withAltOf a z))
+    × (altitudeDrag (wholeOf w b) (numbersOf w b) z ys ≡ dragOf w (withAltOf b z))
+demand-3-station-drag w a b z xs ys like ha hb ea eb =
+    let p = drag-told w a z xs ha in
+    let q = drag-told w b z ys hb in
+    let ta = sym ((altitude-told w a z xs ha) .0) ∙ ea in
+    let tb = sym ((altitude-told w b z ys hb) .0) ∙ eb in
+    let d = demand-3-drag w (withAltOf a z) (withAltOf b z) xs ys (alike-at w a b z like) ta tb in
+    (p ∙ d .0 ∙ sym q, p ∙ d .1, q ∙ d .2)
