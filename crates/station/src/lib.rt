@@ -273,8 +273,8 @@ pub fn gtd7d(whole: &[i32], numbers: &[f64], alt: f64, out: &mut [f64]) -> Answe
     if !accepted(a) {
         return a;
     }
-    let sw0 = main_in(whole, 3);
-    drag_on(sw0, out);
+    let units = main_in(whole, 3);
+    drag_on(units, out);
     a
 }
 
