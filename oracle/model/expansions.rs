@@ -243,3 +243,67 @@ fn lengths(g: &mut Random, count: u64) -> u64 {
 pub fn expansions(g: &mut Random, count: u64) -> u64 {
     lengths(g, count) + compare("globe7", g, count, 150, expansion_globe7, want_globe7) + compare("glob7s", g, count, 100, expansion_glob7s, want_glob7s)
 }
+
+// A p[24] at or below 1.0E-4: the bound itself, a neighbour, zeros, negative numbers of any size, an infinity.
+fn low(g: &mut Random) -> f64 {
+    match g.below(8) {
+        0 => 1.0e-4,
+        1 => f64::from_bits(1.0e-4f64.to_bits() - 1 - g.below(3)),
+        2 => [0.0, -0.0, f64::NEG_INFINITY, f64::MIN, -f64::MIN_POSITIVE][g.below(5) as usize],
+        3 => -g.between(0.0, 1.0) * 10f64.powi(g.below(600) as i32 - 300),
+        4 => g.between(0.0, 1.0e-4),
+        _ => g.between(-1.0, 1.0e-4),
+    }
+}
+
+// Pairs of sets that differ only in p[24], at or below 1.0E-4 in both: globe7 gives one answer, value and State for the two, and the routed Rust's.
+// Beside them p[24] at 1.0E-4 against one just above it, where the two may differ: how often they did, and the first such pair.
+pub fn raised(g: &mut Random, count: u64) -> u64 {
+    let sets = shim::sets();
+    let (mut accepted, mut bad, mut apart, mut modes) = (0u64, 0u64, 0u64, [0u64; 4]);
+    for i in 0..count {
+        let mut w = row_of(g);
+        // every mode of switch 9: the history, none, the daily ap, any other number
+        let mode = g.below(4);
+        w[9] = [-1, 0, 1, g.below(9) as i32 - 5][mode as usize];
+        let mut r = record(g);
+        if i % 8 == 0 {
+            r = far(g, r);
+        }
+        let mut p = coefficients(g, &sets, 150);
+        let s = state(g);
+        if p.len() > 24 {
+            p[24] = low(g);
+        }
+        let mut q = p.clone();
+        if q.len() > 24 {
+            q[24] = low(g);
+        }
+        let (one, two) = (ours(expansion_globe7, &r, &w, &p, &s), ours(expansion_globe7, &r, &w, &q, &s));
+        let (want, other) = (want_globe7(&r, &w, &p, &s), want_globe7(&r, &w, &q, &s));
+        let alike = |a: &Given, b: &Given| a.answer == b.answer && a.numbers.iter().zip(&b.numbers).all(|(x, y)| same(*x, *y));
+        if want.answer == (0, 0) {
+            accepted += 1;
+            modes[mode as usize] += 1;
+        }
+        if !(alike(&one, &two) && alike(&one, &want) && alike(&want, &other)) {
+            bad += 1;
+            if bad <= 3 {
+                println!("raised differs: p[24] {:?} and {:?}\n  {r:?}\n  switches {w:?}\n  coefficients {p:?}", p.get(24), q.get(24));
+            }
+        }
+        // just above the bound nothing is raised, and the number counts
+        if p.len() == 150 {
+            (p[24], q[24]) = (1.0e-4, 1.1e-4);
+            let (one, two) = (ours(expansion_globe7, &r, &w, &p, &s), ours(expansion_globe7, &r, &w, &q, &s));
+            if one.answer == (0, 0) && !alike(&one, &two) {
+                apart += 1;
+                if apart == 1 {
+                    println!("p[24] at 1.0E-4 and at 1.1E-4, switch 9 at {}: values {:?} and {:?}", w[9], one.numbers[0], two.numbers[0]);
+                }
+            }
+        }
+    }
+    println!("pairs that differ only in p[24]: {count}, {accepted} accepted (switch 9 at -1: {}, 0: {}, 1: {}, another: {}), {bad} differences; at 1.0E-4 and 1.1E-4 {apart} pairs were apart", modes[0], modes[1], modes[2], modes[3]);
+    bad
+}

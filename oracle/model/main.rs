@@ -629,6 +629,7 @@ fn main() {
         Some("pairs-d") => pairs(&GTD7D, &mut g, count),
         Some("states") => states(&mut g, count),
         Some("expansions") => expansions::expansions(&mut g, count),
+        Some("raised") => expansions::raised(&mut g, count),
         Some("columns") => columns(&mut g, count),
         Some("lines") => lines::good(&args[4], &mut g, count),
         Some("hostile") => lines::hostile(&args[4], &mut g, count),
@@ -653,7 +654,7 @@ fn main() {
             0
         }
         _ => {
-            eprintln!("model differential|gtd7d|lengths|pairs|pairs-d|states|expansions|columns|stations|hostile-stations|near|near-d|near-any [SEED] [COUNT], lines|hostile SEED COUNT PROGRAM, forms SEED COUNT INPUT OUTPUT, samples FILE, counts, time");
+            eprintln!("model differential|gtd7d|lengths|pairs|pairs-d|states|expansions|raised|columns|stations|hostile-stations|near|near-d|near-any [SEED] [COUNT], lines|hostile SEED COUNT PROGRAM, forms SEED COUNT INPUT OUTPUT, samples FILE, counts, time");
             std::process::exit(2);
         }
     };
