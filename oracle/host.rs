@@ -15,10 +15,11 @@ pub type OneAltitude = unsafe extern "C" fn(
     n_row: usize,
 ) -> u64;
 
-macro_rules! one_altitude {
-    ($call:ident) => {
+// Calls of a library that take a record and a switch row, and then the slices named.
+macro_rules! of_a_record {
+    ($($call:ident($($slice:ident: $kind:ty, $length:ident),*);)*) => {
         extern "C" {
-            #[allow(dead_code)]
+            $(#[allow(dead_code)]
             pub fn $call(
                 year: i32,
                 doy: i32,
@@ -28,45 +29,24 @@ macro_rules! one_altitude {
                 n_ap: usize,
                 switches: *const i32,
                 n_switches: usize,
-                row: *mut f64,
-                n_row: usize,
-            ) -> u64;
+                $($slice: $kind, $length: usize),*
+            ) -> u64;)*
         }
     };
 }
-one_altitude!(potirehu_gtd7);
-one_altitude!(potirehu_gtd7d);
+#[allow(unused_imports)]
+pub(crate) use of_a_record;
+
+of_a_record! {
+    potirehu_gtd7(row: *mut f64, n_row);
+    potirehu_gtd7d(row: *mut f64, n_row);
+    potirehu_gtd7_column(altitudes: *const f64, n, rows: *mut f64, n_rows);
+    potirehu_station(whole: *mut i32, n_whole, numbers: *mut f64, n_numbers);
+}
 
 extern "C" {
-    fn potirehu_gtd7_column(
-        year: i32,
-        doy: i32,
-        fields: *const f64,
-        n_fields: usize,
-        ap_array: *const f64,
-        n_ap: usize,
-        switches: *const i32,
-        n_switches: usize,
-        altitudes: *const f64,
-        n: usize,
-        rows: *mut f64,
-        n_rows: usize,
-    ) -> u64;
-    fn potirehu_station(
-        year: i32,
-        doy: i32,
-        fields: *const f64,
-        n_fields: usize,
-        ap_array: *const f64,
-        n_ap: usize,
-        switches: *const i32,
-        n_switches: usize,
-        whole: *mut i32,
-        n_whole: usize,
-        numbers: *mut f64,
-        n_numbers: usize,
-    ) -> u64;
     fn potirehu_station_gtd7(whole: *const i32, n_whole: usize, numbers: *const f64, n_numbers: usize, alt: f64, row: *mut f64, n_row: usize) -> u64;
+    #[allow(dead_code)]
     fn potirehu_station_gtd7d(whole: *const i32, n_whole: usize, numbers: *const f64, n_numbers: usize, alt: f64, row: *mut f64, n_row: usize) -> u64;
     fn potirehu_station_sec(whole: *mut i32, n_whole: usize, numbers: *mut f64, n_numbers: usize, sec: f64) -> u64;
     fn potirehu_station_lst(whole: *mut i32, n_whole: usize, numbers: *mut f64, n_numbers: usize, lst: f64) -> u64;
@@ -160,6 +140,7 @@ pub fn station_gtd7(whole: &[i32], numbers: &[f64], alt: f64, row: &mut [f64]) -
     parted(unsafe { potirehu_station_gtd7(whole.as_ptr(), whole.len(), numbers.as_ptr(), numbers.len(), alt, row.as_mut_ptr(), row.len()) })
 }
 
+#[allow(dead_code)]
 pub fn station_gtd7d(whole: &[i32], numbers: &[f64], alt: f64, row: &mut [f64]) -> (u64, u64) {
     parted(unsafe { potirehu_station_gtd7d(whole.as_ptr(), whole.len(), numbers.as_ptr(), numbers.len(), alt, row.as_mut_ptr(), row.len()) })
 }

@@ -21,30 +21,10 @@ type Call = unsafe extern "C" fn(
 ) -> u64;
 
 // A call: its value and the State after it go into numbers, the refusal comes back packed.
-macro_rules! exported {
-    ($call:ident) => {
-        extern "C" {
-            fn $call(
-                year: i32,
-                doy: i32,
-                fields: *const f64,
-                n_fields: usize,
-                ap_array: *const f64,
-                n_ap: usize,
-                switches: *const i32,
-                n_switches: usize,
-                p: *const f64,
-                n_p: usize,
-                state: *const f64,
-                n_state: usize,
-                numbers: *mut f64,
-                n_numbers: usize,
-            ) -> u64;
-        }
-    };
+crate::host::of_a_record! {
+    expansion_globe7(p: *const f64, n_p, state: *const f64, n_state, numbers: *mut f64, n_numbers);
+    expansion_glob7s(p: *const f64, n_p, state: *const f64, n_state, numbers: *mut f64, n_numbers);
 }
-exported!(expansion_globe7);
-exported!(expansion_glob7s);
 
 type State = [f64; shim::STATE];
 

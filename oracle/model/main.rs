@@ -14,19 +14,8 @@ use std::time::Instant;
 
 type Input = untouched::astro::atmosphere::NrlmsiseInput;
 
-extern "C" {
-    fn state_after_gtd7(
-        year: i32,
-        doy: i32,
-        fields: *const f64,
-        n_fields: usize,
-        ap_array: *const f64,
-        n_ap: usize,
-        switches: *const i32,
-        n_switches: usize,
-        numbers: *mut f64,
-        n_numbers: usize,
-    ) -> u64;
+host::of_a_record! {
+    state_after_gtd7(numbers: *mut f64, n_numbers);
 }
 
 // The record for another copy of the Rust.
