@@ -42,6 +42,20 @@ def one_of(*ranges):
     return lambda: (rng.uniform(*rng.choice(ranges)),)
 
 
+def tail(name, draw, exact, bound):
+    """Where results may be below 2^-1022: the worst share of 2^bound relatively or 2^-1072, whichever is more."""
+    global good
+    f, worst, at = function(name), mpf(0), None
+    for _ in range(count):
+        x = draw()
+        z = exact(*map(mpf, x))
+        share = abs(mpf(f(*x)) - z) / max(abs(z) * mpf(2) ** bound, mpf(2) ** -1072)
+        if share > worst:
+            worst, at = share, x
+    print(f"| {name}'s tail | {count} | {float(worst):.4f} of what is allowed | {at if len(at) > 1 else at[0]!r} | 2^{bound} relative or 2^-1072 |", flush=True)
+    good &= worst <= 1
+
+
 print("| function | compared with mpmath | worst error | at | allowed |\n|---|---|---|---|---|")
 report("exp", one_of((-1, 1), (-60, 10), (-708, 709)), exp, True, -40)
 report("log", lambda: (rng.choice([rng.uniform(0.5, 2), math.exp(rng.uniform(-700, 700)), rng.uniform(0, 1000)]),), log, False, -40)
@@ -49,4 +63,5 @@ report("sin", one_of((-1, 1), (-10, 10), (-200, 200), (-65536, 65536)), sin, Fal
 report("cos", one_of((-1, 1), (-10, 10), (-200, 200), (-65536, 65536)), cos, False, -40)
 report("pow", lambda: (rng.choice([rng.uniform(0.1, 10), math.exp(rng.uniform(-20, 20))]), rng.choice([rng.uniform(-32, 32), rng.uniform(1, 5), 2.0, 19.0])), power, True, -36)
 report("sqrt", one_of((0, 4), (0, 1e10)), sqrt, True, -53)
+tail("exp", one_of((-745.2, -708)), exp, -40)
 sys.exit(not good)

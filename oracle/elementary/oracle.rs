@@ -14,6 +14,7 @@ extern "C" {
 }
 
 const SMALLEST: f64 = 2.2250738585072014e-308; // 2^-1022
+const LEAST: f64 = 2e-323; // 2^-1072
 
 impl Random {
     // A point of the list, or one of its 16 neighbours on either side, with either sign.
@@ -68,6 +69,33 @@ impl Worst {
         let at = if pair { format!("({:e}, {:e})", self.at.0, self.at.1) } else { format!("{:e}", self.at.0) };
         println!("| {name} | {} | {} | 2^{:.2} {kind} | {at} | 2^{bound} |", self.compared, self.left_out, self.error.log2());
         self.error <= (bound as f64).exp2()
+    }
+}
+
+// Where results may be below 2^-1022: the worst share of what is allowed, which is the bound relatively or 2^-1072, whichever is more.
+struct Tail {
+    share: f64,
+    at: (f64, f64),
+    compared: u64,
+    below: u64,
+}
+
+impl Tail {
+    fn new() -> Tail {
+        Tail { share: 0.0, at: (0.0, 0.0), compared: 0, below: 0 }
+    }
+    fn take(&mut self, at: (f64, f64), ours: f64, theirs: f64, bound: i32) {
+        self.compared += 1;
+        self.below += (ours.abs() < SMALLEST) as u64;
+        let share = (ours - theirs).abs() / (theirs.abs() * (bound as f64).exp2()).max(LEAST);
+        if !(share <= self.share) {
+            self.share = if share.is_nan() { f64::INFINITY } else { share };
+            self.at = at;
+        }
+    }
+    fn report(&self, name: &str, bound: i32) -> bool {
+        println!("| {name} | {} | {} | {:.4} of what is allowed | {:?} | 2^{bound} relative or 2^-1072 |", self.compared, self.below, self.share, self.at);
+        self.share <= 1.0
     }
 }
 
@@ -150,6 +178,26 @@ fn main() {
     }
     println!("| sqrt | {count} | 0 | {different} differ from Rust's `.sqrt()` | {} | 0 |", if different > 0 { format!("{first:e}") } else { "-".to_string() });
     good &= different == 0;
+
+    println!("\n| function | compared with libm | results below 2^-1022 | worst difference | at | allowed |");
+    println!("|---|---|---|---|---|---|");
+    let mut points: Vec<f64> = (1021..=1075).map(|n| n as f64 * std::f64::consts::LN_2).collect();
+    points.extend([745.0, 708.0, 745.1332191019411, 745.1332191019412, 744.4400719213812]);
+    let mut w = Tail::new();
+    while w.compared < count {
+        let x = if r.next() % 4 == 0 { -r.near(&points).abs() } else { r.between(-745.2, -708.0) };
+        w.take((x, 0.0), unsafe { elementary_exp(x) }, libm::exp(x), -40);
+    }
+    good &= w.report("exp from -745.2 to -708", -40);
+    let mut w = Tail::new();
+    while w.compared < count {
+        let e = if r.next() % 2 == 0 { r.between(1.0, 32.0) } else { r.between(-32.0, -1.0) };
+        let b = (r.between(-745.0, -708.0) / e).exp();
+        if b > SMALLEST && b < f64::MAX {
+            w.take((b, e), unsafe { elementary_pow(b, e) }, libm::pow(b, e), -36);
+        }
+    }
+    good &= w.report("pow, results of that size", -36);
     if !good {
         println!("oracle: a bound is broken");
         std::process::exit(1);

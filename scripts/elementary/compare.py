@@ -27,7 +27,7 @@ def argument(low, high):
 
 
 special = [0.0, -0.0, math.inf, -math.inf, math.nan, 5e-324, 2.0**-1022, 1.0, 2.0, 0.5, 1.7976931348623157e308]
-special += [709.0, 708.0, 65536.0, math.pi, math.pi / 2] + [i / 256 for i in range(257)] + [i / 32 for i in range(33)] + [1 + i / 128 for i in range(129)]
+special += [709.0, 708.0, 745.0, 65536.0, math.pi, math.pi / 2] + [i / 256 for i in range(257)] + [i / 32 for i in range(33)] + [1 + i / 128 for i in range(129)]
 ranges = {"exp": (-750, 750), "log": (0, 1e6), "sin": (-70000, 70000), "cos": (-70000, 70000), "sqrt": (0, 1e10)}
 failed = 0
 for name, (low, high) in ranges.items():

@@ -68,21 +68,21 @@ def exp(x):
         return NAN
     if x > 709:
         return INF
-    if x < -708:
+    if x < -745:
         return 0.0
     s, _, _ = fields(x)
     if abs(x) <= 1:
         m = scaled(x, 58)
-        t, k = (2**58 - m if s else 2**58 + m), 1023
+        t, k = (2**58 - m if s else 2**58 + m), 1087
     else:
         m = scaled(x, 53)
         n = m // 2**32 * 3098164009 // 2**52 + s
         if s:
-            t, k = (2**53 + n * L - m) * 32 + 6 * n, 1023 - n
+            t, k = (2**53 + n * L - m) * 32 + 6 * n, 1087 - n
         else:
-            t, k = (2**53 + m - n * L) * 32 - 6 * n, 1023 + n
+            t, k = (2**53 + m - n * L) * 32 - 6 * n, 1087 + n
     assert 0 <= t <= 2**59
-    return nearest(exp_kernel(t) // 128 * 2**k, 2**1074)
+    return nearest(exp_kernel(t) // 128 * 2**k, 2**1138)
 
 
 def log(x):

@@ -106,12 +106,12 @@ near-series s m n E r p e l h g =
 
 -- ---- the float that exp returns there
 
-pub assembled-value : (v : ℕ) → v < 2 ^ 60 → HasValue (assembledOf v 1023) false (v / 128) (2 ^ 51)
+pub assembled-value : (v : ℕ) → v < 2 ^ 60 → HasValue (assembledOf v 1087) false (v / 128) (2 ^ 51)
 assembled-value v h =
     let q = v / 128 in
     let l : q < 2 ^ 53 = omega arith in
     subst (λ (x : Float). HasValue x false q (2 ^ 51))
-    (sym (round-same binary64 false (q * 2 ^ 1023) (2 ^ 1074) q (2 ^ 51) (pow-pos 1074) (pow-pos 51) (mul-assoc q (2 ^ 1023) (2 ^ 51))))
+    (sym (round-same binary64 false (q * 2 ^ 1087) (2 ^ 1138) q (2 ^ 51) (pow-pos 1138) (pow-pos 51) (mul-assoc q (2 ^ 1087) (2 ^ 51))))
     (round-exact binary64 false q (2 ^ 51) q 1023 (pow-pos 51) l (lt-of-lt-of-le (shl-lt 53 1023 l) (pow-mono {i = 1076} {j = 2098} (lit≤ {m = 1076} {n = 2098} tt))) (sym (mul-assoc q (2 ^ 1023) (2 ^ 51))))
 
 -- ---- exp itself
@@ -119,9 +119,9 @@ assembled-value v h =
 -- the tests that lead to the kernel with no reduction
 inside-is : (s : Bool) (m : ℕ) (e : ℤ) → Within (fin s m e) 1 → expOf (fin s m e) ≡ insideOf (digit s) (scaledOf 58 (fin s m e))
 unfolding isNan
-inside-is s m e h = exp-inside (fin s m e) refl (not-over s m e 1 h 709 0 (lit≤ {m = 1} {n = 709} tt)) (not-under s m e 1 h 177 2 (lit≤ {m = 1} {n = 708} tt)) (within-over 1 1 (fin s m e) (lit≤ {m = 1} {n = 1} tt) h)
+inside-is s m e h = exp-inside (fin s m e) refl (not-over s m e 1 h 709 0 (lit≤ {m = 1} {n = 709} tt)) (not-under s m e 1 h 745 0 (lit≤ {m = 1} {n = 745} tt)) (within-over 1 1 (fin s m e) (lit≤ {m = 1} {n = 1} tt) h)
 
-side-is : (s : Bool) (m : ℕ) → insideOf (digit s) m ≡ assembledOf (kernelOf (asked s m)) 1023
+side-is : (s : Bool) (m : ℕ) → insideOf (digit s) m ≡ assembledOf (kernelOf (asked s m)) 1087
 side-is false m = refl
 side-is true m = refl
 

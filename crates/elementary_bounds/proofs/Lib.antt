@@ -5,6 +5,8 @@ pub mod ExpKernel
 pub mod Homogeneous
 pub mod Nearness
 pub mod ExpNear
+pub mod ExpTail
+pub mod ExpSome
 pub mod LogSeries
 pub mod LogKernel
 pub mod LogSum

@@ -14,9 +14,9 @@ use lib.Ieee.Back.{whole-unique}
 use lib.Ieee.Exact.{HasValue}
 use lib.Ieee.Fits.{and-l, and-r, down-pos}
 use Rattle.fixed_point.specs.Float.{Within, over, one, nought, tiny}
-use Rattle.fixed_point.proofs.Range.{not-negative, passes-left, passes-right}
+use Rattle.fixed_point.proofs.Range.{clash, not-negative, passes-left, passes-right}
 use Rattle.natural_exponential.specs.Exp.{coarse, fine, expOf, most, least}
-use Rattle.natural_exponential.proofs.Cases.{exp-most, exp-least}
+use Rattle.natural_exponential.proofs.Cases.{exp-most, exp-least, least-most}
 use Rattle.natural_logarithm.specs.Log.{fractionOf, differenceOf, logOf}
 use Rattle.natural_logarithm.proofs.LogCases.{difference-plus, difference-minus, log-negative, log-tiny, log-one}
 use Rattle.circular_tables.specs.Tables.{sines, cosines}
@@ -27,15 +27,14 @@ use Rattle.square_root.proofs.RootCases.{sqrt-negative}
 use Rattle.elementary.specs.Pow.{wholeOf, productOf, powOf}
 use Rattle.elementary.proofs.PowCases.{pow-two, pow-whole, pow-of-zero, pow-of-infinity, pow-rest, sides-above, sides-below, rest-negative, rest-nan, rest-nan-exponent, rest-is}
 use Rattle.elementary_bounds.specs.Series.{NearLog}
-use Rattle.elementary_bounds.specs.Theorems.{numerator, denominator, HasDifference, ExpNear, SinNear, CosNear, LogNear, SinSize, CosSize, SqrtNear, ExpZero, ExpEnds, LogEnds, SinCosZero, SinBeyond, CosBeyond, SqrtEnds, PowTwo, PowRules, PowWhole, PowLast}
+use Rattle.elementary_bounds.specs.Theorems.{numerator, denominator, HasDifference, ExpNear, ExpTail, ExpKept, ExpSome, ExpPlus, SinNear, CosNear, LogNear, SinSize, CosSize, SqrtNear, ExpZero, ExpEnds, LogEnds, SinCosZero, SinBeyond, CosBeyond, SqrtEnds, PowTwo, PowRules, PowWhole, PowLast}
 use Rattle.elementary_bounds.proofs.ExpNear.{exp-near}
+use Rattle.elementary_bounds.proofs.ExpTail.{exp-tail, exp-kept, exp-plus}
+use Rattle.elementary_bounds.proofs.ExpSome.{exp-some}
 use Rattle.elementary_bounds.proofs.TrigNear.{sin-near, cos-near, sin-size, cos-size}
 use Rattle.elementary_bounds.proofs.LogFloat.{Bounded, near-raised, log-near-above, log-near-below}
 use Rattle.elementary_bounds.proofs.RootNear.{root-near}
 use Rattle.elementary_bounds.proofs.LogValues.{log-two, log-two-near, fraction-value}
-
-clash : {X : Type 0} → true ≡ false → X
-clash e = absurd (subst T e tt)
 
 -- ---- the series
 
@@ -43,6 +42,12 @@ pub ExpNear-is : ExpNear
 ExpNear-is nan h = absurd h
 ExpNear-is (inf s) h = absurd h
 ExpNear-is (fin s m e) h = exp-near s m e h
+
+pub ExpTail-is : ExpTail
+ExpTail-is = exp-tail
+
+pub ExpKept-is : ExpKept
+ExpKept-is = exp-kept
 
 pub SinNear-is : SinNear
 SinNear-is nan h = absurd h
@@ -244,6 +249,12 @@ LogNear-is (fin false m e) fx s h k =
 
 -- ---- sizes
 
+pub ExpSome-is : ExpSome
+ExpSome-is = exp-some
+
+pub ExpPlus-is : ExpPlus
+ExpPlus-is = exp-plus
+
 pub SinSize-is : SinSize
 SinSize-is = sin-size
 
@@ -265,17 +276,9 @@ unfolding expOf isNan lt coarse fine round
 ExpZero-is true = refl
 ExpZero-is false = refl
 
-not-both : (x : Float) → lt x least ≡ true → lt most x ≡ false
-unfolding lt
-not-both nan h = clash (sym h)
-not-both (inf true) h = refl
-not-both (inf false) h = clash (sym h)
-not-both (fin true m e) h = refl
-not-both (fin false m e) h = clash (sym h)
-
 pub ExpEnds-is : ExpEnds
 unfolding expOf isNan
-ExpEnds-is = (refl, λ x h. exp-most x (passes-right most x h) h, λ x h. exp-least x (passes-left x least h) (not-both x h) h)
+ExpEnds-is = (refl, λ x h. exp-most x (passes-right most x h) h, λ x h. exp-least x (passes-left x least h) (least-most x h) h)
 
 pub LogEnds-is : LogEnds
 unfolding logOf isNan lt eq

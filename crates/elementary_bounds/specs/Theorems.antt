@@ -1,14 +1,15 @@
 -- What holds of the elementary functions, each statement with its meaning in words. `proofs/Proved.antt` proves each: `ExpNear-is : ExpNear`, and so on.
 -- A finite float is ±n / d, with the numerator n and the denominator d below; `HasValue y s a c` says that y is a / c with the sign s, exactly.
-use Prim.Native.Nat.{ℕ, _+_, _-_, _*_, _^_, _≤_, _<_}
+use Prim.Native.Nat.{ℕ, _+_, _-_, _*_, _/_, _^_, _≤_, _<_}
 use mathlib.Core.Path.{_≡_}
 use mathlib.Core.Bool.{Bool, true, false}
 use lib.Dec.{T}
 use lib.IntN.{ℤ, pos, negsuc}
-use lib.Ieee.{Float, nan, inf, fin, binary64, up, down, fits, ofInt, mul, lt, eq, isNan}
+use lib.Ieee.{Float, nan, inf, fin, binary64, up, down, round, fits, ofInt, mul, lt, eq, isNan}
 use lib.Ieee.Exact.{HasValue}
-use Rattle.fixed_point.specs.Float.{Within, one, nought, tiny}
-use Rattle.natural_exponential.specs.Exp.{expOf, most, least}
+use Rattle.fixed_point.specs.Fixed.{scaledOf, offsetOf}
+use Rattle.fixed_point.specs.Float.{Within, over, minusSign, one, nought, tiny}
+use Rattle.natural_exponential.specs.Exp.{kernelOf, timesOf, restOf, expOf, most, least}
 use Rattle.natural_logarithm.specs.Log.{logOf}
 use Rattle.circular_functions.specs.Trig.{signOf, sinOf, cosOf}
 use Rattle.square_root.specs.Root.{sqrtOf}
@@ -29,6 +30,10 @@ abbrev pub negative : Float → Bool
 negative nan = false
 negative (inf s) = s
 negative (fin s m e) = s
+
+-- -708
+abbrev pub faint : Float
+faint = fin true 177 (pos 2)
 
 -- y is (p - n) / c exactly
 abbrev pub HasDifference : Float → ℕ → ℕ → ℕ → Type 0
@@ -63,7 +68,36 @@ LogNear =
     × (denominator x ≤ numerator x → NearLog p n (numerator x - denominator x) (numerator x + denominator x))
     × (numerator x ≤ denominator x → NearLog n p (denominator x - numerator x) (numerator x + denominator x))
 
+-- The fraction that exp rounds below -1 is fadingOf x / 2 ^ 1138: the kernel's number over 128, and n halvings,
+-- where n is how often log 2 goes into |x|, or one time less, and one more.
+abbrev pub fadingOf : Float → ℕ
+fadingOf x = kernelOf (restOf 1 (scaledOf 53 x) (timesOf (scaledOf 53 x) + 1)) / 128 * 2 ^ (1087 - (timesOf (scaledOf 53 x) + 1))
+
+-- From -745 up to -708, exp x is r / 2 ^ 1074 exactly, for an r within 1 of fadingOf x / 2 ^ 64: it lies within 2 ^ -1074 of the fraction.
+-- There, and nowhere else, it may be below 2 ^ -1022.
+abbrev pub ExpTail : Type 0
+ExpTail =
+    (x : Float) → lt x least ≡ false → lt x faint ≡ true
+    → (r : ℕ) × HasValue (expOf x) false r (2 ^ 1074) × (r * 2 ^ 64 ≤ fadingOf x + 2 ^ 64) × (fadingOf x ≤ r * 2 ^ 64 + 2 ^ 64)
+
+-- From -708 to 709, exp x is the nearest float to the same number over 2 ^ 1074, with an exponent from 1 on.
+abbrev pub ExpKept : Type 0
+ExpKept =
+    (x : Float) → isNan x ≡ false → lt most x ≡ false → lt x faint ≡ false
+    → (over 1 x ≡ true → expOf x ≡ round binary64 false (kernelOf (restOf (minusSign x) (scaledOf 53 x) (timesOf (scaledOf 53 x) + minusSign x)) / 128 * 2 ^ offsetOf (minusSign x) 1023 (timesOf (scaledOf 53 x) + minusSign x)) (2 ^ 1074))
+    × (over 1 x ≡ false → expOf x ≡ round binary64 false (kernelOf (offsetOf (minusSign x) (2 ^ 58) (scaledOf 58 x)) / 128 * 2 ^ 1023) (2 ^ 1074))
+
 -- ---- sizes
+
+-- exp is above 0 from -745 on: it gives 0 only below (`ExpEnds`).
+-- +infinity is included.
+abbrev pub ExpSome : Type 0
+ExpSome = (x : Float) → isNan x ≡ false → lt x least ≡ false → lt nought (expOf x) ≡ true
+
+-- exp of anything but NaN is neither NaN nor negative, and never -0.
+-- Both infinities are included.
+abbrev pub ExpPlus : Type 0
+ExpPlus = (x : Float) → isNan x ≡ false → (isNan (expOf x) ≡ false) × (negative (expOf x) ≡ false) × (lt (expOf x) nought ≡ false)
 
 -- Wherever sin x is a number, that is for |x| up to 65,536, it is at most 1 in size.
 -- Elsewhere it is NaN (`SinBeyond`).
@@ -93,7 +127,7 @@ SqrtNear =
 abbrev pub ExpZero : Type 0
 ExpZero = (s : Bool) → expOf (fin s 0 (pos 0)) ≡ one
 
--- exp of NaN is NaN, above 709 it is +infinity, and below -708 it is 0.
+-- exp of NaN is NaN, above 709 it is +infinity, and below -745 it is 0.
 -- Both infinities are such arguments.
 abbrev pub ExpEnds : Type 0
 ExpEnds = (expOf nan ≡ nan) × ((x : Float) → lt most x ≡ true → expOf x ≡ inf false) × ((x : Float) → lt x least ≡ true → expOf x ≡ nought)

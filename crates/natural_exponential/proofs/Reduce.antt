@@ -23,19 +23,23 @@ module _ (m : ℕ) where
   pub times-le : timesOf m * 6243314768165359 ≤ m
   times-le = omega (arith, under m (m / 2 ^ 32) (timesOf m) (quotients m .0) (omega (arith, times (m / 2 ^ 32 * 3098164009) .0)))
 
-  pub times-ge : m ≤ 709 * 2 ^ 53 → m ≤ timesOf m * 6243314768165359 + 6243314768165359 + 12884901888
+  pub times-ge : m ≤ 745 * 2 ^ 53 → m ≤ timesOf m * 6243314768165359 + 6243314768165359 + 12884901888
   times-ge h = omega (arith, over m (m / 2 ^ 32) (timesOf m) (omega arith) (quotients m .1) (omega (arith, times (m / 2 ^ 32 * 3098164009) .1)))
 
   pub times-few : m ≤ 709 * 2 ^ 53 → timesOf m ≤ 1022
   times-few h = omega arith
 
-  pub times-fewer : m ≤ 708 * 2 ^ 53 → timesOf m ≤ 1021
-  times-fewer h = omega arith
+  pub times-many : m ≤ 745 * 2 ^ 53 → timesOf m ≤ 1074
+  times-many h = omega arith
 
 -- ---- what is left, and that no step of it goes below 0 or beyond 2 ^ 64
 
+positive : (n : ℕ) → suc n ≡ 0 → ⊥
+positive n e = omega arith
+
 pub record Reduced (s m n : ℕ) : Type 0 where
-  pub few : n ≤ 1022
+  pub few : n ≤ 1075
+  pub fewer : s ≡ 0 → n ≤ 1022
   pub some : chooseOf s (n * 6243314768165359) m ≤ 2 ^ 53 + chooseOf s m (n * 6243314768165359)
   pub small : gapOf s m n * 32 + n * 6 < 2 ^ 64
   pub more : (1 - s ≡ 0 → ⊥) → n * 6 ≤ gapOf s m n * 32
@@ -43,16 +47,13 @@ pub record Reduced (s m n : ℕ) : Type 0 where
 
 module _ (m n : ℕ) (f : n ≤ 1022) (h : n * 6243314768165359 ≤ m) (k : m ≤ n * 6243314768165359 + 6243314768165359 + 12884901888) where
   upwards : Reduced 0 m n
-  upwards = record { few = f; some = omega arith; small = omega arith; more = λ z. omega arith; inside = omega arith }
+  upwards = record { few = omega arith; fewer = λ z. f; some = omega arith; small = omega arith; more = λ z. omega arith; inside = omega arith }
 
-module _ (m n : ℕ) (f : n ≤ 1021) (h : n * 6243314768165359 ≤ m) (k : m ≤ n * 6243314768165359 + 6243314768165359 + 12884901888) where
+module _ (m n : ℕ) (f : n ≤ 1074) (h : n * 6243314768165359 ≤ m) (k : m ≤ n * 6243314768165359 + 6243314768165359 + 12884901888) where
   downwards : Reduced 1 m (n + 1)
-  downwards = record { few = omega arith; some = omega arith; small = omega arith; more = λ z. absurd (z refl); inside = omega arith }
+  downwards = record { few = omega arith; fewer = λ z. absurd (positive 0 z); some = omega arith; small = omega arith; more = λ z. absurd (z refl); inside = omega arith }
 
-pub reduced : (s m : ℕ) → s ≤ 1 → m ≤ 709 * 2 ^ 53 → ((s ≡ 0 → ⊥) → m ≤ 708 * 2 ^ 53) → Reduced s m (timesOf m + s)
-reduced zero m l h k = subst (λ (n : ℕ). Reduced 0 m n) (sym (add-zero (timesOf m))) (upwards m (timesOf m) (times-few m h) (times-le m) (times-ge m h))
-reduced (suc zero) m l h k = downwards m (timesOf m) (times-fewer m (k (positive 0))) (times-le m) (times-ge m h)
-  where
-    positive : (n : ℕ) → suc n ≡ 0 → ⊥
-    positive n e = omega arith
+pub reduced : (s m : ℕ) → s ≤ 1 → m ≤ 745 * 2 ^ 53 → (s ≡ 0 → m ≤ 709 * 2 ^ 53) → Reduced s m (timesOf m + s)
+reduced zero m l h k = subst (λ (n : ℕ). Reduced 0 m n) (sym (add-zero (timesOf m))) (upwards m (timesOf m) (times-few m (k refl)) (times-le m) (times-ge m h))
+reduced (suc zero) m l h k = downwards m (timesOf m) (times-many m h) (times-le m) (times-ge m h)
 reduced (suc (suc s)) m l h k = absurd (not-suc-le-zero (le-of-suc-le-suc l))

@@ -56,9 +56,9 @@ compoundedOf c p = c + (p * (c / 2 ^ 38) + p * (c / 2 ^ 16 % 2 ^ 22) / 2 ^ 22) /
 abbrev pub kernelOf : ℕ → ℕ
 kernelOf t = compoundedOf (highOf (getD coarse (t / 2 ^ 53) 0) (getD fine (t / 2 ^ 48 % 32) 0)) (expm1Of (t % 2 ^ 48))
 
--- the nearest float to v / 128 * 2 ^ k / 2 ^ 1074
+-- the nearest float to v / 128 * 2 ^ k / 2 ^ 1138, below 2 ^ -1022 too; k is 1087 for a v in units of 2 ^ -58
 abbrev pub assembledOf : ℕ → ℕ → Float
-assembledOf v k = round binary64 false (v / 128 * 2 ^ k) (2 ^ 1074)
+assembledOf v k = round binary64 false (v / 128 * 2 ^ k) (2 ^ 1138)
 
 -- how often log 2 goes into m, in units of 2 ^ -53, or one time less
 abbrev pub timesOf : ℕ → ℕ
@@ -75,18 +75,18 @@ restOf s m n = offsetOf (1 - s) (gapOf s m n * 32) (n * 6)
 
 -- e ^ m, or e ^ -m, for m in units of 2 ^ -53: 2 ^ n, or 2 ^ -n, is left to the exponent
 abbrev pub reducedOf : ℕ → ℕ → Float
-reducedOf s m = assembledOf (kernelOf (restOf s m (timesOf m + s))) (offsetOf s 1023 (timesOf m + s))
+reducedOf s m = assembledOf (kernelOf (restOf s m (timesOf m + s))) (offsetOf s 1087 (timesOf m + s))
 
 -- e ^ m, or e ^ -m, for m in units of 2 ^ -58, from 0 to 1
 abbrev pub insideOf : ℕ → ℕ → Float
-insideOf s m = assembledOf (kernelOf (offsetOf s (2 ^ 58) m)) 1023
+insideOf s m = assembledOf (kernelOf (offsetOf s (2 ^ 58) m)) 1087
 
--- 709 and -708
+-- 709 and -745
 abbrev pub most : Float
 most = fin false 709 (pos 0)
 
 abbrev pub least : Float
-least = fin true 177 (pos 2)
+least = fin true 745 (pos 0)
 
 unfoldable pub expOf : Float → Float
 expOf x =

@@ -1,11 +1,13 @@
 -- `natural_exponential::reduced` meets its contract. Assumes nothing.
-use mathlib.Core.Path.{_≡_, sym, subst}
+use mathlib.Core.Path.{_≡_, refl, sym, subst}
+use mathlib.Core.Bool.{Bool, true, false, cond}
 use Prim.Native.Nat.{ℕ, _+_, _-_, _*_, _^_, _≤_, _<_}
 use native.Mathlib.Omega.{arith}
 use borrow.Author.Needs.{needs}
+use borrow.Author.Tests.{eqb-true}
 use lib.Dec.{eqb}
 use Rattle.fixed_point.specs.Fixed.{chooseOf, offsetOf}
-use Rattle.fixed_point.proofs.Choice.{either-le, either-ge}
+use Rattle.fixed_point.proofs.Choice.{either-le}
 use Rattle.natural_exponential.specs.Exp.{timesOf, gapOf, restOf}
 use Rattle.natural_exponential.proofs.Reduce.{Reduced, reduced}
 use Rattle.natural_exponential.proofs.reduced.Statement.{statement}
@@ -31,10 +33,10 @@ larger c =
     let s = c .before in
     subst (λ (n : ℕ). n ≤ 2 ^ 63) (sym (c .choose .ensures)) (either-le (eqb (s .args .s) 0) (first (s .args .m) (s .pre .1)) (second (timesOf (s .args .m) + s .args .s) (laws s .few)))
   where
-    first : (m : ℕ) → m ≤ 709 * 2 ^ 53 → m ≤ 2 ^ 63
+    first : (m : ℕ) → m ≤ 745 * 2 ^ 53 → m ≤ 2 ^ 63
     first m h = omega arith
 
-    second : (n : ℕ) → n ≤ 1022 → n * 6243314768165359 ≤ 2 ^ 63
+    second : (n : ℕ) → n ≤ 1075 → n * 6243314768165359 ≤ 2 ^ 63
     second n h = omega arith
 
 add-d : tie.Need-add-d
@@ -79,24 +81,23 @@ offset-requires-2 c κs =
     let f = laws (c .before .before .before) .few in
     (omega (arith, f), λ z. omega (arith, f))
 
-exponent : (s n : ℕ) → n ≤ 1022 → (1 ≤ offsetOf s 1023 n) × (offsetOf s 1023 n ≤ 2046)
-exponent s n h =
-    let a : 1 ≤ 1023 + n = omega arith in
-    let b : 1 ≤ 1023 - n = omega arith in
-    let c : 1023 + n ≤ 2046 = omega arith in
-    let d : 1023 - n ≤ 2046 = omega arith in
-    (either-ge (eqb s 0) a b, either-le (eqb s 0) c d)
+exponent : (s n : ℕ) → n ≤ 1075 → (s ≡ 0 → n ≤ 1022) → (1 ≤ offsetOf s 1087 n) × (offsetOf s 1087 n ≤ 2109)
+exponent s n h k = go (eqb s 0) (eqb-true s 0)
+  where
+    go : (b : Bool) → (b ≡ true → s ≡ 0) → (1 ≤ cond b (1087 + n) (1087 - n)) × (cond b (1087 + n) (1087 - n) ≤ 2109)
+    go true e = let l = k (e refl) in (omega arith, omega arith)
+    go false e = (omega arith, omega arith)
 
 returns : tie.Need-returns
 returns c =
     let s = c .before .before .before .before in
     let n = timesOf (s .args .m) + s .args .s in
-    let e = exponent (s .args .s) n (laws s .few) in (
+    let e = exponent (s .args .s) n (laws s .few) (laws s .fewer) in (
       rest-is (c .before),
       c .offset2 .ensures,
       subst (λ (t : ℕ). t ≤ 2 ^ 59) (sym (rest-is (c .before))) (laws s .inside),
       subst (λ (k : ℕ). 1 ≤ k) (sym (c .offset2 .ensures)) (e .0),
-      subst (λ (k : ℕ). k ≤ 2046) (sym (c .offset2 .ensures)) (e .1),
+      subst (λ (k : ℕ). k ≤ 2109) (sym (c .offset2 .ensures)) (e .1),
     )
 
 pub reduced-spec : {M : Type 1} → statement M

@@ -11,7 +11,7 @@ use lib.Ieee.Bits.{toBits-lt}
 use lib.Ieee.Scale.{finite}
 use Rattle.fixed_point.specs.Float.{Within, over, minusSign}
 use Rattle.fixed_point.proofs.Bits.{over-true, over-false, over-within, sign-is}
-use Rattle.fixed_point.proofs.Range.{between, minus-within, within-finite, within-scaled}
+use Rattle.fixed_point.proofs.Range.{between, plus-within, within-finite, within-scaled}
 use Rattle.natural_exponential.specs.Exp.{kernelOf, assembledOf}
 use Rattle.natural_exponential.proofs.Cases.{exp-reduced, exp-inside}
 use Rattle.natural_exponential.proofs.rest_of.Statement.{statement}
@@ -22,11 +22,11 @@ use Rattle.natural_exponential.proofs.rest_of.Tie as tie
 held : (c : tie.Start) → T (fits binary64 (c .args .x))
 held c = subst T (sym (c .good .0 .1)) tt
 
-in-reach : (c : tie.Start) → Within (c .args .x) 709
-in-reach c = between 709 0 177 2 709 (c .args .x) (c .pre .0) (c .pre .1) (c .pre .2) (lit≤ {m = 709} {n = 709} tt) (lit≤ {m = 708} {n = 709} tt)
+in-reach : (c : tie.Start) → Within (c .args .x) 745
+in-reach c = between 709 0 745 0 745 (c .args .x) (c .pre .0) (c .pre .1) (c .pre .2) (lit≤ {m = 709} {n = 745} tt) (lit≤ {m = 745} {n = 745} tt)
 
 reach-finite : (c : tie.Start) → T (finite (c .args .x))
-reach-finite c = within-finite (c .args .x) 709 (in-reach c)
+reach-finite c = within-finite (c .args .x) 745 (in-reach c)
 
 sign : (c : tie.Start) → toBits binary64 (c .args .x) / 2 ^ 63 ≡ minusSign (c .args .x)
 sign c = sign-is (c .args .x) (held c) (reach-finite c)
@@ -54,15 +54,15 @@ float-to-bits-b c = subst (λ (b : Bool). T (not b)) (sym (c .pre .0)) tt
 scaled-requires : tie.Need-scaled-requires
 scaled-requires c κs =
     let t = c .before in
-    (reach-finite t, lit≤ {m = 53} {n = 62} tt, lt-of-le-of-lt (within-scaled 53 709 (t .args .x) (in-reach t)) (lit< {m = 709 * 2 ^ 53} {n = 2 ^ 63} tt))
+    (reach-finite t, lit≤ {m = 53} {n = 62} tt, lt-of-le-of-lt (within-scaled 53 745 (t .args .x) (in-reach t)) (lit< {m = 745 * 2 ^ 53} {n = 2 ^ 63} tt))
 
 reduced-requires : tie.Need-reduced-requires
 reduced-requires c κs =
     let t = c .before .before in
     let x = t .args .x in (
       sign-le t,
-      subst (λ (n : ℕ). n ≤ 709 * 2 ^ 53) (sym (c .scaled .ensures)) (within-scaled 53 709 x (in-reach t)),
-      λ z. subst (λ (n : ℕ). n ≤ 708 * 2 ^ 53) (sym (c .scaled .ensures)) (within-scaled 53 708 x (minus-within 177 2 x (reach-finite t) (λ e. z (sign t ∙ e)) (t .pre .2))),
+      subst (λ (n : ℕ). n ≤ 745 * 2 ^ 53) (sym (c .scaled .ensures)) (within-scaled 53 745 x (in-reach t)),
+      λ z. subst (λ (n : ℕ). n ≤ 709 * 2 ^ 53) (sym (c .scaled .ensures)) (within-scaled 53 709 x (plus-within 709 0 x (reach-finite t) (sym (sign t) ∙ z) (t .pre .1))),
     )
 
 returns : tie.Need-returns
