@@ -165,18 +165,19 @@ pub fn kernel(t: u64) -> u64
     compounded(c, expm1(t % 281474976710656))
 }
 
-// v / 128 * 2^k / 2^1138 as a float. v / 128 over 2^51 is one, and so it is over 2^115: only the last product rounds, below
+// v / 128 * 2^k / 2^1138 as a float. v / 128 over 2^115 is one, and so it is over 2^51: only the last product rounds, below
 // 2^-1022 too.
 pub fn assembled(v: u64, k: u64) -> f64
     requires { ⌜ (128 ≤ v) × (v < 2 ^ 60) × (1 ≤ k) × (k ≤ 2110) ⌝ }
     ensures { λ r. ⌜ r ≡ assembledOf v k ⌝ }
 {
     let q = v / 128;
-    let f = (q as f64) * f64::from_bits(4377498837804122112);
-    if k <= 64 {
-        return f * f64::from_bits(4318952042648305664) * f64::from_bits(k * 4503599627370496);
+    if k <= 2046 {
+        return (q as f64)
+            * f64::from_bits(4089268461652410368)
+            * f64::from_bits(k * 4503599627370496);
     }
-    f * f64::from_bits((k - 64) * 4503599627370496)
+    (q as f64) * f64::from_bits(4377498837804122112) * f64::from_bits((k - 64) * 4503599627370496)
 }
 
 // What is left of an argument for the kernel: t, and the exponent k.
