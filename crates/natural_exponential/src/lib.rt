@@ -165,19 +165,18 @@ pub fn kernel(t: u64) -> u64
     compounded(c, expm1(t % 281474976710656))
 }
 
-// v / 128 * 2^k / 2^1138 as a float. v / 128 over 2^115 is one, and so it is over 2^51: only the last product rounds, below
-// 2^-1022 too.
+// v / 128 * 2^k / 2^1138 as a float. v / 128 over 2^115 is one, and so it is over 2^51: only the last step rounds, below
+// 2^-1022 too. Above 2^959 it is a quotient, so that the usual way stays a test and a product.
 pub fn assembled(v: u64, k: u64) -> f64
-    requires { ⌜ (128 ≤ v) × (v < 2 ^ 60) × (1 ≤ k) × (k ≤ 2110) ⌝ }
+    requires { ⌜ (128 ≤ v) × (v < 2 ^ 60) × (1 ≤ k) × (k ≤ 2109) ⌝ }
     ensures { λ r. ⌜ r ≡ assembledOf v k ⌝ }
 {
     let q = v / 128;
-    if k <= 2046 {
-        return (q as f64)
-            * f64::from_bits(4089268461652410368)
-            * f64::from_bits(k * 4503599627370496);
+    if 2046 < k {
+        return (q as f64) * f64::from_bits(4377498837804122112)
+            / f64::from_bits((2110 - k) * 4503599627370496);
     }
-    (q as f64) * f64::from_bits(4377498837804122112) * f64::from_bits((k - 64) * 4503599627370496)
+    (q as f64) * f64::from_bits(4089268461652410368) * f64::from_bits(k * 4503599627370496)
 }
 
 // What is left of an argument for the kernel: t, and the exponent k.
@@ -189,7 +188,7 @@ pub struct Rest {
 // For |x| = m in units of 2^-53: n times log 2 is taken off m, or m off n times log 2, and 2^n or 2^-n is left to the exponent.
 pub fn reduced(s: u64, m: u64) -> Rest
     requires { ⌜ (s ≤ 1) × (m ≤ 745 * 2 ^ 53) × (s ≡ 0 → m ≤ 709 * 2 ^ 53) ⌝ }
-    ensures { λ r. ⌜ (r .t ≡ restOf s m (timesOf m + s)) × (r .k ≡ offsetOf s 1087 (timesOf m + s)) × (r .t ≤ 2 ^ 59) × (1 ≤ r .k) × (r .k ≤ 2110) ⌝ }
+    ensures { λ r. ⌜ (r .t ≡ restOf s m (timesOf m + s)) × (r .k ≡ offsetOf s 1087 (timesOf m + s)) × (r .t ≤ 2 ^ 59) × (1 ≤ r .k) × (r .k ≤ 2109) ⌝ }
 {
     let n = m / 4294967296 * 3098164009 / 4503599627370496 + s;
     let u = n * 6243314768165359;
@@ -202,7 +201,7 @@ pub fn reduced(s: u64, m: u64) -> Rest
 // For |x| = m in units of 2^-58, at most 1: nothing is taken off.
 pub fn near(s: u64, m: u64) -> Rest
     requires { ⌜ m ≤ 2 ^ 58 ⌝ }
-    ensures { λ r. ⌜ (r .t ≡ offsetOf s (2 ^ 58) m) × (r .k ≡ 1087) × (r .t ≤ 2 ^ 59) × (1 ≤ r .k) × (r .k ≤ 2110) ⌝ }
+    ensures { λ r. ⌜ (r .t ≡ offsetOf s (2 ^ 58) m) × (r .k ≡ 1087) × (r .t ≤ 2 ^ 59) × (1 ≤ r .k) × (r .k ≤ 2109) ⌝ }
 {
     let t = offset(s, 288230376151711744, m);
     Rest { t: t, k: 1087 }
@@ -211,7 +210,7 @@ pub fn near(s: u64, m: u64) -> Rest
 // What is left of x, from -745 to 709.
 pub fn rest_of(x: f64) -> Rest
     requires { ⌜ (isNan x ≡ false) × (lt most x ≡ false) × (lt x least ≡ false) ⌝ }
-    ensures { λ r. ⌜ (assembledOf (kernelOf (r .t)) (r .k) ≡ expOf x) × (r .t ≤ 2 ^ 59) × (1 ≤ r .k) × (r .k ≤ 2110) ⌝ }
+    ensures { λ r. ⌜ (assembledOf (kernelOf (r .t)) (r .k) ≡ expOf x) × (r .t ≤ 2 ^ 59) × (1 ≤ r .k) × (r .k ≤ 2109) ⌝ }
 {
     let b = f64::to_bits(x);
     let s = b / 9223372036854775808;

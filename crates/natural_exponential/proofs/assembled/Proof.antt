@@ -7,7 +7,7 @@ use native.Mathlib.Omega.{arith}
 use borrow.Author.Needs.{needs}
 use lib.Dec.{T, le→leb}
 use lib.Ieee.{binary64, inFloat, nanBits, ofBits}
-use Rattle.fixed_point.proofs.Assemble.{fraction, over-51, over-115, assembled-is, same-fraction, power-no-nan}
+use Rattle.fixed_point.proofs.Assemble.{fraction, over-51, over-115, assembled-is, divided-is, same-quotient, power-no-nan}
 use Rattle.natural_exponential.proofs.assembled.Statement.{statement}
 use Rattle.natural_exponential.proofs.assembled.Tie as tie
 
@@ -22,13 +22,14 @@ float-from-bits-result c = tt
 float-from-bits-result-2 : tie.Need-float-from-bits-result-2
 float-from-bits-result-2 c =
     let s = c .before .before in
-    subst (λ (b : Bool). T (not b)) (sym (power-no-nan (s .args .k) (s .pre .2) (c .before .if1 .taken))) tt
+    subst (λ (b : Bool). T (not b)) (sym (power-no-nan (2110 - s .args .k) (omega (arith, s .pre .3)) (omega (arith, c .before .if1 .taken)))) tt
 
 returns : tie.Need-returns
 returns c =
     let s = c .before .before in
     let q = s .args .v / 128 in
-    assembled-is (fraction 4089268461652410368 q) q 115 (s .args .k) (over-115 q (omega arith) (omega arith)) (omega arith) (s .pre .2) (c .before .if1 .taken)
+    divided-is (fraction 4377498837804122112 q) q 51 (2110 - s .args .k) (over-51 q (omega arith) (omega arith)) (omega arith) (omega (arith, s .pre .3)) (omega (arith, c .before .if1 .taken))
+    ∙ same-quotient q (s .args .k) (omega (arith, s .pre .3))
 
 int-to-float-result-2 : tie.Need-int-to-float-result-2
 unfolding inFloat
@@ -41,18 +42,17 @@ float-from-bits-result-3 c = tt
 float-from-bits-result-4 : tie.Need-float-from-bits-result-4
 float-from-bits-result-4 c =
     let s = c .before .before in
-    subst (λ (b : Bool). T (not b)) (sym (power-no-nan (s .args .k - 64) (omega (arith, c .before .if1 .left)) (omega (arith, s .pre .3)))) tt
+    subst (λ (b : Bool). T (not b)) (sym (power-no-nan (s .args .k) (s .pre .2) (omega (arith, c .before .if1 .left)))) tt
 
 returns-2 : tie.Need-returns-2
 returns-2 c =
     let s = c .before .before in
     let q = s .args .v / 128 in
-    assembled-is (fraction 4377498837804122112 q) q 51 (s .args .k - 64) (over-51 q (omega arith) (omega arith)) (omega arith) (omega (arith, c .before .if1 .left)) (omega (arith, s .pre .3))
-    ∙ same-fraction q (s .args .k) (omega (arith, c .before .if1 .left))
+    assembled-is (fraction 4089268461652410368 q) q 115 (s .args .k) (over-115 q (omega arith) (omega arith)) (omega arith) (s .pre .2) (omega (arith, c .before .if1 .left))
 
 pub assembled-spec : {M : Type 1} → statement M
 assembled-spec =
     tie.close
     (tie.spec
-    int-to-float-result float-from-bits-result (λ c. search needs) float-from-bits-result-2 returns int-to-float-result-2 float-from-bits-result-3
-    (λ c. search needs) (λ c. search needs) float-from-bits-result-4 returns-2)
+    int-to-float-result float-from-bits-result (λ c. search needs) (λ c. search needs) float-from-bits-result-2 returns int-to-float-result-2
+    float-from-bits-result-3 (λ c. search needs) float-from-bits-result-4 returns-2)

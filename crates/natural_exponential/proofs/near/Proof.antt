@@ -25,7 +25,7 @@ returns c =
       refl,
       subst (λ (t : ℕ). t ≤ 2 ^ 59) (sym (c .offset .ensures)) (around (A .s) (A .m) (c .before .pre)),
       lit≤ {m = 1} {n = 1087} tt,
-      lit≤ {m = 1087} {n = 2110} tt,
+      lit≤ {m = 1087} {n = 2109} tt,
     )
 
 pub near-spec : {M : Type 1} → statement M

@@ -81,10 +81,10 @@ offset-requires-2 c κs =
     let f = laws (c .before .before .before) .few in
     (omega (arith, f), λ z. omega (arith, f))
 
-exponent : (s n : ℕ) → n ≤ 1075 → (s ≡ 0 → n ≤ 1022) → (1 ≤ offsetOf s 1087 n) × (offsetOf s 1087 n ≤ 2110)
+exponent : (s n : ℕ) → n ≤ 1075 → (s ≡ 0 → n ≤ 1022) → (1 ≤ offsetOf s 1087 n) × (offsetOf s 1087 n ≤ 2109)
 exponent s n h k = go (eqb s 0) (eqb-true s 0)
   where
-    go : (b : Bool) → (b ≡ true → s ≡ 0) → (1 ≤ cond b (1087 + n) (1087 - n)) × (cond b (1087 + n) (1087 - n) ≤ 2110)
+    go : (b : Bool) → (b ≡ true → s ≡ 0) → (1 ≤ cond b (1087 + n) (1087 - n)) × (cond b (1087 + n) (1087 - n) ≤ 2109)
     go true e = let l = k (e refl) in (omega arith, omega arith)
     go false e = (omega arith, omega arith)
 
@@ -97,7 +97,7 @@ returns c =
       c .offset2 .ensures,
       subst (λ (t : ℕ). t ≤ 2 ^ 59) (sym (rest-is (c .before))) (laws s .inside),
       subst (λ (k : ℕ). 1 ≤ k) (sym (c .offset2 .ensures)) (e .0),
-      subst (λ (k : ℕ). k ≤ 2110) (sym (c .offset2 .ensures)) (e .1),
+      subst (λ (k : ℕ). k ≤ 2109) (sym (c .offset2 .ensures)) (e .1),
     )
 
 pub reduced-spec : {M : Type 1} → statement M
