@@ -179,7 +179,7 @@ fn main() {
     println!("| sqrt | {count} | 0 | {different} differ from Rust's `.sqrt()` | {} | 0 |", if different > 0 { format!("{first:e}") } else { "-".to_string() });
     good &= different == 0;
 
-    let points: Vec<f64> = (0..52).map(|n| f64::from_bits(1 << n)).collect();
+    let points: Vec<f64> = (0..=52).map(|n| f64::from_bits(1 << n)).collect();
     let mut w = Worst::new();
     while w.compared < count {
         let x = match r.next() % 4 {
@@ -187,7 +187,7 @@ fn main() {
             1 => f64::from_bits(r.next() >> (12 + r.next() % 52)),
             _ => f64::from_bits(r.next() >> 12),
         };
-        if x > 0.0 {
+        if x > 0.0 && x < SMALLEST {
             w.take((x, 0.0), unsafe { elementary_log(x) }, libm::log(x), false);
         }
     }

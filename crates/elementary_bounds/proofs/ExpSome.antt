@@ -17,15 +17,12 @@ use Rattle.fixed_point.specs.Float.{over, minusSign, nought}
 use Rattle.fixed_point.specs.Fixed.{highOf, scaledOf, offsetOf}
 use Rattle.fixed_point.proofs.Bits.{over-within}
 use Rattle.fixed_point.proofs.Choice.{either-le}
-use Rattle.fixed_point.proofs.Range.{minus-within, within-scaled, plus-within}
+use Rattle.fixed_point.proofs.Range.{clash, minus-within, within-scaled, plus-within}
 use Rattle.natural_exponential.specs.Exp.{coarse, fine, expm1Of, compoundedOf, kernelOf, timesOf, restOf, expOf, most, least}
 use Rattle.natural_exponential.proofs.Bound.{fine-ge, kernel-ge}
 use Rattle.natural_exponential.proofs.Cases.{exp-most, exp-reduced, exp-inside}
 use Rattle.natural_exponential.proofs.Reduce.{reduced, times-ge, times-many}
 use Rattle.elementary_bounds.specs.Theorems.{ExpSome}
-
-clash : {X : Type 0} → true ≡ false → X
-clash {X} e = absurd (subst T e tt)
 
 -- ---- the table from an entry on
 

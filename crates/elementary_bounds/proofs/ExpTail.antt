@@ -18,7 +18,7 @@ use lib.Ieee.Scale.{round-val}
 use Rattle.fixed_point.specs.Float.{Within, over, minusSign, nought}
 use Rattle.fixed_point.specs.Fixed.{scaledOf, offsetOf}
 use Rattle.fixed_point.proofs.Assemble.{same-fraction}
-use Rattle.fixed_point.proofs.Range.{not-negative, within-scaled, minus-within, plus-within}
+use Rattle.fixed_point.proofs.Range.{clash, not-negative, within-scaled, minus-within, plus-within}
 use Rattle.natural_exponential.specs.Exp.{kernelOf, timesOf, restOf, expOf, most, least}
 use Rattle.natural_exponential.proofs.Cases.{exp-most, exp-least, exp-reduced, exp-inside}
 use Rattle.natural_exponential.proofs.Reduce.{reduced}
@@ -97,9 +97,6 @@ faint-lt v P C h k p g = mul-lt-mul-of-pos-right (lt-of-lt-of-le (mul-lt-mul-of-
     room : (P : ℕ) → P ≤ 2 ^ 65 → 2 ^ 53 * P ≤ 2 ^ 118
     room P h = omega arith
 
-clash : {X : Type 0} → true ≡ false → X
-clash {X} e = absurd (subst T e tt)
-
 pub exp-tail : (x : Float) → lt x least ≡ false → lt x faint ≡ true
     → (r : ℕ) × HasValue (expOf x) false r (2 ^ 1074) × (r * 2 ^ 64 ≤ fadingOf x + 2 ^ 64) × (fadingOf x ≤ r * 2 ^ 64 + 2 ^ 64)
 unfolding lt isNan
@@ -142,7 +139,7 @@ exp-tail (fin true m e) h k =
     second : (r a c : ℕ) → a * c ≤ r * (2 ^ 64 * c) + 2 ^ 64 * c → a * c ≤ (r * 2 ^ 64 + 2 ^ 64) * c
     second r a c h = omega arith
 
--- ---- from -708 on: the same fraction as before
+-- ---- from -708 on: the same fraction over 2 ^ 1074
 
 exponent : (s n : ℕ) → n ≤ 1022 → (64 ≤ offsetOf s 1087 n) × (offsetOf s 1087 n - 64 ≡ offsetOf s 1023 n)
 exponent s n h = go (eqb s 0)

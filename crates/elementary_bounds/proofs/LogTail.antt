@@ -14,7 +14,7 @@ use lib.Ieee.Fits.{down-pos, round-fits}
 use lib.Ieee.Order.{round-mono}
 use Rattle.fixed_point.specs.Float.{Within, one, nought, tiny, lift}
 use Rattle.fixed_point.proofs.Decode.{lead, field, digits, value}
-use Rattle.fixed_point.proofs.Range.{not-negative}
+use Rattle.fixed_point.proofs.Range.{clash, not-negative}
 use Rattle.fixed_point.proofs.Rounded.{round-no-nan}
 use Rattle.natural_logarithm.specs.Log.{withinOf, fractionOf, differenceOf, digitsOf, logOf}
 use Rattle.natural_logarithm.proofs.LogBound.{within-ge, within-le}
@@ -22,9 +22,6 @@ use Rattle.natural_logarithm.proofs.LogCases.{difference-plus, difference-minus
 use Rattle.elementary_bounds.specs.Theorems.{negative, LogTail, LogSize}
 use Rattle.elementary_bounds.proofs.ExpTail.{round-plus}
 use Rattle.elementary_bounds.proofs.RootNear.{smallest, exact}
-
-clash : {X : Type 0} → true ≡ false → X
-clash {X} e = absurd (subst T e tt)
 
 -- ---- the digits of the larger number
 

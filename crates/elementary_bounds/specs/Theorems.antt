@@ -80,8 +80,7 @@ ExpTail =
     (x : Float) → lt x least ≡ false → lt x faint ≡ true
     → (r : ℕ) × HasValue (expOf x) false r (2 ^ 1074) × (r * 2 ^ 64 ≤ fadingOf x + 2 ^ 64) × (fadingOf x ≤ r * 2 ^ 64 + 2 ^ 64)
 
--- From -708 to 709, exp x is the nearest float to the same number over 2 ^ 1074, with an exponent from 1 on:
--- what it was when it ended at -708.
+-- From -708 to 709, exp x is the nearest float to the same number over 2 ^ 1074, with an exponent from 1 on.
 abbrev pub ExpKept : Type 0
 ExpKept =
     (x : Float) → isNan x ≡ false → lt most x ≡ false → lt x faint ≡ false

@@ -15,7 +15,7 @@ use Rattle.fixed_point.specs.Fixed.{scaledOf}
 use Rattle.fixed_point.specs.Float.{one, minusOne, nought}
 
 -- true is not false
-clash : {X : Type 0} → true ≡ false → X
+pub clash : {X : Type 0} → true ≡ false → X
 clash {X} e = absurd (subst T e tt)
 
 pub is-nan : (x : Float) → ne x x ≡ false → isNan x ≡ false

@@ -10,7 +10,7 @@ use lib.Ieee.{Float, nan, inf, fin, binary64, up, down, neg, mul, lt, le, eq, is
 use lib.Ieee.Fits.{down-pos}
 use Rattle.fixed_point.specs.Float.{one, nought, tiny, lift}
 use Rattle.natural_logarithm.specs.Log.{fractionOf, differenceOf, withinOf, digitsOf, bitsOf, logOf}
-use Rattle.fixed_point.proofs.Range.{not-negative}
+use Rattle.fixed_point.proofs.Range.{clash, not-negative}
 
 pub difference-plus : (p n : ℕ) → n ≤ p → differenceOf p n ≡ fractionOf (p - n)
 difference-plus p n h = ap (λ (b : Bool). cond b (neg (fractionOf (n - p))) (fractionOf (p - n))) (le-ltb p n h)
@@ -86,9 +86,6 @@ module _ (x : Float) (n : isNan x ≡ false) where
           log-bits e = simp (n, a, b, c, d, e)
 
 -- ---- which case the tests lead to
-
-clash : {X : Type 0} → true ≡ false → X
-clash {X} e = absurd (subst T e tt)
 
 pub reached : (a b : ℕ) → (ltb a b || (eqb a b && true)) ≡ true → a ≤ b
 reached a b h = go (ltb a b) refl (eqb a b) refl h
