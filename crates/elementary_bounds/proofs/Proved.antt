@@ -13,13 +13,8 @@ use lib.Ieee.{Float, nan, inf, fin, binary64, up, down, fits, mul, neg, lt, eq, 
 use lib.Ieee.Back.{whole-unique}
 use lib.Ieee.Exact.{HasValue}
 use lib.Ieee.Fits.{and-l, and-r, down-pos}
-<<<<<<< HEAD
 use Rattle.fixed_point.specs.Float.{Within, over, one, nought}
-use Rattle.fixed_point.proofs.Range.{not-negative, passes-left, passes-right}
-=======
-use Rattle.fixed_point.specs.Float.{Within, over, one, nought, tiny}
 use Rattle.fixed_point.proofs.Range.{clash, not-negative, passes-left, passes-right}
->>>>>>> w204
 use Rattle.natural_exponential.specs.Exp.{coarse, fine, expOf, most, least}
 use Rattle.natural_exponential.proofs.Cases.{exp-most, exp-least, least-most}
 use Rattle.natural_logarithm.specs.Log.{fractionOf, differenceOf, logOf}
