@@ -63,5 +63,6 @@ report("sin", one_of((-1, 1), (-10, 10), (-200, 200), (-65536, 65536)), sin, Fal
 report("cos", one_of((-1, 1), (-10, 10), (-200, 200), (-65536, 65536)), cos, False, -40)
 report("pow", lambda: (rng.choice([rng.uniform(0.1, 10), math.exp(rng.uniform(-20, 20))]), rng.choice([rng.uniform(-32, 32), rng.uniform(1, 5), 2.0, 19.0])), power, True, -36)
 report("sqrt", one_of((0, 4), (0, 1e10)), sqrt, True, -53)
+report("log", lambda: (math.ldexp(rng.randrange(1, 1 << rng.randrange(1, 53)), -1074),), log, False, -40)
 tail("exp", one_of((-745.2, -708)), exp, -40)
 sys.exit(not good)

@@ -179,6 +179,20 @@ fn main() {
     println!("| sqrt | {count} | 0 | {different} differ from Rust's `.sqrt()` | {} | 0 |", if different > 0 { format!("{first:e}") } else { "-".to_string() });
     good &= different == 0;
 
+    let points: Vec<f64> = (0..=52).map(|n| f64::from_bits(1 << n)).collect();
+    let mut w = Worst::new();
+    while w.compared < count {
+        let x = match r.next() % 4 {
+            0 => r.near(&points).abs(),
+            1 => f64::from_bits(r.next() >> (12 + r.next() % 52)),
+            _ => f64::from_bits(r.next() >> 12),
+        };
+        if x > 0.0 && x < SMALLEST {
+            w.take((x, 0.0), unsafe { elementary_log(x) }, libm::log(x), false);
+        }
+    }
+    good &= w.report("log below 2^-1022", -40, "absolute", false);
+
     println!("\n| function | compared with libm | results below 2^-1022 | worst difference | at | allowed |");
     println!("|---|---|---|---|---|---|");
     let mut points: Vec<f64> = (1021..=1075).map(|n| n as f64 * std::f64::consts::LN_2).collect();
@@ -198,6 +212,14 @@ fn main() {
         }
     }
     good &= w.report("pow, results of that size", -36);
+    let mut w = Tail::new();
+    while w.compared < count {
+        let (b, e) = (f64::from_bits(1 + (r.next() >> 12)), r.between(-1.1, 1.1));
+        if (e * libm::log(b)).abs() < 709.0 {
+            w.take((b, e), unsafe { elementary_pow(b, e) }, libm::pow(b, e), -36);
+        }
+    }
+    good &= w.report("pow, bases below 2^-1022", -36);
     if !good {
         println!("oracle: a bound is broken");
         std::process::exit(1);

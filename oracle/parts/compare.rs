@@ -148,7 +148,7 @@ fn ground(r: &mut Random, ordinary: bool) -> State {
 }
 
 fn mixing(r: &mut Random, rows: &mut Vec<Row>, count: u64) {
-    let (mut a, mut b, mut c) = (row("ccor"), row("ccor2"), row("dnet"));
+    let (mut a, mut b, mut c, mut d) = (row("ccor"), row("ccor2"), row("dnet"), row("dnet, faded"));
     for i in 0..count {
         let o = i % 2 == 0;
         let (alt, zh) = (r.number(o, 0.0, 2000.0), r.number(o, 50.0, 300.0));
@@ -166,8 +166,15 @@ fn mixing(r: &mut Random, rows: &mut Vec<Row>, count: u64) {
         unsafe {
             c.take(&[dnet(dd, dm, zhm, xmm, xm)], &[ours::parts_dnet(dd, dm, zhm, xmm, xm)], &(dd, dm, zhm, xmm, xm));
         }
+        // the first density below 2^-1022, the second, or both
+        let which = r.index(3);
+        let dd = if which != 1 { f64::from_bits(1 + r.below((1 << 52) - 1)) } else { dd };
+        let dm = if which != 0 { f64::from_bits(1 + r.below((1 << 52) - 1)) } else { dm };
+        unsafe {
+            d.take(&[dnet(dd, dm, zhm, xmm, xm)], &[ours::parts_dnet(dd, dm, zhm, xmm, xm)], &(dd, dm, zhm, xmm, xm));
+        }
     }
-    rows.extend([a, b, c]);
+    rows.extend([a, b, c, d]);
 }
 
 fn splines(r: &mut Random, rows: &mut Vec<Row>, count: u64) {

@@ -32,7 +32,7 @@ ranges = {"exp": (-750, 750), "log": (0, 1e6), "sin": (-70000, 70000), "cos": (-
 failed = 0
 for name, (low, high) in ranges.items():
     f, g = function(name), getattr(model, name)
-    xs = around(special) + [argument(low, high) for _ in range(count // 2)] + [rng.uniform(-3, 3) for _ in range(count // 2)]
+    xs = around(special) + [model.of_bits(rng.getrandbits(rng.randrange(1, 53))) for _ in range(count // 10)] + [argument(low, high) for _ in range(count // 2)] + [rng.uniform(-3, 3) for _ in range(count // 2)]
     wrong = [x for x in xs if (f(x) != f(x)) != (g(x) != g(x)) or (f(x) == f(x) and model.bits(f(x)) != model.bits(g(x)))]
     print(f"{name}: {len(xs)} arguments, {len(wrong)} differ", wrong[:3])
     failed |= bool(wrong)

@@ -88,12 +88,15 @@ def exp(x):
 def log(x):
     if x != x or x < 0:
         return NAN
-    if x < 2.0**-1022:
+    if x == 0:
         return -INF
     if x == INF:
         return INF
     if x == 1:
         return 0.0
+    k = 0
+    if x < 2.0**-1022:
+        x, k = x * 2.0**54, 54
     _, e, t = fields(x)
     i = t // 2**45
     z = (2**62 - (2**52 + t) * (131072 // (129 + i))) // 16
@@ -104,7 +107,7 @@ def log(x):
         h = c + a * h // 2**38
     g = z + q * h // 2**20
     w = (LOGARITHM[i] + 2**58 - g) // 32
-    p, n = e * L + w, 1023 * L + 2**53
+    p, n = e * L + w, (1023 + k) * L + 2**53
     size = nearest(abs(p - n), 2**53)
     return -size if p < n else size
 

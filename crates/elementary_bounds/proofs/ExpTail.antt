@@ -22,7 +22,7 @@ use Rattle.fixed_point.proofs.Range.{clash, not-negative, within-scaled, minus-
 use Rattle.natural_exponential.specs.Exp.{kernelOf, timesOf, restOf, expOf, most, least}
 use Rattle.natural_exponential.proofs.Cases.{exp-most, exp-least, exp-reduced, exp-inside}
 use Rattle.natural_exponential.proofs.Reduce.{reduced}
-use Rattle.square_root.proofs.RootCases.{round-no-nan}
+use Rattle.fixed_point.proofs.Rounded.{round-no-nan}
 use Rattle.elementary_bounds.specs.Theorems.{negative, faint, fadingOf, ExpKept, ExpPlus}
 use Rattle.elementary_bounds.proofs.ExpKernel.{kernel-lt}
 
@@ -201,7 +201,7 @@ units-plus : (f : Format) (q k : ℕ) → negative (units f false q k) ≡ false
 unfolding units
 units-plus f q k = either-plus (ltb (q * 2 ^ k) (2 ^ (low f + suc (emax f)))) _ _ (odd-plus (suc (prec f)) q k (low f)) refl
 
-round-plus : (f : Format) (a b : ℕ) → negative (round f false a b) ≡ false
+pub round-plus : (f : Format) (a b : ℕ) → negative (round f false a b) ≡ false
 unfolding round
 round-plus f a b = units-plus f _ _
 

@@ -17,4 +17,5 @@ pub mod TrigSeries
 pub mod TrigKernel
 pub mod TrigNear
 pub mod RootNear
+pub mod LogTail
 pub mod Proved

@@ -1,11 +1,11 @@
 -- The bound of log on floats: from 1 to 2, and from 1 / 2 to 1. Assumes nothing.
 use mathlib.Core.Path.{_≡_, refl, sym, ap, _∙_, subst}
-use mathlib.Core.Bool.{Bool, true, false, cond}
+use mathlib.Core.Bool.{Bool, true, false, cond, _&&_, _||_, Bool·beq}
 use Prim.Native.Nat.{ℕ, zero, suc, _+_, _-_, _*_, _/_, _%_, _^_, _≤_, _<_}
 use native.Mathlib.Omega.{arith}
 use native.Mathlib.Nat.{lt-of-not-le, eq-of-mul-eq-mul-right, mul-le-mul-left, mul-le-mul-right, mod-lt, zero-add, pow-succ', mul-pos}
-use borrow.Author.Tests.{le-ltb}
-use lib.Dec.{T, leb, leb→le, lit<}
+use borrow.Author.Tests.{le-ltb, ne-eqb}
+use lib.Dec.{T, leb, eqb, leb→le, lit<}
 use lib.IntN.{ℤ, pos, negsuc}
 use lib.Pow.{pow-pos, pow-mono}
 use lib.Ieee.{Float, nan, inf, fin, binary64, up, down, fits, toBits, lt, eq, isNan}
@@ -18,7 +18,7 @@ use Rattle.fixed_point.proofs.Decode.{lead, field, digits, value}
 use Rattle.elementary_bounds.proofs.Homogeneous.{mul-pow}
 use Rattle.fixed_point.proofs.Range.{not-negative}
 use Rattle.natural_logarithm.proofs.LogBound.{within-ge, within-le}
-use Rattle.natural_logarithm.proofs.LogCases.{digits-above, digits-below, log-digits}
+use Rattle.natural_logarithm.proofs.LogCases.{digits-above, digits-below, log-bits}
 use Rattle.elementary_bounds.proofs.LogSum.{series-scaled, near-scaled}
 use Rattle.elementary_bounds.proofs.LogNear.{near-above, near-below}
 
@@ -100,10 +100,13 @@ module _ (m : ℕ) (e : ℤ) (fx : T (fits binary64 (fin false m e))) where
           d ∙ ap suc (exponent-is t y j E t-lt (down-pos e) (subst (λ (z : ℕ). 2 ^ 52 * 2 ^ j * E ≤ z) w a) (subst (λ (z : ℕ). z < 2 ^ 53 * 2 ^ j * E) w b))
 
   -- the tests that lead to the digits
-  digits-is : E ≤ 2 * n → eq x one ≡ false → logOf x ≡ digitsOf f t
+  digits-is : E ≤ 2 * n → eq x one ≡ false → logOf x ≡ digitsOf 0 f t
   unfolding isNan lt eq
-  digits-is h d = log-digits x refl (not-negative m e) (le-ltb (m * up e * 2 ^ 1022) (1 * 1 * E) (wide n (2 ^ 1022) E h (leb→le 2 (2 ^ 1022) tt))) refl d
+  digits-is h d = log-bits x refl (not-negative m e) (ap (λ (b : Bool). b && (Bool·beq false false || eqb (n * 1) 0)) (ne-eqb (n * 1) (0 * 1 * E) (some n E (down-pos e) h))) refl d (le-ltb (m * up e * 2 ^ 1022) (1 * 1 * E) (wide n (2 ^ 1022) E h (leb→le 2 (2 ^ 1022) tt)))
     where
+      some : (n E : ℕ) → 0 < E → E ≤ 2 * n → n * 1 ≡ 0 * 1 * E → ⊥
+      some n E p h e = omega arith
+
       wide : (n P E : ℕ) → E ≤ 2 * n → 2 ≤ P → 1 * 1 * E ≤ n * P
       wide n P E h k = omega (arith, mul-le-mul-left n k)
 
@@ -115,7 +118,7 @@ module _ (m : ℕ) (e : ℤ) (fx : T (fits binary64 (fin false m e))) where
       let c = cancel n t E (2 ^ 1022) (pow-pos 1022) v in (
         withinOf t,
         (within-ge t t-lt, within-le t t-lt),
-        digits-is (double n E h) d ∙ ap (λ (z : ℕ). digitsOf z t) g ∙ digits-above 1023 t (leb→le 1023 1023 tt) ∙ ap (λ (z : ℕ). differenceOf z (2 ^ 53)) (zero-add (withinOf t)),
+        digits-is (double n E h) d ∙ ap (λ (z : ℕ). digitsOf 0 z t) g ∙ digits-above 1023 t (leb→le 1023 1023 tt) ∙ ap (λ (z : ℕ). differenceOf z (2 ^ 53)) (zero-add (withinOf t)),
         near-scaled (withinOf t) (2 ^ 53) (n - E) (n + E) (2 ^ 52) (pow-pos 52)
             (subst (λ (a : ℕ). NearLog (withinOf t) (2 ^ 53) a ((n + E) * 2 ^ 52)) (top n t E h c)
             (subst (λ (b : ℕ). NearLog (withinOf t) (2 ^ 53) (t * E) b) (bottom n t E c) (near-raised (withinOf t) (2 ^ 53) t (2 ^ 53 + t) E (near-above t t-lt)))),
@@ -147,7 +150,7 @@ module _ (m : ℕ) (e : ℤ) (fx : T (fits binary64 (fin false m e))) where
       let c = cancel n t E (2 ^ 1021) (pow-pos 1021) v in (
         withinOf t,
         (within-ge t t-lt, within-le t t-lt),
-        digits-is h d ∙ ap (λ (z : ℕ). digitsOf z t) g ∙ digits-below 1022 t (leb→le 1023 1023 tt),
+        digits-is h d ∙ ap (λ (z : ℕ). digitsOf 0 z t) g ∙ digits-below 1022 t (leb→le 1023 1023 tt),
         near-scaled (6243314768165359 + 2 ^ 53) (withinOf t) (E - n) (n + E) (2 ^ 53) (pow-pos 53)
             (subst (λ (a : ℕ). NearLog (6243314768165359 + 2 ^ 53) (withinOf t) a ((n + E) * 2 ^ 53)) (top n t E t-lt c)
             (subst (λ (b : ℕ). NearLog (6243314768165359 + 2 ^ 53) (withinOf t) ((2 ^ 52 - t) * E) b) (bottom n t E c) (near-raised (6243314768165359 + 2 ^ 53) (withinOf t) (2 ^ 52 - t) (3 * 2 ^ 52 + t) E (near-below t t-lt)))),

@@ -5,7 +5,7 @@ use mathlib.Core.Bool.{Bool, true, false, not, cond, _&&_, _||_, Bool·beq}
 use Prim.Native.Nat.{ℕ, zero, suc, _+_, _-_, _*_, _^_, _≤_, _<_}
 use native.Mathlib.Omega.{arith}
 use native.Mathlib.Nat.{zero-mul, one-mul, mul-le-mul-left, not-suc-le-zero, le-of-suc-le-suc, le-trans, eq-or-lt-of-le}
-use borrow.Author.Tests.{lt-ltb, le-ltb, ltb-true, ltb-false, eq-eqb}
+use borrow.Author.Tests.{lt-ltb, ltb-true, ltb-false, eq-eqb, ne-eqb}
 use lib.Dec.{T, ltb, leb→le, eqb, eqb→eq}
 use lib.IntN.{ℤ, pos, negsuc}
 use lib.Count.{trailingZeros}
@@ -13,12 +13,12 @@ use lib.Ieee.{Float, nan, inf, fin, binary64, up, down, fits, mul, neg, lt, eq, 
 use lib.Ieee.Back.{whole-unique}
 use lib.Ieee.Exact.{HasValue}
 use lib.Ieee.Fits.{and-l, and-r, down-pos}
-use Rattle.fixed_point.specs.Float.{Within, over, one, nought, tiny}
+use Rattle.fixed_point.specs.Float.{Within, over, one, nought}
 use Rattle.fixed_point.proofs.Range.{clash, not-negative, passes-left, passes-right}
 use Rattle.natural_exponential.specs.Exp.{coarse, fine, expOf, most, least}
 use Rattle.natural_exponential.proofs.Cases.{exp-most, exp-least, least-most}
 use Rattle.natural_logarithm.specs.Log.{fractionOf, differenceOf, logOf}
-use Rattle.natural_logarithm.proofs.LogCases.{difference-plus, difference-minus, log-negative, log-tiny, log-one}
+use Rattle.natural_logarithm.proofs.LogCases.{difference-plus, difference-minus, log-negative, log-one}
 use Rattle.circular_tables.specs.Tables.{sines, cosines}
 use Rattle.circular_functions.specs.Trig.{sinOf, cosOf}
 use Rattle.circular_functions.proofs.TrigCases.{sin-over, cos-over}
@@ -27,10 +27,11 @@ use Rattle.square_root.proofs.RootCases.{sqrt-negative}
 use Rattle.elementary.specs.Pow.{wholeOf, productOf, powOf}
 use Rattle.elementary.proofs.PowCases.{pow-two, pow-whole, pow-of-zero, pow-of-infinity, pow-rest, sides-above, sides-below, rest-negative, rest-nan, rest-nan-exponent, rest-is}
 use Rattle.elementary_bounds.specs.Series.{NearLog}
-use Rattle.elementary_bounds.specs.Theorems.{numerator, denominator, HasDifference, ExpNear, ExpTail, ExpKept, ExpSome, ExpPlus, SinNear, CosNear, LogNear, SinSize, CosSize, SqrtNear, ExpZero, ExpEnds, LogEnds, SinCosZero, SinBeyond, CosBeyond, SqrtEnds, PowTwo, PowRules, PowWhole, PowLast}
+use Rattle.elementary_bounds.specs.Theorems.{numerator, denominator, HasDifference, ExpNear, ExpTail, ExpKept, ExpSome, ExpPlus, SinNear, CosNear, LogNear, LogTail, LogSize, SinSize, CosSize, SqrtNear, ExpZero, ExpEnds, LogEnds, SinCosZero, SinBeyond, CosBeyond, SqrtEnds, PowTwo, PowRules, PowWhole, PowLast}
 use Rattle.elementary_bounds.proofs.ExpNear.{exp-near}
 use Rattle.elementary_bounds.proofs.ExpTail.{exp-tail, exp-kept, exp-plus}
 use Rattle.elementary_bounds.proofs.ExpSome.{exp-some}
+use Rattle.elementary_bounds.proofs.LogTail.{log-tail, log-size}
 use Rattle.elementary_bounds.proofs.TrigNear.{sin-near, cos-near, sin-size, cos-size}
 use Rattle.elementary_bounds.proofs.LogFloat.{Bounded, near-raised, log-near-above, log-near-below}
 use Rattle.elementary_bounds.proofs.RootNear.{root-near}
@@ -131,18 +132,17 @@ module _ (m : ℕ) (e : ℤ) (fx : T (fits binary64 (fin false m e))) where
   unfolding isNan lt eq
   at-one h =
       let s = one-equal h in
-      let k : logOf x ≡ nought = log-one x refl (not-negative m e) (not-tiny h) refl h in (
+      let k : logOf x ≡ nought = log-one x refl (not-negative m e) (not-zero h) refl h in (
         subst (λ (y : Float). HasDifference y 0 0 (2 ^ 53)) (sym k) refl,
         λ l. subst (λ (a : ℕ). NearLog 0 0 a (n + d)) (none n d s) (nothing (n + d)),
         λ l. subst (λ (a : ℕ). NearLog 0 0 a (n + d)) (none d n (sym s)) (nothing (n + d)),
       )
     where
-      -- 1 is not below 2 ^ -1022
-      wide : (n P d : ℕ) → n ≡ d → 1 ≤ P → 1 * 1 * d ≤ n * P
-      wide n P d e l = omega (arith, mul-le-mul-left n l)
+      some : (n d : ℕ) → n ≡ d → 0 < d → n * 1 ≡ 0 * 1 * d → ⊥
+      some n d e p z = omega arith
 
-      not-tiny : eq x one ≡ true → lt x tiny ≡ false
-      not-tiny h = le-ltb (m * up e * 2 ^ 1022) (1 * 1 * d) (wide n (2 ^ 1022) d (one-equal h) (leb→le 1 (2 ^ 1022) tt))
+      not-zero : eq x one ≡ true → eq x nought ≡ false
+      not-zero h = ap (λ (b : Bool). b && (Bool·beq false false || eqb (n * 1) 0)) (ne-eqb (n * 1) (0 * 1 * d) (some n d (one-equal h) (down-pos e)))
 
       none : (n d : ℕ) → n ≡ d → 0 ≡ n - d
       none n d e = omega arith
@@ -247,7 +247,13 @@ LogNear-is (fin false m e) fx s h k =
     let z = joined m e fx h k in
     (z .0, z .1, z .2 .0, z .2 .1, z .2 .2)
 
+pub LogTail-is : LogTail
+LogTail-is = log-tail
+
 -- ---- sizes
+
+pub LogSize-is : LogSize
+LogSize-is = log-size
 
 pub ExpSome-is : ExpSome
 ExpSome-is = exp-some
@@ -280,9 +286,14 @@ pub ExpEnds-is : ExpEnds
 unfolding expOf isNan
 ExpEnds-is = (refl, λ x h. exp-most x (passes-right most x h) h, λ x h. exp-least x (passes-left x least h) (least-most x h) h)
 
+log-zeros : (s : Bool) → logOf (fin s 0 (pos 0)) ≡ inf true
+unfolding logOf isNan lt eq
+log-zeros true = refl
+log-zeros false = refl
+
 pub LogEnds-is : LogEnds
 unfolding logOf isNan lt eq
-LogEnds-is = (refl, λ x h. log-negative x (passes-left x nought h) h, λ x h k. log-tiny x (passes-left x tiny k) h k, refl, refl)
+LogEnds-is = (refl, λ x h. log-negative x (passes-left x nought h) h, log-zeros, refl, refl)
 
 pub SinCosZero-is : SinCosZero
 unfolding sinOf cosOf sines cosines round

@@ -394,7 +394,7 @@ module _ (m : ℕ) (e : ℤ) (fx : T (fits binary64 (fin false m e))) (p : 0 < m
       go zero g = value xs fx tt ∙ ap (λ (f : ℕ). lead f ts * ds) g
       go (suc y) g = absurd (no ns ds ts (2 ^ y) (2 ^ 1022) (2 ^ 1074) (value xs fx tt ∙ ap (λ (f : ℕ). lead f ts * ds) g) h (pow-pos y) refl (wide ts (2 ^ y) ds (pow-pos y)))
 
-  smallest : ds ≤ ns * 2 ^ 1074
+  pub smallest : ds ≤ ns * 2 ^ 1074
   smallest = subst (λ (z : ℕ). ds ≤ z) (sym units) (one ts (some ts units))
     where
       some : (ts : ℕ) → ns * 2 ^ 1074 ≡ ts * 2 ^ 0 * ds → 0 < ts
@@ -410,7 +410,7 @@ module _ (m : ℕ) (e : ℤ) (fx : T (fits binary64 (fin false m e))) (p : 0 < m
           ones : (ts ds : ℕ) → 1 * ds ≤ ts * ds → ds ≤ ts * 2 ^ 0 * ds
           ones ts ds h = omega arith
 
-  exact : HasValue (round binary64 false (ns * (1 * 2 ^ 54)) (ds * 1)) false (ns * (1 * 2 ^ 54)) (ds * 1)
+  pub exact : HasValue (round binary64 false (ns * (1 * 2 ^ 54)) (ds * 1)) false (ns * (1 * 2 ^ 54)) (ds * 1)
   exact = round-exact binary64 false (ns * (1 * 2 ^ 54)) (ds * 1) ts 54 (ones ds (down-pos e)) (lt-of-lt-of-le ts-lt (leb→le (2 ^ 52) (2 ^ 53) tt)) (lt-of-lt-of-le (shl-lt 52 54 ts-lt) (pow-mono {i = 106} {j = 2098} (lit≤ {m = 106} {n = 2098} tt))) (scale ns ts ds (2 ^ 54) (2 ^ 1074) units)
     where
       ones : (ds : ℕ) → 0 < ds → 0 < ds * 1

@@ -10,7 +10,7 @@ use lib.Ieee.Exact.{HasValue}
 use Rattle.fixed_point.specs.Fixed.{scaledOf, offsetOf}
 use Rattle.fixed_point.specs.Float.{Within, over, minusSign, one, nought, tiny}
 use Rattle.natural_exponential.specs.Exp.{kernelOf, timesOf, restOf, expOf, most, least}
-use Rattle.natural_logarithm.specs.Log.{logOf}
+use Rattle.natural_logarithm.specs.Log.{digitsOf, logOf}
 use Rattle.circular_functions.specs.Trig.{signOf, sinOf, cosOf}
 use Rattle.square_root.specs.Root.{sqrtOf}
 use Rattle.elementary.specs.Pow.{half, wholeOf, productOf, powOf}
@@ -87,7 +87,19 @@ ExpKept =
     → (over 1 x ≡ true → expOf x ≡ round binary64 false (kernelOf (restOf (minusSign x) (scaledOf 53 x) (timesOf (scaledOf 53 x) + minusSign x)) / 128 * 2 ^ offsetOf (minusSign x) 1023 (timesOf (scaledOf 53 x) + minusSign x)) (2 ^ 1074))
     × (over 1 x ≡ false → expOf x ≡ round binary64 false (kernelOf (offsetOf (minusSign x) (2 ^ 58) (scaledOf 58 x)) / 128 * 2 ^ 1023) (2 ^ 1074))
 
+-- Above 0 and below 2 ^ -1022, x is (2 ^ 52 + t) * 2 ^ (e - 1) / 2 ^ 1128 exactly, and its logarithm is made of that e and that t as any other's,
+-- with 54 times log 2 more taken off: the scaling by 2 ^ 54 loses nothing.
+abbrev pub LogTail : Type 0
+LogTail =
+    (x : Float) → T (fits binary64 x) → lt nought x ≡ true → lt x tiny ≡ true
+    → (e : ℕ) × (t : ℕ) × (1 ≤ e) × (t < 2 ^ 52) × ((2 ^ 52 + t) * 2 ^ (e - 1) * denominator x ≡ numerator x * 2 ^ 54 * 2 ^ 1074) × (logOf x ≡ digitsOf 54 e t)
+
 -- ---- sizes
+
+-- Every number above 0 has its logarithm, at most 1024 in size.
+-- So only the zeros give -infinity (`LogEnds`), and only +infinity gives +infinity.
+abbrev pub LogSize : Type 0
+LogSize = (x : Float) → T (fits binary64 x) → lt nought x ≡ true → eq x (inf false) ≡ false → Within (logOf x) 1024
 
 -- exp is above 0 from -745 on: it gives 0 only below (`ExpEnds`).
 -- +infinity is included.
@@ -132,11 +144,11 @@ ExpZero = (s : Bool) → expOf (fin s 0 (pos 0)) ≡ one
 abbrev pub ExpEnds : Type 0
 ExpEnds = (expOf nan ≡ nan) × ((x : Float) → lt most x ≡ true → expOf x ≡ inf false) × ((x : Float) → lt x least ≡ true → expOf x ≡ nought)
 
--- log of NaN and of a number below 0 is NaN, below 2 ^ -1022 it is -infinity, zeros of both signs included;
+-- log of NaN and of a number below 0 is NaN, of either zero it is -infinity;
 -- of +infinity it is +infinity, and of 1 it is 0.
 abbrev pub LogEnds : Type 0
 LogEnds =
-    (logOf nan ≡ nan) × ((x : Float) → lt x nought ≡ true → logOf x ≡ nan) × ((x : Float) → lt x nought ≡ false → lt x tiny ≡ true → logOf x ≡ inf true)
+    (logOf nan ≡ nan) × ((x : Float) → lt x nought ≡ true → logOf x ≡ nan) × ((s : Bool) → logOf (fin s 0 (pos 0)) ≡ inf true)
     × (logOf (inf false) ≡ inf false) × (logOf one ≡ nought)
 
 -- sin of either zero is +0, and cos of it is 1.
@@ -175,7 +187,7 @@ abbrev pub PowWhole : Type 0
 PowWhole = (b : Float) (n : ℕ) → 1 ≤ n → n ≤ 32 → powOf b (ofInt binary64 (pos n)) ≡ productOf b (n - 1)
 
 -- For any other exponent: b zero gives 0 for e > 0 and +infinity for e < 0, b +infinity the reverse,
--- else a negative b, a NaN b and a NaN e give NaN, and what is left is exp (e × log b), the product rounded once.
+-- else a negative b, a NaN b and a NaN e give NaN, and what is left is exp (e × log b), the product rounded once, for a b below 2 ^ -1022 too.
 abbrev pub PowLast : Type 0
 PowLast =
     (b e : Float) → eq e nought ≡ false → wholeOf e < 1 → eq e half ≡ false

@@ -8,3 +8,4 @@ pub mod Assemble
 pub mod Table
 pub mod Range
 pub mod Negative
+pub mod Rounded

@@ -28,7 +28,7 @@ minusSign nan = 0
 minusSign (inf s) = digit s
 minusSign (fin s m e) = digit s
 
--- 1, -1, 0 and 2 ^ -1022
+-- 1, -1, 0, 2 ^ -1022 and 2 ^ 54
 abbrev pub one : Float
 one = fin false 1 (pos 0)
 
@@ -40,3 +40,6 @@ nought = fin false 0 (pos 0)
 
 abbrev pub tiny : Float
 tiny = fin false 1 (negsuc 1021)
+
+abbrev pub lift : Float
+lift = fin false 1 (pos 54)

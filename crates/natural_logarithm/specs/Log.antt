@@ -4,10 +4,9 @@ use mathlib.Core.Bool.{true, false, cond}
 use mathlib.Core.List.{List, [], _∷_}
 use lib.ListN.{getD}
 use lib.Dec.{ltb}
-use lib.Ieee.{Float, nan, inf, binary64, round, toBits, neg, lt, eq, isNan}
+use lib.Ieee.{Float, nan, inf, binary64, round, toBits, neg, mul, lt, eq, isNan}
 use Rattle.fixed_point.specs.Fixed.{termOf}
-use Rattle.fixed_point.specs.Float.{one, nought}
-use Rattle.fixed_point.specs.Float.{tiny}
+use Rattle.fixed_point.specs.Float.{one, nought, tiny, lift}
 
 -- 2 ^ 10 / (1 + (i + 1) / 128), cut to a whole number, for i from 0 to 127. Made by scripts/elementary/generate.py.
 unfoldable pub reciprocals : List ℕ
@@ -78,15 +77,21 @@ shortOf t r = (2 ^ 62 - (t + 2 ^ 52) * r) / 16
 abbrev pub withinOf : ℕ → ℕ
 withinOf t = (getD logarithms (t / 2 ^ 45) 0 + 2 ^ 58 - log1mOf (shortOf t (getD reciprocals (t / 2 ^ 45) 0))) / 32
 
--- the logarithm of (1 + t / 2 ^ 52) * 2 ^ (e - 1023), by e times log 2 and 1023 times log 2; log 2 is 6243314768165359 / 2 ^ 53
-abbrev pub digitsOf : ℕ → ℕ → Float
-digitsOf e t = differenceOf (e * 6243314768165359 + withinOf t) (1023 * 6243314768165359 + 2 ^ 53)
+-- the logarithm of (1 + t / 2 ^ 52) * 2 ^ (e - 1023 - k), by e times log 2 and 1023 + k times log 2; log 2 is 6243314768165359 / 2 ^ 53
+abbrev pub digitsOf : ℕ → ℕ → ℕ → Float
+digitsOf k e t = differenceOf (e * 6243314768165359 + withinOf t) ((1023 + k) * 6243314768165359 + 2 ^ 53)
 
+-- the logarithm of x / 2 ^ k by the bits of x
+abbrev pub bitsOf : ℕ → Float → Float
+bitsOf k x = digitsOf k (toBits binary64 x % 2 ^ 63 / 2 ^ 52) (toBits binary64 x % 2 ^ 63 % 2 ^ 52)
+
+-- NaN and what is below 0 give NaN; only the zeros give -infinity; a number below 2 ^ -1022 is taken 2 ^ 54 times as large, exactly
 unfoldable pub logOf : Float → Float
 logOf x =
     cond (isNan x) nan
     (cond (lt x nought) nan
-    (cond (lt x tiny) (inf true)
+    (cond (eq x nought) (inf true)
     (cond (eq x (inf false)) x
     (cond (eq x one) nought
-    (digitsOf (toBits binary64 x % 2 ^ 63 / 2 ^ 52) (toBits binary64 x % 2 ^ 63 % 2 ^ 52))))))
+    (cond (lt x tiny) (bitsOf 54 (mul binary64 x lift))
+    (bitsOf 0 x))))))

@@ -183,36 +183,39 @@ pub fn difference(u: u64) -> f64
     upper - 2147484672.5 + lower
 }
 
-// The logarithm of (1 + t / 2^52) * 2^(e - 1023).
-pub fn digits(e: u64, t: u64) -> f64
-    requires { ⌜ (e < 2048) × (t < 2 ^ 52) ⌝ }
-    ensures { λ r. ⌜ r ≡ digitsOf e t ⌝ }
+// The logarithm of (1 + t / 2^52) * 2^(e - 1023 - k).
+pub fn digits(k: u64, e: u64, t: u64) -> f64
+    requires { ⌜ (k ≤ 54) × (e < 2048) × (t < 2 ^ 52) ⌝ }
+    ensures { λ r. ⌜ r ≡ digitsOf k e t ⌝ }
 {
     let i = t / 35184372088832;
     let piece = piece_at(i);
     let z = (4611686018427387904 - (t + 4503599627370496) * piece.0) / 16;
     let w = (piece.1 + 288230376151711744 - log1m(z)) / 32;
-    difference(e * 6243314768165359 + w + 2827453829766872559)
+    difference(e * 6243314768165359 + w + (2827453829766872559 - k * 6243314768165359))
 }
 
+// What is most asked for comes first: one test leaves NaN, negative numbers, the zeros and the tail for later. A number below
+// 2^-1022 is taken 2^54 times as large, exactly.
 pub fn log(x: f64) -> f64
     ensures { λ r. ⌜ r ≡ logOf x ⌝ }
 {
-    if x != x {
-        return x;
+    if x >= f64::from_bits(4503599627370496) {
+        if x == f64::from_bits(9218868437227405312) {
+            return x;
+        }
+        if x == 1.0 {
+            return 0.0;
+        }
+        let b = f64::to_bits(x) % 9223372036854775808;
+        return digits(0, b / 4503599627370496, b % 4503599627370496);
     }
-    if x < 0.0 {
-        return 0.0 / 0.0;
+    if x > 0.0 {
+        let b = f64::to_bits(x * 18014398509481984.0) % 9223372036854775808;
+        return digits(54, b / 4503599627370496, b % 4503599627370496);
     }
-    if x < f64::from_bits(4503599627370496) {
+    if x == 0.0 {
         return -f64::from_bits(9218868437227405312);
     }
-    if x == f64::from_bits(9218868437227405312) {
-        return x;
-    }
-    if x == 1.0 {
-        return 0.0;
-    }
-    let b = f64::to_bits(x) % 9223372036854775808;
-    digits(b / 4503599627370496, b % 4503599627370496)
+    0.0 / 0.0
 }

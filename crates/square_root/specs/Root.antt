@@ -3,10 +3,8 @@
 use Prim.Native.Nat.{ℕ, zero, suc, _+_, _-_, _*_, _/_, _%_, _^_, _<_, _≤_}
 use mathlib.Core.Bool.{Bool, true, false, cond}
 use lib.Dec.{ltb}
-use lib.IntN.{pos}
-use lib.Ieee.{Float, nan, inf, fin, binary64, ofBits, toBits, mul, lt, eq, isNan}
-use Rattle.fixed_point.specs.Float.{nought}
-use Rattle.fixed_point.specs.Float.{tiny}
+use lib.Ieee.{Float, nan, inf, binary64, ofBits, toBits, mul, lt, eq, isNan}
+use Rattle.fixed_point.specs.Float.{nought, tiny, lift}
 
 pub record Over (a r : ℕ) : Type 0 where
   pub over : a * 2 ^ 54 ≤ (2 * r + 1) * (2 * r + 1)
@@ -33,10 +31,6 @@ unfoldable pub rootOf : Float → ℕ → Float
 rootOf x k =
     let b = toBits binary64 x % 2 ^ 63 in
     ofBits binary64 (((b / 2 ^ 52 + 1021) / 2 - k) * 2 ^ 52 + nearestOf (radicandOf (b / 2 ^ 52) (b % 2 ^ 52)))
-
--- 2 ^ 54
-abbrev pub lift : Float
-lift = fin false 1 (pos 54)
 
 -- NaN stays, and so do both zeros and +infinity; a number below 2 ^ -1022 is taken 2 ^ 54 times as large
 unfoldable pub sqrtOf : Float → Float

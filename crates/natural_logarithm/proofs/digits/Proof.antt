@@ -22,10 +22,10 @@ module _ (c : tie.After-piece-at) where
   t = c .before .args .t
 
   product-le : (t + 2 ^ 52) * c .piece-at .result .0 ≤ 2 ^ 62
-  product-le = subst (λ (r : ℕ). (t + 2 ^ 52) * r ≤ 2 ^ 62) (sym (c .piece-at .ensures .0)) (short-some t (c .before .pre .1))
+  product-le = subst (λ (r : ℕ). (t + 2 ^ 52) * r ≤ 2 ^ 62) (sym (c .piece-at .ensures .0)) (short-some t (c .before .pre .2))
 
   left-le : shortOf t (c .piece-at .result .0) ≤ 2470000000000000
-  left-le = subst (λ (r : ℕ). shortOf t r ≤ 2470000000000000) (sym (c .piece-at .ensures .0)) (short-le t (c .before .pre .1))
+  left-le = subst (λ (r : ℕ). shortOf t r ≤ 2470000000000000) (sym (c .piece-at .ensures .0)) (short-le t (c .before .pre .2))
 
   entry-le : c .piece-at .result .1 ≤ 2 ^ 58
   entry-le = subst (λ (n : ℕ). n ≤ 2 ^ 58) (sym (c .piece-at .ensures .1)) (logarithms-le (t / 2 ^ 45))
@@ -70,19 +70,48 @@ mul-difference c = search needs
 add-difference : tie.Need-add-difference
 add-difference c = omega (arith, w-lt c)
 
+mul-difference-2 : tie.Need-mul-difference-2
+mul-difference-2 c = omega (arith, piece c .before .pre .0)
+
+sub-difference : tie.Need-sub-difference
+sub-difference c = omega (arith, piece c .before .pre .0)
+
 add-difference-2 : tie.Need-add-difference-2
-add-difference-2 c = omega (arith, w-lt c, piece c .before .pre .0)
+add-difference-2 c = omega (arith, w-lt c, piece c .before .pre .1)
 
 difference-requires : tie.Need-difference-requires
 difference-requires c κs = search needs
 
+-- 1023 + k times log 2, 1 and what is added make 2 ^ 63
+even : (k : ℕ) → k ≤ 54 → (1023 + k) * 6243314768165359 + 2 ^ 53 + (2827453829766872559 - k * 6243314768165359) ≡ 2 ^ 63
+even k h = omega arith
+
 returns : tie.Need-returns
 returns c =
     let s = piece (c .before) .before in
+    let k = s .args .k in
     let p = s .args .e * 6243314768165359 in
+    let r = 2827453829766872559 - k * 6243314768165359 in
     c .difference .ensures
-    ∙ ap (λ (w : ℕ). differenceOf (p + w + 2827453829766872559) (2 ^ 63)) (within-is (c .before))
-    ∙ difference-shift (p + withinOf (s .args .t)) (1023 * 6243314768165359 + 2 ^ 53) 2827453829766872559
+    ∙ ap (λ (w : ℕ). differenceOf (p + w + r) (2 ^ 63)) (within-is (c .before))
+    ∙ ap (differenceOf (p + withinOf (s .args .t) + r)) (sym (even k (s .pre .0)))
+    ∙ difference-shift (p + withinOf (s .args .t)) ((1023 + k) * 6243314768165359 + 2 ^ 53) r
 
 pub digits-spec : {M : Type 1} → statement M
-digits-spec = tie.close (tie.spec piece-at-requires add-z mul-z sub-z add-w log1m-requires sub-w mul-difference add-difference add-difference-2 difference-requires returns)
+digits-spec =
+    tie.close
+    (tie.spec
+    piece-at-requires
+    add-z
+    mul-z
+    sub-z
+    add-w
+    log1m-requires
+    sub-w
+    mul-difference
+    add-difference
+    mul-difference-2
+    sub-difference
+    add-difference-2
+    difference-requires
+    returns)

@@ -4,11 +4,11 @@ use mathlib.Core.Bool.{Bool, true, false, not}
 use lib.Dec.{T, lit≤}
 use lib.Ieee.{Float, binary64, inf, ofBits, nanBits, mul, div, lt, eq, isNan}
 use lib.Ieee.Compare.{differs-from-itself}
-use Rattle.fixed_point.specs.Float.{nought}
-use Rattle.fixed_point.specs.Float.{tiny}
-use Rattle.square_root.specs.Root.{lift, rootOf, sqrtOf}
+use Rattle.fixed_point.specs.Float.{nought, tiny, lift}
+use Rattle.fixed_point.proofs.Rounded.{lifted-no-nan}
+use Rattle.square_root.specs.Root.{rootOf, sqrtOf}
 use Rattle.fixed_point.proofs.Range.{is-nan}
-use Rattle.square_root.proofs.RootCases.{lifted-no-nan, sqrt-nan, sqrt-negative, sqrt-zero, sqrt-infinite, sqrt-tiny, sqrt-normal}
+use Rattle.square_root.proofs.RootCases.{sqrt-nan, sqrt-negative, sqrt-zero, sqrt-infinite, sqrt-tiny, sqrt-normal}
 use Rattle.square_root.proofs.sqrt.Statement.{statement}
 use Rattle.square_root.proofs.sqrt.Tie as tie
 
