@@ -166,7 +166,7 @@ not-above k z zs e =
 
 -- what holds of every altitude
 abbrev pub Each : (Float → Type 0) → List Float → Type 0
-Each P [] = ⊤
+Each P [] = Unit {0}
 Each P (z ∷ zs) = P z × Each P zs
 
 -- the row out of what is stored of the parts p is the one-altitude call's

@@ -4,6 +4,10 @@ use Rattle.crossings_list.proofs.Laws.{too-short, fits-in}
 use Rattle.crossings_list.proofs.listed.Statement.{statement}
 use Rattle.crossings_list.proofs.listed.Tie as tie
 
+-- the list fits into the buffer
+write-requires : tie.Need-write-requires
+write-requires c κs = search needs
+
 returns : tie.Need-returns
 returns c =
     let at = c .before in
@@ -19,4 +23,4 @@ returns-2 c =
     fits-in (A .level) (A .d .now) (A .out .now) (at .count .result) (at .count .ensures) (test .if1 .left) _ (write .write .ensures)
 
 pub listed-spec : {M : Type 1} → statement M
-listed-spec = tie.close (tie.spec (λ c κs. search needs) returns (λ c κs. search needs) (λ c. search needs) returns-2)
+listed-spec = tie.close (tie.spec (λ c κs. search needs) returns write-requires (λ c. search needs) returns-2)

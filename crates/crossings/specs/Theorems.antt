@@ -1,0 +1,85 @@
+-- Which indices are in the list, that they rise, what the call never answers; and its part of demand 3.
+use Prim.Native.Nat.{ℕ, suc, _+_, _*_, _-_, _<_, _≤_}
+use mathlib.Core.Path.{_≡_, refl, sym, _∙_, ap, ap₂, subst}
+use mathlib.Core.Bool.{Bool, true, false, cond, not, false≢true}
+use mathlib.Core.List.{List, [], _∷_, map, List·Memᴰ}
+use native.Mathlib.Omega.{arith}
+use lib.Dec.{T, ltb}
+use lib.IntN.{ℤ}
+use lib.ListN.{length, getD, length-map}
+use lib.Ieee.{Float, nan}
+use Rattle.numbers.specs.Arithmetic.{_‼_}
+use Rattle.numbers.specs.Literals.{0·0}
+use Rattle.setting.specs.declared.Input.{Input}
+use Rattle.acceptance.specs.declared.Answer.{Answer}
+use Rattle.acceptance.specs.declared.Answer.the-variants.{Accepted, Refused}
+use Rattle.acceptance.specs.Acceptance.{acceptedOf, withAltOf}
+use Rattle.atmosphere.specs.Atmosphere.{elevenOf}
+use Rattle.shutoff.specs.Shut.{Alike}
+use Rattle.shutoff.specs.Theorems.{eleven≡}
+use Rattle.column.specs.Column.{columnAnswer}
+use Rattle.column.specs.Theorems.{has-at, at-altitude}
+use Rattle.crossings_list.specs.declared.Listing.{Listing}
+use Rattle.crossings_list.specs.CrossingsList.{passesOf, crossingsOf, listAnswer, listAfter, risesOf}
+use Rattle.crossings_list.specs.Theorems.{Rising}
+use Rattle.crossings_list.specs.Theorems as list
+use Rattle.crossings.specs.Crossings.{densityOf, densitiesOf, listOf, afterColumn, checkedOf, refusedOr, crossingsAnswer, crossingsAfter}
+
+module _ (w : List ℤ) (n : Input) where
+  -- as many densities as altitudes, each at its altitude
+  pub densities-length : (alts : List Float) → length (densitiesOf w n alts) ≡ length alts
+  unfolding densitiesOf
+  densities-length alts = length-map alts (densityOf w n)
+
+  pub density-at : (alts : List Float) (i : ℕ) → i < length alts → densitiesOf w n alts ‼ i ≡ densityOf w n (alts ‼ i)
+  unfolding densitiesOf
+  density-at [] i h = absurd (none h)
+    where
+      none : i < 0 → ⊥
+      none g = omega arith
+  density-at (z ∷ zs) 0 h = refl
+  density-at (z ∷ zs) (suc i) h = density-at zs i (omega arith)
+
+  module _ (alts : List Float) (level : Float) (i : ℕ) where
+    -- An index is in the list exactly if it and the next one are indices of altitudes and d[5] passes the level between the two.
+    pub in-list : List·Memᴰ i (listOf w n alts level) → (i + 1 < length alts) × (passesOf level (densityOf w n (alts ‼ i)) (densityOf w n (alts ‼ (i + 1))) ≡ true)
+    unfolding listOf
+    in-list m =
+        let s = list.in-list level (densitiesOf w n alts) i m in
+        let h : i + 1 < length alts = rw (densities-length alts) at s .0 in
+        (h, rw (density-at alts i (omega arith), density-at alts (i + 1) h) at s .1)
+
+    pub list-has : i + 1 < length alts → passesOf level (densityOf w n (alts ‼ i)) (densityOf w n (alts ‼ (i + 1))) ≡ true → List·Memᴰ i (listOf w n alts level)
+    unfolding listOf
+    list-has h e =
+        list.list-has level (densitiesOf w n alts) i (rw (densities-length alts) h)
+        (rw (density-at alts i (omega arith), density-at alts (i + 1) h) e)
+
+  -- The list rises strictly: every index once, lowest first.
+  pub list-rises : (alts : List Float) (level : Float) → Rising (listOf w n alts level)
+  unfolding listOf
+  list-rises alts level = list.list-rises level (densitiesOf w n alts)
+
+-- ---- demand 3
+
+densities≡ : (w : List ℤ) (a b : Input) → ((z : Float) → elevenOf w (withAltOf a z) ≡ elevenOf w (withAltOf b z)) → (alts : List Float)
+    → densitiesOf w a alts ≡ densitiesOf w b alts
+unfolding densitiesOf densityOf
+densities≡ w a b h [] = refl
+densities≡ w a b h (z ∷ zs) = ap₂ (λ (x : Float) (l : List Float). x ∷ l) (ap (λ (r : List Float). r ‼ 5) (h z)) (densities≡ w a b h zs)
+
+-- Demand 3 for the crossings. For every switch row, any altitudes, any level and any buffer, and any two records alike under that row, whatever
+-- their own altitudes, on which a column at these altitudes is accepted: one list, one answer, 8 and 9 among them, and one buffer afterwards.
+pub demand-3-crossings : (w : List ℤ) (a b : Input) (alts : List Float) (level : Float) (xs : List ℕ)
+    → Alike w (withAltOf a 0·0) (withAltOf b 0·0)
+    → columnAnswer w a alts (11 * length alts) ≡ Accepted
+    → columnAnswer w b alts (11 * length alts) ≡ Accepted
+    → (listOf w a alts level ≡ listOf w b alts level)
+    × (crossingsAnswer w a alts level (length xs) ≡ crossingsAnswer w b alts level (length xs))
+    × (crossingsAfter w a alts level xs ≡ crossingsAfter w b alts level xs)
+unfolding listOf crossingsAnswer crossingsAfter checkedOf
+demand-3-crossings w a b alts level xs like e f =
+    let h : (z : Float) → elevenOf w (withAltOf a z) ≡ elevenOf w (withAltOf b z) =
+        λ z. eleven≡ w (withAltOf a z) (withAltOf b z) (at-altitude w a b z like) (has-at w a alts (11 * length alts) z e) in
+    let d = densities≡ w a b h alts in
+    (ap (crossingsOf level) d, rw (e, f, d), rw (e, f, d))
