@@ -75,7 +75,7 @@ module _ (sw0 sw15 : Float) (s : List Float) where
 
   as-many : (alts : List Float) (k : ℕ) → k ≤ length alts → length (densitiesStored sw0 sw15 s (take k alts)) ≡ k
   unfolding densitiesStored
-  as-many alts k h = length-map (take k alts) _ ∙ length-take k alts h
+  as-many alts k h = length-map (take k alts) _ ∙ omega (arith, length-take k alts)
 
   -- the next density put behind those of the altitudes below k
   pub put : (alts d₀ d row : List Float) (k : ℕ) → k < length alts → length alts ≤ length d₀

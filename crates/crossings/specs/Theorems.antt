@@ -1,5 +1,5 @@
 -- Which indices are in the list, that they rise, what the call never answers; and its part of demand 3.
-use Prim.Native.Nat.{ℕ, suc, _+_, _*_, _-_, _<_, _≤_}
+use Prim.Native.Nat.{ℕ, zero, suc, _+_, _*_, _-_, _<_, _≤_}
 use mathlib.Core.Path.{_≡_, refl, sym, _∙_, ap, ap₂, subst}
 use mathlib.Core.Bool.{Bool, true, false, cond, not, false≢true}
 use mathlib.Core.List.{List, [], _∷_, map, List·Memᴰ}
@@ -37,7 +37,7 @@ module _ (w : List ℤ) (n : Input) where
     where
       none : i < 0 → ⊥
       none g = omega arith
-  density-at (z ∷ zs) 0 h = refl
+  density-at (z ∷ zs) zero h = refl
   density-at (z ∷ zs) (suc i) h = density-at zs i (omega arith)
 
   module _ (alts : List Float) (level : Float) (i : ℕ) where
