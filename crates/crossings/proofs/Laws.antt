@@ -2,7 +2,7 @@
 use mathlib.Core.Path.{_≡_, refl, sym, ap, ap₂, _∙_}
 use mathlib.Core.Bool.{Bool, true, false, cond, not, false≢true, true≢false}
 use mathlib.Core.List.{List, [], _∷_, _++_, map, map-append}
-use Prim.Native.Nat.{ℕ, suc, _+_, _*_, _<_, _≤_}
+use Prim.Native.Nat.{ℕ, suc, _+_, _*_, _-_, _<_, _≤_}
 use native.Mathlib.Numerals.{add-one}
 use native.Mathlib.Omega.{arith}
 use borrow.Author.Tests.{lt-ltb, le-ltb, ltb-false}
@@ -83,8 +83,15 @@ module _ (sw0 sw15 : Float) (s : List Float) where
       → row ≡ rowStored sw0 sw15 s (getD alts k nan)
       → set d k (row ‼ 5) ≡ densitiesStored sw0 sw15 s (take (k + 1) alts) ++ drop (k + 1) d₀
   put alts d₀ d row k h g e f =
-      rw (e, f, drop-cons d₀ k nan (omega arith), set-at (densitiesStored sw0 sw15 s (take k alts)) (getD d₀ k nan) (drop (suc k) d₀) (rowStored sw0 sw15 s (getD alts k nan) ‼ 5) k (as-many alts k (omega arith)),
-      stored-more alts k h, append-snoc, add-one)
+      rw (
+        e,
+        f,
+        drop-cons d₀ k nan (omega arith),
+        set-at (densitiesStored sw0 sw15 s (take k alts)) (getD d₀ k nan) (drop (suc k) d₀) (rowStored sw0 sw15 s (getD alts k nan) ‼ 5) k (as-many alts k (omega arith)),
+        stored-more alts k h,
+        append-snoc,
+        add-one,
+      )
 
 same-densities : (w : List ℤ) (n : Input) (sw0 sw15 : Float) (s alts : List Float) → Each (λ (z : Float). rowStored sw0 sw15 s z ≡ elevenOf w (withAltOf n z)) alts
     → densitiesStored sw0 sw15 s alts ≡ densitiesOf w n alts
@@ -115,10 +122,11 @@ module _ (w : List ℤ) (n : Input) (alts : List Float) (level : Float) (xs : Li
   unfolding crossingsAnswer crossingsAfter
   refused a e t f = (f ∙ (stays a _ _ t ∙ ap (λ (b : Answer). refusedOr b (listAnswer level (densitiesOf w n alts) (length xs))) e), rw (← e, t))
 
-  pub answered : (d ds xs' : List Float) (ys : List ℕ) → acceptedOf (checkedOf w n alts) ≡ true → ds ≡ densitiesOf w n alts ++ xs' → d ≡ take (length alts) ds
+  pub answered : (d ds xs' : List Float) (ys : List ℕ) → acceptedOf (checkedOf w n alts) ≡ true → ds ≡ densitiesOf w n alts ++ xs' → d ≡ take (length alts - 0) ds
       → r ≡ listAnswer level d (length xs) → ys ≡ listAfter level d xs
       → (r ≡ crossingsAnswer w n alts level (length xs)) × (ys ≡ crossingsAfter w n alts level xs)
   unfolding crossingsAnswer crossingsAfter
   answered d ds xs' ys t e f g h =
-      let same : d ≡ densitiesOf w n alts = f ∙ (ap (take (length alts)) e ∙ take-at (densitiesOf w n alts) xs' (length alts) (densities-length w n alts)) in
-      (g ∙ (rw same (sym (goes-on (checkedOf w n alts) _ t))), h ∙ rw (same, t))
+      let whole : length (densitiesOf w n alts) ≡ length alts - 0 = densities-length w n alts ∙ omega arith in
+      let same : d ≡ densitiesOf w n alts = f ∙ (ap (take (length alts - 0)) e ∙ take-at (densitiesOf w n alts) xs' (length alts - 0) whole) in
+      (g ∙ rw same (sym (goes-on (checkedOf w n alts) _ t)), h ∙ rw (same, t))

@@ -80,6 +80,6 @@ pub demand-3-crossings : (w : List ℤ) (a b : Input) (alts : List Float) (level
 unfolding listOf crossingsAnswer crossingsAfter checkedOf
 demand-3-crossings w a b alts level xs like e f =
     let h : (z : Float) → elevenOf w (withAltOf a z) ≡ elevenOf w (withAltOf b z) =
-        λ z. eleven≡ w (withAltOf a z) (withAltOf b z) (at-altitude w a b z like) (has-at w a alts (11 * length alts) z e) in
+    λ z. eleven≡ w (withAltOf a z) (withAltOf b z) (at-altitude w a b z like) (has-at w a alts (11 * length alts) z e) in
     let d = densities≡ w a b h alts in
     (ap (crossingsOf level) d, rw (e, f, d), rw (e, f, d))

@@ -29,10 +29,13 @@ loop-again : tie.Need-loop-again Inv-loop μ-loop
 loop-again c =
     let test = c .before .before .before .before in
     let at = test .before .loop in
-    let start = test .before .before .before .before .before in
-    (search needs, search needs, search needs,
-    put (start .args .sw0) (start .args .sw15) (start .args .numbers .now) (start .args .alts .now) (start .args .d .now) (at .d) _ (at .i)
-    (test .loop-test .taken) (start .pre .1) (at .inv .3) (c .before .row-on .ensures))
+    let start = test .before .before .before .before .before in (
+      search needs,
+      search needs,
+      search needs,
+      put (start .args .sw0) (start .args .sw15) (start .args .numbers .now) (start .args .alts .now) (start .args .d .now) (at .d) _ (at .i)
+          (test .loop-test .taken) (start .pre .1) (at .inv .3) (c .before .row-on .ensures),
+    )
 
 returns : tie.Need-returns Inv-loop μ-loop
 returns c =
