@@ -112,7 +112,7 @@ stays : (a : Answer) (x y : Listing) → acceptedOf a ≡ false → refusedOr a 
 stays Accepted x y h = absurd (true≢false h)
 stays (Refused i j) x y h = refl
 
-goes-on : (a : Answer) (x : Listing) → acceptedOf a ≡ true → refusedOr a x ≡ x
+pub goes-on : (a : Answer) (x : Listing) → acceptedOf a ≡ true → refusedOr a x ≡ x
 goes-on Accepted x h = refl
 goes-on (Refused i j) x h = absurd (false≢true h)
 
