@@ -28,6 +28,7 @@ fn column(g: &mut Random) -> Vec<f64> {
         0 => 513,
         1 => 512,
         2..=30 => g.below(2) as usize,
+        31..=34 => 64,
         _ => g.below(12) as usize,
     };
     let mut alts: Vec<f64> = match g.below(8) {
@@ -103,7 +104,7 @@ fn refusals(r: &Input, w: &[i32; 24], lengths: [usize; 3], alts: &[f64], wanted:
 
 // Answer, list, the rest of the buffer and what lies around it.
 pub fn crossings(g: &mut Random, count: u64) -> u64 {
-    let (mut bad, mut listed, mut indices, mut several, mut nan) = (0u64, 0u64, 0u64, 0u64, 0u64);
+    let (mut bad, mut listed, mut indices, mut longest, mut several, mut nan) = (0u64, 0u64, 0u64, 0, 0u64, 0u64);
     let mut refused = [0u64; 10];
     for i in 0..count {
         let mut w = row_of(g);
@@ -143,6 +144,7 @@ pub fn crossings(g: &mut Random, count: u64) -> u64 {
             None => {
                 listed += 1;
                 indices += need as u64;
+                longest = longest.max(need);
                 expect[3..3 + need].copy_from_slice(&want_list);
                 (0, need as u64)
             }
@@ -155,7 +157,7 @@ pub fn crossings(g: &mut Random, count: u64) -> u64 {
         }
     }
     let by: Vec<String> = (1..10).filter(|k| refused[*k] > 0).map(|k| format!("{} with {k}", refused[k])).collect();
-    println!("crossings: {count} columns, {listed} listed with {indices} indices ({nan} with a NaN), refused {} ({several} had more than one reason), {bad} differences", by.join(", "));
+    println!("crossings: {count} columns, {listed} listed with {indices} indices, the longest list of {longest} ({nan} columns with a NaN), refused {} ({several} had more than one reason), {bad} differences", by.join(", "));
     bad
 }
 

@@ -5,8 +5,7 @@ use mathlib.Core.List.{List, [], _∷_, _++_, map, map-append}
 use Prim.Native.Nat.{ℕ, suc, _+_, _*_, _-_, _<_, _≤_}
 use native.Mathlib.Numerals.{add-one}
 use native.Mathlib.Omega.{arith}
-use borrow.Author.Tests.{lt-ltb, le-ltb, ltb-false}
-use lib.Dec.{ltb}
+use borrow.Author.Tests.{lt-ltb, le-ltb}
 use lib.IntN.{ℤ}
 use lib.ListN.{length, take, drop, getD, set, replicate, length-map, length-take}
 use lib.Seq.{append-snoc, take-suc, take-at, drop-cons, set-at}
@@ -28,7 +27,7 @@ use Rattle.crossings_list.specs.declared.Listing.the-variants.{Listed}
 use Rattle.crossings_list.specs.CrossingsList.{listAnswer, listAfter, risesOf}
 use Rattle.crossings.specs.Crossings.{densityOf, densitiesOf, afterColumn, checkedOf, refusedOr, crossingsAnswer, crossingsAfter}
 use Rattle.crossings.specs.Stored.{densitiesStored}
-use Rattle.crossings.specs.Theorems.{densities-length}
+use Rattle.crossings.specs.Theorems.{densities-length, checked-column}
 
 -- ---- the checks
 
@@ -46,24 +45,8 @@ module _ (w : List ℤ) (n : Input) (alts : List Float) (a : Answer) (e : a ≡ 
     unfolding checkedOf afterColumn
     rising h = rw (← e, ← g) (simp (← f, le-ltb _ _ h) (simp t))
 
--- what passes the checks passes the column's
-column-passed : (a : Answer) (alts : List Float) → acceptedOf (afterColumn a alts) ≡ true → acceptedOf a ≡ true
-unfolding afterColumn
-column-passed Accepted alts h = refl
-column-passed (Refused i j) alts h = h
-
-few : (b : Bool) (i j : ℕ) (a : Answer) → acceptedOf (cond b (Refused i j) a) ≡ true → b ≡ false
-few true i j a h = absurd (false≢true h)
-few false i j a h = refl
-
-module _ (w : List ℤ) (n : Input) (alts : List Float) (h : acceptedOf (checkedOf w n alts) ≡ true) where
-  pub checked-few : length alts ≤ 512
-  unfolding checkedOf columnAnswer
-  checked-few = ltb-false 512 (length alts) (few (ltb 512 (length alts)) 5 512 _ (column-passed _ alts h))
-
-  pub checked-altitudes : altitudesFrom 0 alts ≡ Accepted
-  unfolding checkedOf
-  checked-altitudes = accepted-altitudes w n alts (11 * length alts) (column-passed _ alts h)
+pub checked-altitudes : (w : List ℤ) (n : Input) (alts : List Float) → acceptedOf (checkedOf w n alts) ≡ true → altitudesFrom 0 alts ≡ Accepted
+checked-altitudes w n alts h = accepted-altitudes w n alts (11 * length alts) (checked-column w n alts h)
 
 -- ---- the densities
 

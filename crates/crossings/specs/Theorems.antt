@@ -1,9 +1,11 @@
--- Which indices are in the list, that they rise, what the call never answers; and its part of demand 3.
+-- Which indices are in the list, that they rise, what the answer is; and the part of demand 3.
 use Prim.Native.Nat.{ℕ, zero, suc, _+_, _*_, _-_, _<_, _≤_}
 use mathlib.Core.Path.{_≡_, refl, sym, _∙_, ap, ap₂, subst}
 use mathlib.Core.Bool.{Bool, true, false, cond, not, false≢true}
 use mathlib.Core.List.{List, [], _∷_, map, List·Memᴰ}
+use native.Mathlib.Nat.{le-refl}
 use native.Mathlib.Omega.{arith}
+use borrow.Author.Tests.{le-ltb, ltb-false}
 use lib.Dec.{T, ltb}
 use lib.IntN.{ℤ}
 use lib.ListN.{length, getD, length-map}
@@ -20,6 +22,7 @@ use Rattle.shutoff.specs.Theorems.{eleven≡}
 use Rattle.column.specs.Column.{columnAnswer}
 use Rattle.column.specs.Theorems.{has-at, at-altitude}
 use Rattle.crossings_list.specs.declared.Listing.{Listing}
+use Rattle.crossings_list.specs.declared.Listing.the-variants as listing
 use Rattle.crossings_list.specs.CrossingsList.{passesOf, crossingsOf, listAnswer, listAfter, risesOf}
 use Rattle.crossings_list.specs.Theorems.{Rising}
 use Rattle.crossings_list.specs.Theorems as list
@@ -59,6 +62,54 @@ module _ (w : List ℤ) (n : Input) where
   pub list-rises : (alts : List Float) (level : Float) → Rising (listOf w n alts level)
   unfolding listOf
   list-rises alts level = list.list-rises level (densitiesOf w n alts)
+
+-- ---- the answer
+
+-- The column's own refusals are those with any buffer that is long enough: 4 does not occur.
+pub any-room : (w : List ℤ) (n : Input) (alts : List Float) (len : ℕ) → 11 * length alts ≤ len → columnAnswer w n alts len ≡ columnAnswer w n alts (11 * length alts)
+unfolding columnAnswer
+any-room w n alts len h = rw (le-ltb len (11 * length alts) h, le-ltb (11 * length alts) (11 * length alts) (le-refl _))
+
+column-passed : (a : Answer) (alts : List Float) → acceptedOf (afterColumn a alts) ≡ true → acceptedOf a ≡ true
+unfolding afterColumn
+column-passed Accepted alts h = refl
+column-passed (Refused i j) alts h = h
+
+few : (b : Bool) (i j : ℕ) (a : Answer) → acceptedOf (cond b (Refused i j) a) ≡ true → b ≡ false
+few true i j a h = absurd (false≢true h)
+few false i j a h = refl
+
+-- what passes the checks passes the column's, and has at most 512 altitudes
+pub checked-column : (w : List ℤ) (n : Input) (alts : List Float) → acceptedOf (checkedOf w n alts) ≡ true → acceptedOf (columnAnswer w n alts (11 * length alts)) ≡ true
+unfolding checkedOf
+checked-column w n alts h = column-passed (columnAnswer w n alts (11 * length alts)) alts h
+
+pub checked-few : (w : List ℤ) (n : Input) (alts : List Float) → acceptedOf (checkedOf w n alts) ≡ true → length alts ≤ 512
+unfolding columnAnswer
+checked-few w n alts h = ltb-false 512 (length alts) (few (ltb 512 (length alts)) 5 512 _ (checked-column w n alts h))
+
+-- a length comes from no refusal
+abbrev isListed : Listing → Bool
+isListed (listing.Listed m) = true
+isListed (listing.Refused i j) = false
+
+abbrev lengthIn : Listing → ℕ
+lengthIn (listing.Listed m) = m
+lengthIn (listing.Refused i j) = 0
+
+no-refusal : (a : Answer) (b : Bool) (m k : ℕ) → refusedOr a (cond b (listing.Refused 9 m) (listing.Listed m)) ≡ listing.Listed k → (acceptedOf a ≡ true) × (m ≡ k)
+no-refusal Accepted false m k e = (refl, ap (λ (r : Listing). lengthIn r) e)
+no-refusal Accepted true m k e = absurd (false≢true (ap (λ (r : Listing). isListed r) e))
+no-refusal (Refused i j) b m k e = absurd (false≢true (ap (λ (r : Listing). isListed r) e))
+
+-- A length that is answered is the list's, and at most 511.
+pub length-told : (w : List ℤ) (n : Input) (alts : List Float) (level : Float) (len k : ℕ) → crossingsAnswer w n alts level len ≡ listing.Listed k
+    → (k ≡ length (listOf w n alts level)) × (k ≤ 511)
+unfolding crossingsAnswer listAnswer listOf
+length-told w n alts level len k e =
+    let d = densitiesOf w n alts in
+    let s = no-refusal (checkedOf w n alts) (ltb len (length (crossingsOf level d))) (length (crossingsOf level d)) k e in
+    (sym (s .1), omega (arith, s .1, list.list-short level d, densities-length w n alts, checked-few w n alts (s .0)))
 
 -- ---- demand 3
 

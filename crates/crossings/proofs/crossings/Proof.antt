@@ -4,7 +4,8 @@ use native.Mathlib.Omega.{arith}
 use borrow.Author.Needs.{needs}
 use borrow.Author.Tests.{not-true, not-false}
 use Rattle.atmosphere.proofs.Laws.{verdict}
-use Rattle.crossings.proofs.Laws.{checked-few, checked-altitudes, refused, answered}
+use Rattle.crossings.specs.Theorems.{checked-few}
+use Rattle.crossings.proofs.Laws.{checked-altitudes, refused, answered}
 use Rattle.crossings.proofs.crossings.Statement.{statement}
 use Rattle.crossings.proofs.crossings.Tie as tie
 
