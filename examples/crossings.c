@@ -16,13 +16,14 @@ int main(void) {
     for (int i = 0; i < COUNT; i++) altitudes[i] = 200.0 + 10.0 * i;
     uint64_t list[COUNT - 1];
 
-    for (double level = 1e-10; level > 1e-16; level /= 10.0) {
-        uint64_t code = potirehu_crossings(2026, 172, fields, 8, NULL, 0, switches, 24, altitudes, COUNT, level, list, COUNT - 1);
+    const double levels[] = {1e-10, 1e-11, 1e-12, 1e-13, 1e-14, 1e-15};
+    for (size_t i = 0; i < sizeof levels / sizeof *levels; i++) {
+        uint64_t code = potirehu_crossings(2026, 172, fields, 8, NULL, 0, switches, 24, altitudes, COUNT, levels[i], list, COUNT - 1);
         if (code >> 32) {
             printf("refused %" PRIu64 " %" PRIu64 "\n", code >> 32, code & 0xffffffff);
             return 1;
         }
-        printf("%.0e kg/m^3:", level);
+        printf("%.0e kg/m^3:", levels[i]);
         for (uint64_t k = 0; k < code; k++) printf(" between %.0f and %.0f km", altitudes[list[k]], altitudes[list[k] + 1]);
         puts(code ? "" : " nowhere");
     }
