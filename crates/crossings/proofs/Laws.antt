@@ -1,7 +1,7 @@
 -- The checks in order, d[5] written altitude by altitude, and the call's outcomes.
 use mathlib.Core.Path.{_≡_, refl, sym, ap, ap₂, _∙_}
-use mathlib.Core.Bool.{Bool, true, false, cond, not, false≢true, true≢false}
-use mathlib.Core.List.{List, [], _∷_, _++_, map, map-append}
+use mathlib.Core.Bool.{Bool, true, false, not, false≢true, true≢false}
+use mathlib.Core.List.{List, [], _∷_, _++_, map-append}
 use Prim.Native.Nat.{ℕ, suc, _+_, _*_, _-_, _<_, _≤_}
 use native.Mathlib.Numerals.{add-one}
 use native.Mathlib.Omega.{arith}
@@ -24,8 +24,8 @@ use Rattle.column.specs.Parts.{storedFor}
 use Rattle.column.proofs.Laws.{Each, each-row, accepted-altitudes}
 use Rattle.crossings_list.specs.declared.Listing.{Listing}
 use Rattle.crossings_list.specs.declared.Listing.the-variants.{Listed}
-use Rattle.crossings_list.specs.CrossingsList.{listAnswer, listAfter, risesOf}
-use Rattle.crossings.specs.Crossings.{densityOf, densitiesOf, afterColumn, checkedOf, refusedOr, crossingsAnswer, crossingsAfter}
+use Rattle.crossings_list.specs.CrossingsList.{crossingsOf, listAnswer, listAfter, risesOf}
+use Rattle.crossings.specs.Crossings.{densityOf, densitiesOf, listOf, afterColumn, checkedOf, refusedOr, crossingsAnswer, crossingsAfter}
 use Rattle.crossings.specs.Stored.{densitiesStored}
 use Rattle.crossings.specs.Theorems.{densities-length, checked-column}
 
@@ -103,12 +103,12 @@ module _ (w : List ℤ) (n : Input) (alts : List Float) (level : Float) (xs : Li
   pub refused : (a : Answer) → a ≡ checkedOf w n alts → acceptedOf a ≡ false → r ≡ refusedOr a (Listed 0)
       → (r ≡ crossingsAnswer w n alts level (length xs)) × (xs ≡ crossingsAfter w n alts level xs)
   unfolding crossingsAnswer crossingsAfter
-  refused a e t f = (f ∙ (stays a _ _ t ∙ ap (λ (b : Answer). refusedOr b (listAnswer level (densitiesOf w n alts) (length xs))) e), rw (← e, t))
+  refused a e t f = (f ∙ (stays a _ _ t ∙ ap (λ (b : Answer). refusedOr b (listAnswer (listOf w n alts level) (length xs))) e), rw (← e, t))
 
   pub answered : (d ds xs' : List Float) (ys : List ℕ) → acceptedOf (checkedOf w n alts) ≡ true → ds ≡ densitiesOf w n alts ++ xs' → d ≡ take (length alts - 0) ds
-      → r ≡ listAnswer level d (length xs) → ys ≡ listAfter level d xs
+      → r ≡ listAnswer (crossingsOf level d) (length xs) → ys ≡ listAfter (crossingsOf level d) xs
       → (r ≡ crossingsAnswer w n alts level (length xs)) × (ys ≡ crossingsAfter w n alts level xs)
-  unfolding crossingsAnswer crossingsAfter
+  unfolding crossingsAnswer crossingsAfter listOf
   answered d ds xs' ys t e f g h =
       let whole : length (densitiesOf w n alts) ≡ length alts - 0 = densities-length w n alts ∙ omega arith in
       let same : d ≡ densitiesOf w n alts = f ∙ (ap (take (length alts - 0)) e ∙ take-at (densitiesOf w n alts) xs' (length alts - 0) whole) in

@@ -25,7 +25,7 @@ densityOf w n z = elevenOf w (withAltOf n z) ‼ 5
 unfoldable pub densitiesOf : List ℤ → Input → List Float → List Float
 densitiesOf w n alts = map (densityOf w n) alts
 
--- the list: each index i with d[5] at or above the level at one of the altitudes i and i + 1 and below at the other, lowest first
+-- the list: the index of the lower of each pair of neighbours with d[5] at or above the level on one side and below on the other, lowest first
 unfoldable pub listOf : List ℤ → Input → List Float → Float → List ℕ
 listOf w n alts level = crossingsOf level (densitiesOf w n alts)
 
@@ -44,8 +44,8 @@ refusedOr (Refused n k) rest = listing.Refused n k
 
 -- the answer: those refusals, then 9 for a buffer of len numbers that is shorter than the list, at the length needed; else the list's length
 unfoldable pub crossingsAnswer : List ℤ → Input → List Float → Float → ℕ → Listing
-crossingsAnswer w n alts level len = refusedOr (checkedOf w n alts) (listAnswer level (densitiesOf w n alts) len)
+crossingsAnswer w n alts level len = refusedOr (checkedOf w n alts) (listAnswer (listOf w n alts level) len)
 
 -- the lent buffer afterwards: the list at its start and the rest as it was; all as it was where the call is refused
 unfoldable pub crossingsAfter : List ℤ → Input → List Float → Float → List ℕ → List ℕ
-crossingsAfter w n alts level xs = cond (acceptedOf (checkedOf w n alts)) (listAfter level (densitiesOf w n alts) xs) xs
+crossingsAfter w n alts level xs = cond (acceptedOf (checkedOf w n alts)) (listAfter (listOf w n alts level) xs) xs

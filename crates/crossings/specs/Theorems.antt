@@ -1,15 +1,15 @@
--- Which indices are in the list, that they rise, what the answer is; and the part of demand 3.
-use Prim.Native.Nat.{ℕ, zero, suc, _+_, _*_, _-_, _<_, _≤_}
-use mathlib.Core.Path.{_≡_, refl, sym, _∙_, ap, ap₂, subst}
-use mathlib.Core.Bool.{Bool, true, false, cond, not, false≢true}
-use mathlib.Core.List.{List, [], _∷_, map, List·Memᴰ}
+-- Which indices are in the list, that they rise; the answer and the lent buffer; and the part of demand 3.
+use Prim.Native.Nat.{ℕ, zero, suc, _+_, _*_, _<_, _≤_}
+use mathlib.Core.Path.{_≡_, refl, sym, ap, ap₂}
+use mathlib.Core.Bool.{Bool, true, false, cond, false≢true, true≢false}
+use mathlib.Core.List.{List, [], _∷_, _++_, List·Memᴰ}
 use native.Mathlib.Nat.{le-refl}
 use native.Mathlib.Omega.{arith}
 use borrow.Author.Tests.{le-ltb, ltb-false}
-use lib.Dec.{T, ltb}
+use lib.Dec.{ltb}
 use lib.IntN.{ℤ}
-use lib.ListN.{length, getD, length-map}
-use lib.Ieee.{Float, nan}
+use lib.ListN.{length, drop, length-map}
+use lib.Ieee.{Float}
 use Rattle.numbers.specs.Arithmetic.{_‼_}
 use Rattle.numbers.specs.Literals.{0·0}
 use Rattle.setting.specs.declared.Input.{Input}
@@ -23,7 +23,7 @@ use Rattle.column.specs.Column.{columnAnswer}
 use Rattle.column.specs.Theorems.{has-at, at-altitude}
 use Rattle.crossings_list.specs.declared.Listing.{Listing}
 use Rattle.crossings_list.specs.declared.Listing.the-variants as listing
-use Rattle.crossings_list.specs.CrossingsList.{passesOf, crossingsOf, listAnswer, listAfter, risesOf}
+use Rattle.crossings_list.specs.CrossingsList.{passesOf, crossingsOf, listAnswer, listAfter}
 use Rattle.crossings_list.specs.Theorems.{Rising}
 use Rattle.crossings_list.specs.Theorems as list
 use Rattle.crossings.specs.Crossings.{densityOf, densitiesOf, listOf, afterColumn, checkedOf, refusedOr, crossingsAnswer, crossingsAfter}
@@ -65,7 +65,7 @@ module _ (w : List ℤ) (n : Input) where
 
 -- ---- the answer
 
--- The column's own refusals are those with any buffer that is long enough: 4 does not occur.
+-- The column's own refusals are those that it has with any buffer long enough, so none of them is for the buffer: 4 does not occur.
 pub any-room : (w : List ℤ) (n : Input) (alts : List Float) (len : ℕ) → 11 * length alts ≤ len → columnAnswer w n alts len ≡ columnAnswer w n alts (11 * length alts)
 unfolding columnAnswer
 any-room w n alts len h = rw (le-ltb len (11 * length alts) h, le-ltb (11 * length alts) (11 * length alts) (le-refl _))
@@ -110,6 +110,34 @@ length-told w n alts level len k e =
     let d = densitiesOf w n alts in
     let s = no-refusal (checkedOf w n alts) (ltb len (length (crossingsOf level d))) (length (crossingsOf level d)) k e in
     (sym (s .1), omega (arith, s .1, list.list-short level d, densities-length w n alts, checked-few w n alts (s .0)))
+
+-- the buffer xs after a list l and an answer a that stands before it
+written : (a : Answer) (b : Bool) (l xs : List ℕ) (k : ℕ) → refusedOr a (cond b (listing.Refused 9 (length l)) (listing.Listed (length l))) ≡ listing.Listed k
+    → cond (acceptedOf a) (cond b xs (l ++ drop (length l) xs)) xs ≡ l ++ drop k xs
+written Accepted false l xs k e = ap (λ (m : ℕ). l ++ drop m xs) (no-refusal Accepted false (length l) k e .1)
+written Accepted true l xs k e = absurd (false≢true (ap (λ (r : Listing). isListed r) e))
+written (Refused i j) b l xs k e = absurd (false≢true (ap (λ (r : Listing). isListed r) e))
+
+kept : (a : Answer) (b : Bool) (l xs : List ℕ) (i j : ℕ) → refusedOr a (cond b (listing.Refused 9 (length l)) (listing.Listed (length l))) ≡ listing.Refused i j
+    → cond (acceptedOf a) (cond b xs (l ++ drop (length l) xs)) xs ≡ xs
+kept Accepted false l xs i j e = absurd (true≢false (ap (λ (r : Listing). isListed r) e))
+kept Accepted true l xs i j e = refl
+kept (Refused m n) b l xs i j e = refl
+
+-- Where a length is answered the list stands at the start of the buffer and the rest is as it was; any refusal leaves the buffer as it was.
+pub list-written : (w : List ℤ) (n : Input) (alts : List Float) (level : Float) (xs : List ℕ) (k : ℕ) → crossingsAnswer w n alts level (length xs) ≡ listing.Listed k
+    → crossingsAfter w n alts level xs ≡ listOf w n alts level ++ drop k xs
+unfolding crossingsAnswer crossingsAfter listAnswer listAfter
+list-written w n alts level xs k e =
+    let l = listOf w n alts level in
+    written (checkedOf w n alts) (ltb (length xs) (length l)) l xs k e
+
+pub buffer-kept : (w : List ℤ) (n : Input) (alts : List Float) (level : Float) (xs : List ℕ) (i j : ℕ) → crossingsAnswer w n alts level (length xs) ≡ listing.Refused i j
+    → crossingsAfter w n alts level xs ≡ xs
+unfolding crossingsAnswer crossingsAfter listAnswer listAfter
+buffer-kept w n alts level xs i j e =
+    let l = listOf w n alts level in
+    kept (checkedOf w n alts) (ltb (length xs) (length l)) l xs i j e
 
 -- ---- demand 3
 

@@ -58,7 +58,7 @@ pub fn densities(w: [i32; 24], n: Input, alts: &[f64], d: &mut [f64])
     densities_at(sw[0], sw[15], &numbers, alts, d);
 }
 
-// A refusal as the list's answer.
+// A refusal as the list's answer; nobody asks for an accepted one.
 pub fn refusal(a: Answer) -> Listing
     ensures { λ r. ⌜ r ≡ refusedOr a (Listed 0) ⌝ }
 {

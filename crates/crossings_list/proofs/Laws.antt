@@ -71,14 +71,14 @@ module _ (t : Bool) (n : ℕ) (ys xs : List ℕ) where
 -- ---- the call
 
 module _ (level : Float) (d : List Float) (xs : List ℕ) (n : ℕ) (e : n ≡ length (crossingsOf level d)) where
-  pub too-short : length xs < n → (Refused 9 n ≡ listAnswer level d (length xs)) × (xs ≡ listAfter level d xs)
+  pub too-short : length xs < n → (Refused 9 n ≡ listAnswer (crossingsOf level d) (length xs)) × (xs ≡ listAfter (crossingsOf level d) xs)
   unfolding listAnswer listAfter
   too-short h =
       let k : length xs < length (crossingsOf level d) = rw e at h in
       (rw e (simp (lt-ltb _ _ k)), simp (lt-ltb _ _ k))
 
   pub fits-in : n ≤ length xs → (ys : List ℕ) → ys ≡ crossingsOf level d ++ drop (length (crossingsOf level d)) xs
-      → (Listed n ≡ listAnswer level d (length xs)) × (ys ≡ listAfter level d xs)
+      → (Listed n ≡ listAnswer (crossingsOf level d) (length xs)) × (ys ≡ listAfter (crossingsOf level d) xs)
   unfolding listAnswer listAfter
   fits-in h ys g =
       let k : length (crossingsOf level d) ≤ length xs = rw e at h in

@@ -31,18 +31,16 @@ those p (i ∷ l) = cond (p i) (i ∷ those p l) (those p l)
 unfoldable pub crossingsOf : Float → List Float → List ℕ
 crossingsOf level d = those (passesAt level d) (below (length d - 1))
 
--- the list's length; 9 for a buffer of len numbers that is shorter than the list, at the length needed
-unfoldable pub listAnswer : Float → List Float → ℕ → Listing
-listAnswer level d len =
-    cond (ltb len (length (crossingsOf level d))) (Refused 9 (length (crossingsOf level d))) (Listed (length (crossingsOf level d)))
+-- the answer to a list l and a buffer of len numbers: 9 where the buffer is shorter than the list, at the length needed; else the list's length
+unfoldable pub listAnswer : List ℕ → ℕ → Listing
+listAnswer l len = cond (ltb len (length l)) (Refused 9 (length l)) (Listed (length l))
 
 -- the buffer xs afterwards: the list at its start and the rest as it was, or all as it was where it is too short
-unfoldable pub listAfter : Float → List Float → List ℕ → List ℕ
-listAfter level d xs =
-    cond (ltb (length xs) (length (crossingsOf level d))) xs (crossingsOf level d ++ drop (length (crossingsOf level d)) xs)
+unfoldable pub listAfter : List ℕ → List ℕ → List ℕ
+listAfter l xs = cond (ltb (length xs) (length l)) xs (l ++ drop (length l) xs)
 
--- 8: the index of the first altitude that is not above the one before it, or how many there are where they rise strictly; the last of the i
--- passed ones is a
+-- 8's place: the lowest index whose altitude is not above the one before it, or how many altitudes there are where they rise strictly; a is the
+-- last of the i altitudes that were passed
 unfoldable pub risesFrom : ℕ → Float → List Float → ℕ
 risesFrom i a [] = i
 risesFrom i a (b ∷ s) = cond (lt a b) (risesFrom (i + 1) b s) i

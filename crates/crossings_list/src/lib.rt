@@ -82,7 +82,7 @@ pub fn write(d: &[f64], level: f64, out: &mut [u64])
 
 // The list into a lent buffer: its length is known before the first index is written.
 pub fn listed(d: &[f64], level: f64, out: &mut [u64]) -> Listing
-    ensures { λ r. ⌜ (r ≡ listAnswer level (now (d .entry)) (length (now (out .entry)))) × (now (out .exit) ≡ listAfter level (now (d .entry)) (now (out .entry))) ⌝ }
+    ensures { λ r. ⌜ (r ≡ listAnswer (crossingsOf level (now (d .entry))) (length (now (out .entry)))) × (now (out .exit) ≡ listAfter (crossingsOf level (now (d .entry))) (now (out .entry))) ⌝ }
 {
     let n = count(d, level);
     if out.len() < n {
