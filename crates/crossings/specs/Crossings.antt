@@ -33,7 +33,7 @@ listOf w n alts level = crossingsOf level (densitiesOf w n alts)
 unfoldable pub afterColumn : Answer → List Float → Answer
 afterColumn a alts = cond (not (acceptedOf a)) a (cond (ltb (risesOf alts) (length alts)) (Refused 8 (risesOf alts)) Accepted)
 
--- the column's own refusals; no rows are lent, so its buffer is taken to have the length needed, and 4 can't occur
+-- the column's own refusals, then 8; no rows are lent, so the column's buffer is taken to have the length needed, and 4 can't occur
 unfoldable pub checkedOf : List ℤ → Input → List Float → Answer
 checkedOf w n alts = afterColumn (columnAnswer w n alts (11 * length alts)) alts
 
