@@ -41,7 +41,7 @@ uint64_t potirehu_gtd7_column(int32_t year, int32_t doy, const double *fields, s
 /* Where the mass density of a column passes a level: at or above it at one altitude and below it at the next, or the other way round. The n
    altitudes (km), 0 to 512 of them, must rise strictly; the record's own altitude is not looked at. The index of the lower altitude of each such
    pair goes to the start of list, lowest first, and what lies behind stays; a NaN at either altitude or as level makes no pair. Answers how long
-   the list is, at most n - 1; or a refusal, and leaves list as it was. After the lengths of fields, ap_array and switches: 5 at 512 for more than
+   the list is, at most 511; or a refusal, and leaves list as it was. After the lengths of fields, ap_array and switches: 5 at 512 for more than
    512 altitudes; the record as above; each altitude 2, else 3, at 17 plus its index; 8 at the lowest index whose altitude is not above the one
    before it; 9 at the length needed, for a list that does not fit. A refusal is 2^32 or more, the list's length below. */
 uint64_t potirehu_crossings(int32_t year, int32_t doy, const double *fields, size_t n_fields, const double *ap_array, size_t n_ap,
