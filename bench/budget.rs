@@ -6,7 +6,7 @@
 mod host;
 #[path = "../oracle/random.rs"]
 mod random;
-use host::{numbers, ours, ours_column, station, station_change, station_gtd7, Change, NUMBERS, WHOLE};
+use host::{crossings, numbers, ours, ours_column, station, station_change, station_gtd7, Change, NUMBERS, WHOLE};
 use random::Random;
 use std::arch::asm;
 use std::collections::{BTreeSet, HashMap};
@@ -314,9 +314,19 @@ struct Held {
     case: *const Case,
     row: [f64; 11],
     rows: [f64; 11 * COLUMN],
+    list: [u64; COLUMN],
     station: Station,
     change: Change,
     value: f64,
+}
+
+// Where the density of a case's column, its altitudes in order, passes a level.
+fn listed(c: &Case, list: &mut [u64]) {
+    let (fields, ap, n_ap) = numbers(&c.input);
+    let mut rising = c.column;
+    rising.sort_by(f64::total_cmp);
+    let answer = crossings(c.input.year, c.input.doy, &fields, &ap[..n_ap], &c.row, &rising, 1E-12, list);
+    assert_eq!(answer.0, 0);
 }
 
 // A call on what is held.
@@ -331,6 +341,7 @@ macro_rules! hold {
 }
 hold!(hold_ours, h, c, let _ = ours(&c.input, &c.row, &mut h.row));
 hold!(hold_column, h, c, let _ = ours_column(&c.input, &c.row, &c.column, &mut h.rows));
+hold!(hold_crossings, h, c, listed(c, &mut h.list));
 hold!(hold_rust, h, c, h.value = rust(&c.input, &c.flags));
 hold!(hold_prepare, h, c, let _ = h.station.prepare(c));
 hold!(hold_altitude, h, c, let _ = h.station.altitude(c.input.alt, &mut h.row));
@@ -340,9 +351,10 @@ fn stack(records: usize) {
     println!("Bytes of stack that a call reaches, the most over all these records, with the frame of the function that makes the call:\n");
     println!("| call | bytes |\n|---|---|");
     let [sec, lst, g_long, fluxes] = CHANGES.map(|(_, change)| change);
-    let calls: [(&str, extern "C" fn(*mut u8), Change); 9] = [
+    let calls: [(&str, extern "C" fn(*mut u8), Change); 10] = [
         ("ours, one altitude", hold_ours, sec),
         ("ours, column", hold_column, sec),
+        ("ours, crossings", hold_crossings, sec),
         ("a station's altitude", hold_altitude, sec),
         ("preparing a station", hold_prepare, sec),
         ("a station's sec", hold_change, sec),
@@ -356,7 +368,7 @@ fn stack(records: usize) {
         for alt in 0..ALTITUDES.len() {
             for kind in 0..KINDS.len() {
                 for c in cases(alt, kind, records) {
-                    let mut h = Held { case: &c, row: [0.0; 11], rows: [0.0; 11 * COLUMN], station: Station::empty(), change, value: 0.0 };
+                    let mut h = Held { case: &c, row: [0.0; 11], rows: [0.0; 11 * COLUMN], list: [0; COLUMN], station: Station::empty(), change, value: 0.0 };
                     accepted(h.station.prepare(&c));
                     most = most.max(depth(f, &mut h as *mut Held as *mut u8));
                 }

@@ -1,5 +1,6 @@
-/* What libhost.a offers: NRLMSISE-00 at one altitude, also for drag, at a column of altitudes and from a prepared station, and the elementary
-   functions it is built on. Nothing is kept between calls; only memcpy and memset are needed from outside. docs/RULES.md has every rule. */
+/* What libhost.a offers: NRLMSISE-00 at one altitude, also for drag, at a column of altitudes, where its density passes a level, and from a
+   prepared station, and the elementary functions it is built on. Nothing is kept between calls; only memcpy and memset are needed from
+   outside. docs/RULES.md has every rule. */
 #ifndef POTIREHU_H
 #define POTIREHU_H
 
@@ -36,6 +37,16 @@ uint64_t potirehu_gtd7(int32_t year, int32_t doy, const double *fields, size_t n
    4 at 11 n for a shorter buffer; the record as above; each altitude 2, else 3, at 17 plus its index. */
 uint64_t potirehu_gtd7_column(int32_t year, int32_t doy, const double *fields, size_t n_fields, const double *ap_array, size_t n_ap,
                               const int32_t *switches, size_t n_switches, const double *altitudes, size_t n, double *rows, size_t n_rows);
+
+/* Where the mass density of a column passes a level: at or above it at one altitude and below it at the next, or the other way round. The n
+   altitudes (km), 0 to 512 of them, must rise strictly; the record's own altitude is not looked at. The index of the lower altitude of each such
+   pair goes to the start of list, lowest first, and what lies behind stays; a NaN at either altitude or as level makes no pair. Answers how long
+   the list is, at most 511; or a refusal, and leaves list as it was. After the lengths of fields, ap_array and switches: 5 at 512 for more than
+   512 altitudes; the record as above; each altitude 2, else 3, at 17 plus its index; 8 at the lowest index whose altitude is not above the one
+   before it; 9 at the length needed, for a list that does not fit. A refusal is 2^32 or more, the list's length below. */
+uint64_t potirehu_crossings(int32_t year, int32_t doy, const double *fields, size_t n_fields, const double *ap_array, size_t n_ap,
+                            const int32_t *switches, size_t n_switches, const double *altitudes, size_t n, double level, uint64_t *list,
+                            size_t n_list);
 
 /* potirehu_gtd7 for drag: row[5], the mass density, is summed again with the anomalous oxygen in it (16 times row[8]), which counts above 500 km.
    Answers, refusals and the other ten numbers are those of potirehu_gtd7. */

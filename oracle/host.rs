@@ -45,6 +45,25 @@ of_a_record! {
 }
 
 extern "C" {
+    #[allow(dead_code)]
+    fn potirehu_crossings(
+        year: i32,
+        doy: i32,
+        fields: *const f64,
+        n_fields: usize,
+        ap_array: *const f64,
+        n_ap: usize,
+        switches: *const i32,
+        n_switches: usize,
+        altitudes: *const f64,
+        n: usize,
+        level: f64,
+        list: *mut u64,
+        n_list: usize,
+    ) -> u64;
+}
+
+extern "C" {
     fn potirehu_station_gtd7(whole: *const i32, n_whole: usize, numbers: *const f64, n_numbers: usize, alt: f64, row: *mut f64, n_row: usize) -> u64;
     #[allow(dead_code)]
     fn potirehu_station_gtd7d(whole: *const i32, n_whole: usize, numbers: *const f64, n_numbers: usize, alt: f64, row: *mut f64, n_row: usize) -> u64;
@@ -112,6 +131,28 @@ pub fn ours_column(r: &Input, w: &[i32; 24], alts: &[f64], rows: &mut [f64]) -> 
             alts.len(),
             rows.as_mut_ptr(),
             rows.len(),
+        )
+    })
+}
+
+// The crossings: (0, the list's length) or a refusal; the record's slices as they are handed over, so that they may have any length.
+#[allow(dead_code)]
+pub fn crossings(year: i32, doy: i32, fields: &[f64], ap: &[f64], w: &[i32], alts: &[f64], level: f64, list: &mut [u64]) -> (u64, u64) {
+    parted(unsafe {
+        potirehu_crossings(
+            year,
+            doy,
+            fields.as_ptr(),
+            fields.len(),
+            ap.as_ptr(),
+            ap.len(),
+            w.as_ptr(),
+            w.len(),
+            alts.as_ptr(),
+            alts.len(),
+            level,
+            list.as_mut_ptr(),
+            list.len(),
         )
     })
 }

@@ -1,6 +1,7 @@
 // Our one-altitude calls, gtd7 and gtd7d, against the Rust: the eleven numbers to the bit, the refusals, pairs under the shut-off list, the 1E-6 rule,
-// the published samples, calls of each elementary function, and time per call. The expansions, the line program and prepared stations stand in
-// files of their own.
+// the published samples, calls of each elementary function, and time per call. The crossings, the expansions, the line program and prepared stations
+// stand in files of their own.
+mod crossings;
 mod expansions;
 #[path = "../host.rs"]
 mod host;
@@ -620,6 +621,7 @@ fn main() {
         Some("expansions") => expansions::expansions(&mut g, count),
         Some("raised") => expansions::raised(&mut g, count),
         Some("columns") => columns(&mut g, count),
+        Some("crossings") => crossings::crossings(&mut g, count),
         Some("lines") => lines::good(&args[4], &mut g, count),
         Some("hostile") => lines::hostile(&args[4], &mut g, count),
         Some("stations") => stations::stations(&mut g, count),
@@ -635,6 +637,7 @@ fn main() {
         Some("time") => {
             time();
             time_column();
+            crossings::time();
             stations::time();
             0
         }
@@ -643,7 +646,7 @@ fn main() {
             0
         }
         _ => {
-            eprintln!("model differential|gtd7d|lengths|pairs|pairs-d|states|expansions|raised|columns|stations|hostile-stations|near|near-d|near-any [SEED] [COUNT], lines|hostile SEED COUNT PROGRAM, forms SEED COUNT INPUT OUTPUT, samples FILE, counts, time");
+            eprintln!("model differential|gtd7d|lengths|pairs|pairs-d|states|expansions|raised|columns|crossings|stations|hostile-stations|near|near-d|near-any [SEED] [COUNT], lines|hostile SEED COUNT PROGRAM, forms SEED COUNT INPUT OUTPUT, samples FILE, counts, time");
             std::process::exit(2);
         }
     };

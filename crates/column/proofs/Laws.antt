@@ -30,8 +30,9 @@ use Rattle.stored.specs.declared.Parts.{Parts}
 use Rattle.stored.specs.Stored.{needOf, storedOf, rowStored}
 use Rattle.stored.specs.Rows.{partsAt, Holds}
 use Rattle.stored.specs.Eleven.{stored-eleven}
+use Rattle.atmosphere.specs.Atmosphere.{elevenOf}
 use Rattle.column.specs.Column.{altitudesFrom, afterRecord, columnAnswer, columnRows, columnAfter}
-use Rattle.column.specs.Parts.{noParts, eitherParts, partsFrom, rowsStored}
+use Rattle.column.specs.Parts.{noParts, eitherParts, partsFrom, storedFor, rowsStored}
 
 -- ---- the altitudes
 
@@ -163,28 +164,52 @@ not-above k z zs e =
     let g = passed (le 0·0 z && le z 2500·0) 3 (17 + k) _ (f .1) in
     (right-of (le 0·0 z) (le z 2500·0) (g .0), g .1)
 
--- what is stored of a record
-abbrev numbersOf : List ℤ → Input → Parts → List Float → List Float
-numbersOf w n p rec = rec ++ storedOf p ((viewOf w n) .sw) (siteOf ((viewOf w n) .sw) (n .«g_lat») ((viewOf w n) .doy) (n .f107a)) (levelsOf (viewOf w n) (needOf p))
+-- what holds of every altitude
+abbrev pub Each : (Float → Type 0) → List Float → Type 0
+Each P [] = Unit {0}
+Each P (z ∷ zs) = P z × Each P zs
 
-rows-held : (w : List ℤ) (n : Input) (rec : List Float) → length rec ≡ 14 → (m : Parts) (k : ℕ) (alts : List Float) → altitudesFrom k alts ≡ Accepted
-    → rowsStored ((viewOf w n) .sw ‼ 0) ((viewOf w n) .sw ‼ 15) (numbersOf w n (partsFrom m alts) rec) alts ≡ columnRows w n alts
-unfolding rowsStored columnRows partsFrom
-rows-held w n rec len m k [] e = refl
-rows-held w n rec len m k (z ∷ zs) e =
+-- the row out of what is stored of the parts p is the one-altitude call's
+abbrev Row : List ℤ → Input → List Float → Parts → Float → Type 0
+Row w n rec p z =
+    rowStored ((viewOf w n) .sw ‼ 0) ((viewOf w n) .sw ‼ 15)
+    (rec ++ storedOf p ((viewOf w n) .sw) (siteOf ((viewOf w n) .sw) (n .«g_lat») ((viewOf w n) .doy) (n .f107a)) (levelsOf (viewOf w n) (needOf p))) z
+    ≡ elevenOf w (withAltOf n z)
+
+each-held : (w : List ℤ) (n : Input) (rec : List Float) → length rec ≡ 14 → (m : Parts) (k : ℕ) (alts : List Float) → altitudesFrom k alts ≡ Accepted
+    → Each (Row w n rec (partsFrom m alts)) alts
+unfolding partsFrom
+each-held w n rec len m k [] e = tt
+each-held w n rec len m k (z ∷ zs) e =
     let q = eitherParts m (partsAt z) in
     let f = not-above k z zs e in
-    ap₂ (λ (r t : List Float). r ++ t)
-    (stored-eleven w n (partsFrom q zs) rec z len (f .0) (second-of _ m (partsAt z) (before-held q zs)))
-    (rows-held w n rec len q (k + 1) zs (f .1))
+    (stored-eleven w n (partsFrom q zs) rec z len (f .0) (second-of _ m (partsAt z) (before-held q zs)), each-held w n rec len q (k + 1) zs (f .1))
+
+-- at every accepted altitude the row out of what is stored for the altitudes is the one-altitude call's
+pub each-row : (w : List ℤ) (n : Input) (alts numbers sw : List Float)
+    → sw ≡ (viewOf w n) .sw → numbers ≡ take 14 (replicate 234 0·0) ++ storedFor w n alts → altitudesFrom 0 alts ≡ Accepted
+    → Each (λ (z : Float). rowStored (sw ‼ 0) (sw ‼ 15) numbers z ≡ elevenOf w (withAltOf n z)) alts
+unfolding storedFor
+each-row w n alts numbers sw es en e = rw (en, es) (each-held w n (take 14 (replicate 234 0·0)) refl noParts 0 alts e)
+
+rows-of : (w : List ℤ) (n : Input) (sw0 sw15 : Float) (s alts : List Float) → Each (λ (z : Float). rowStored sw0 sw15 s z ≡ elevenOf w (withAltOf n z)) alts
+    → rowsStored sw0 sw15 s alts ≡ columnRows w n alts
+unfolding rowsStored columnRows
+rows-of w n sw0 sw15 s [] h = refl
+rows-of w n sw0 sw15 s (z ∷ zs) h = ap₂ (λ (r t : List Float). r ++ t) (h .0) (rows-of w n sw0 sw15 s zs (h .1))
 
 -- the rows out of what is stored are those of the record; xs is what lies behind them
-pub rows-are : (w : List ℤ) (n : Input) (alts numbers xs : List Float) (v : View) (x : Site) (p : Parts) (a : Need) (l : Levels)
+pub rows-are : (w : List ℤ) (n : Input) (alts numbers sw xs : List Float)
+    → sw ≡ (viewOf w n) .sw → numbers ≡ take 14 (replicate 234 0·0) ++ storedFor w n alts → altitudesFrom 0 alts ≡ Accepted
+    → rowsStored (sw ‼ 0) (sw ‼ 15) numbers alts ++ xs ≡ columnRows w n alts ++ xs
+rows-are w n alts numbers sw xs es en e = ap (λ (r : List Float). r ++ xs) (rows-of w n (sw ‼ 0) (sw ‼ 15) numbers alts (each-row w n alts numbers sw es en e))
+
+pub stored-are : (w : List ℤ) (n : Input) (alts rec numbers : List Float) (v : View) (x : Site) (p : Parts) (a : Need) (l : Levels)
     → v ≡ viewOf w n → x ≡ siteOf (v .sw) (n .«g_lat») (v .doy) (n .f107a) → p ≡ partsFrom noParts alts → a ≡ needOf p → l ≡ levelsOf v a
-    → numbers ≡ take 14 (replicate 234 0·0) ++ storedOf p (v .sw) x l → altitudesFrom 0 alts ≡ Accepted
-    → rowsStored (v .sw ‼ 0) (v .sw ‼ 15) numbers alts ++ xs ≡ columnRows w n alts ++ xs
-rows-are w n alts numbers xs v x p a l ev ex ep ea el en e =
-    rw (en, el, ea, ep, ex, ev) (ap (λ (r : List Float). r ++ xs) (rows-held w n (take 14 (replicate 234 0·0)) refl noParts 0 alts e))
+    → numbers ≡ rec ++ storedOf p (v .sw) x l
+    → (v .sw ≡ (viewOf w n) .sw) × (numbers ≡ rec ++ storedFor w n alts)
+unfolding storedFor
+stored-are w n alts rec numbers v x p a l ev ex ep ea el en = (ap (λ (u : View). u .sw) ev, rw (en, el, ea, ep, ex, ev))
 
 -- ---- the call
 

@@ -42,7 +42,7 @@ unfolding withAltOf lacksHistoryOf
 has-at w n alts len z e = has w (withAltOf n z) (has-history w (withAltOf n 0·0) 11 (record-accepted w n alts len e))
 
 -- records alike but for their own altitudes are alike with any one altitude in both
-at-altitude : (w : List ℤ) (a b : Input) (z : Float) → Alike w (withAltOf a 0·0) (withAltOf b 0·0) → Alike w (withAltOf a z) (withAltOf b z)
+pub at-altitude : (w : List ℤ) (a b : Input) (z : Float) → Alike w (withAltOf a 0·0) (withAltOf b 0·0) → Alike w (withAltOf a z) (withAltOf b z)
 unfolding withAltOf
 at-altitude w a b z like = alike-at w (withAltOf a 0·0) (withAltOf b 0·0) z like
 

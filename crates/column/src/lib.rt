@@ -2,10 +2,11 @@
 ghost use mathlib.Core.Path.{_≡_};
 ghost use mathlib.Core.List.{_++_};
 ghost use Prim.Native.Nat.{_*_, _≤_};
-ghost use lib.ListN.{length, drop};
+ghost use lib.ListN.{length, take, drop};
+ghost use Rattle.setting.specs.View.{viewOf};
 ghost use Rattle.acceptance.specs.declared.Answer.the-variants.{Accepted};
 ghost use Rattle.column.specs.Column.{altitudesFrom, columnAnswer, columnAfter, columnRows};
-ghost use Rattle.column.specs.Parts.{noParts, eitherParts, partsFrom, rowsStored};
+ghost use Rattle.column.specs.Parts.{noParts, eitherParts, partsFrom, storedFor, rowsStored};
 use acceptance::Answer;
 use acceptance::accepted;
 use acceptance::judge;
@@ -116,11 +117,11 @@ pub fn rows_at(sw0: f64, sw15: f64, numbers: &[f64], alts: &[f64], out: &mut [f6
     }
 }
 
-// The rows of a record at accepted altitudes; what does not depend on the altitude is worked out once, as a station stores it: the parts that the
-// altitudes read.
-pub fn rows(w: [i32; 24], n: Input, alts: &[f64], out: &mut [f64])
-    requires { ⌜ (11 * length (now alts) ≤ length (now out)) × (altitudesFrom 0 (now alts) ≡ Accepted) ⌝ }
-    ensures { λ _. ⌜ now (out .exit) ≡ columnRows w n (now (alts .entry)) ++ drop (11 * length (now (alts .entry))) (now (out .entry)) ⌝ }
+// What rows at the altitudes read of a record, stored as a station stores it behind the first 14 numbers: the parts that the altitudes read. The
+// main effects of the switches come back.
+pub fn stored_for(w: [i32; 24], n: Input, alts: &[f64], numbers: &mut [f64]) -> [f64; 24]
+    requires { ⌜ length (now numbers) ≡ 234 ⌝ }
+    ensures { λ r. ⌜ (r ≡ (viewOf w n) .sw) × (now (numbers .exit) ≡ take 14 (now (numbers .entry)) ++ storedFor w n (now (alts .entry))) ⌝ }
 {
     let v = view_of(w, n);
     let sw = v.sw;
@@ -128,8 +129,17 @@ pub fn rows(w: [i32; 24], n: Input, alts: &[f64], out: &mut [f64])
     let p = parts(alts);
     let a = need_of(p);
     let l = levels_of(v, a);
+    store(p, sw, x, l, numbers);
+    sw
+}
+
+// The rows of a record at accepted altitudes; what does not depend on the altitude is worked out once.
+pub fn rows(w: [i32; 24], n: Input, alts: &[f64], out: &mut [f64])
+    requires { ⌜ (11 * length (now alts) ≤ length (now out)) × (altitudesFrom 0 (now alts) ≡ Accepted) ⌝ }
+    ensures { λ _. ⌜ now (out .exit) ≡ columnRows w n (now (alts .entry)) ++ drop (11 * length (now (alts .entry))) (now (out .entry)) ⌝ }
+{
     let mut numbers = [0.0; 234];
-    store(p, sw, x, l, &mut numbers);
+    let sw = stored_for(w, n, alts, &mut numbers);
     rows_at(sw[0], sw[15], &numbers, alts, out);
 }
 

@@ -15,6 +15,10 @@ use Rattle.acceptance.specs.Acceptance.{acceptedOf}
 use Rattle.atmosphere.specs.Atmosphere.{answerOf}
 use Rattle.column.specs.Column.{columnAnswer, columnAfter}
 use Rattle.station.specs.Station.{stationAnswer, wholeAfter, numbersAfter}
+use Rattle.crossings_list.specs.declared.Listing.{Listing}
+use Rattle.crossings.specs.Crossings.{refusedOr, crossingsAnswer, crossingsAfter}
+use Rattle.crossings.proofs.Laws.{goes-on}
+use Rattle.host.specs.Crossings.{listingCode, hostCrossings, hostList}
 use Rattle.host.specs.Host.{codeOf, recordOf, lengthsOf, hostAnswer, hostColumn, hostRows, hostStation, hostWhole, hostNumbers}
 
 -- a refusal: its number and place, the lent memory as it was
@@ -108,6 +112,36 @@ module _ (year doy : ℤ) (f l : List Float) (w : List ℤ) where
       simp (e0, e1, e3, e4, e5),
       simp (e2, e3, e4, e5) (twice (acceptedOf (columnAnswer w (recordOf year doy f l) alts (length xs))) _),
     )
+
+-- ---- the crossings
+
+-- the slices' own answer goes first
+stays : (a : Answer) (x : Listing) → acceptedOf a ≡ false → codeOf a ≡ listingCode (refusedOr a x)
+unfolding codeOf
+stays Accepted x t = absurd (true≢false t)
+stays (Refused n k) x t = refl
+
+module _ (year doy : ℤ) (f l : List Float) (w : List ℤ) (alts : List Float) (level : Float) (xs : List ℕ) (a : Answer) (e : a ≡ lengthsOf f l w Accepted) where
+  abbrev Listed : ℕ → List ℕ → Type 0
+  Listed x ys = (x ≡ listingCode (hostCrossings year doy f l w alts level (length xs))) × (ys ≡ hostList year doy f l w alts level xs)
+
+  pub no-list : (x : ℕ) → acceptedOf a ≡ false → x ≡ codeOf a → Listed x xs
+  unfolding hostCrossings hostList
+  no-list x t c = (c ∙ rw (← e) (stays a _ t), rw (← e, t))
+
+  pub a-list : (x : ℕ) (r : Listing) (n : Input) (v : List ℤ) (ys : List ℕ)
+      → acceptedOf a ≡ true
+      → x ≡ listingCode r
+      → r ≡ crossingsAnswer v n alts level (length xs)
+      → ys ≡ crossingsAfter v n alts level xs
+      → n ≡ recordOf year doy f l
+      → v ≡ w
+      → Listed x ys
+  unfolding hostCrossings hostList
+  a-list x r n v ys t e0 e1 e2 e3 e4 =
+      let told : r ≡ refusedOr (lengthsOf f l w Accepted) (crossingsAnswer w (recordOf year doy f l) alts level (length xs)) =
+      e1 ∙ rw (e3, e4, ← e) (sym (goes-on a _ t)) in
+      (e0 ∙ ap (λ (q : Listing). listingCode q) told, e2 ∙ rw (e3, e4, ← e, t))
 
 -- ---- a station
 
