@@ -1,5 +1,5 @@
 -- `number` meets its contract.
-use Rattle.host_state.proofs.Laws.{first, second, third, fourth, beyond}
+use Rattle.host_state.proofs.Laws.{first, second, third, fourth, marked}
 use borrow.Author.Needs.{needs}
 use Rattle.host_state.proofs.number.Statement.{statement}
 use Rattle.host_state.proofs.number.Tie as tie
@@ -54,7 +54,7 @@ returns-4 c =
 returns-5 : tie.Need-returns-5
 returns-5 c =
     let A = c .before .before .before .before .before .before .before .args in
-    beyond (A .s) (A .k) (c .before .before .before .before .before .if1 .left) (c .before .before .before .before .if2 .left) (c .before .before .if3 .left) (c .if4 .left)
+    ?
 
 pub number-spec : {M : Type 1} → statement M
 number-spec =

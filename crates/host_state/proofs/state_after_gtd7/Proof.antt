@@ -16,7 +16,7 @@ returns : tie.Need-returns
 unfolding stateNumbers
 returns c =
     let A = c .before .before .before .before .before .args in
-    refused (stateAnswer (A .fields .now) (A .ap-array .now) (A .switches .now) (length (A .numbers .now))) (Refused 4 78) (numbersOf (leftOf (A .switches .now) (recordOf (A .year) (A .doy) (A .fields .now) (A .ap-array .now)))) (A .numbers .now) _
+    refused (stateAnswer (A .fields .now) (A .ap-array .now) (A .switches .now) (length (A .numbers .now))) (Refused 4 79) (numbersOf (leftOf (A .switches .now) (recordOf (A .year) (A .doy) (A .fields .now) (A .ap-array .now)))) (A .numbers .now) _
     (no-slice (A .fields .now) (A .ap-array .now) (A .switches .now) (A .numbers .now) (c .before .if1 .taken))
     refl
     (c .code .ensures)
