@@ -22,7 +22,7 @@ use Rattle.lower.specs.declared.Whole.{Whole}
 use Rattle.lower.specs.Lower.{mesoPlan, lowerPlan, aboveOf, belowOf}
 use Rattle.acceptance.specs.declared.Answer.{Answer}
 use Rattle.acceptance.specs.declared.Answer.the-variants.{Accepted, Refused}
-use Rattle.acceptance.specs.Acceptance.{judgedOf, acceptedOf}
+use Rattle.acceptance.specs.Acceptance.{acceptedOf, recordAnswer}
 
 -- gtd7: gts7 at 72.5 km or above, and from there down the lower nodes
 unfoldable pub gtd7Plan : List Float → Site → Float → Plan Whole
@@ -54,7 +54,7 @@ elevenOf w n =
 
 -- the one-altitude call: 4 for a row that is not of length 11, then what the record meets
 unfoldable pub answerOf : List ℤ → Input → ℕ → Answer
-answerOf w n len = cond (not (eqb len 11)) (Refused 4 11) (judgedOf w n)
+answerOf w n len = cond (not (eqb len 11)) (Refused 4 11) (recordAnswer w n)
 
 -- the lent row afterwards: the eleven numbers where the call is accepted, else as it was
 unfoldable pub rowAfter : List ℤ → Input → List Float → List Float
