@@ -24,7 +24,8 @@ use Rattle.plan.specs.Plan.{Ran, ends, run}
 use Rattle.acceptance.specs.declared.Answer.the-variants.{Accepted, Refused}
 use Rattle.atmosphere.specs.Atmosphere.{gtd7Plan}
 use Rattle.host.specs.Host.{codeOf, recordOf, lengthsOf}
-use Rattle.host_state.specs.HostState.{nodesOf, lastOf, numberOf, numbersFrom, numbersOf, leftOf, stateAnswer, stateNumbers}
+use Rattle.host_state.specs.HostState.{nodesOf, lastOf, numberOf, numbersFrom, numbersOf, stateAnswer, stateNumbers}
+use Rattle.model_state.specs.Left.{leftOf}
 
 module _ (s : State) (k : ℕ) where
   pub first : (a : List Float) → a ≡ nodesOf s → k < 30 → a ‼ k ≡ numberOf s k

@@ -8,16 +8,11 @@ use lib.ListN.{length}
 use lib.Ieee.{Float}
 use Rattle.numbers.specs.Arithmetic.{_‼_}
 use Rattle.numbers.specs.Literals.{0·0, 1·0}
-use Rattle.setting.specs.declared.Input.{Input}
 use Rattle.setting.specs.declared.State.{State}
-use Rattle.setting.specs.State.{freshOf}
-use Rattle.setting.specs.View.{viewOf}
-use Rattle.upper.specs.Upper.{siteOf}
-use Rattle.plan.specs.Plan.{run}
 use Rattle.acceptance.specs.declared.Answer.{Answer}
 use Rattle.acceptance.specs.declared.Answer.the-variants.{Accepted, Refused}
 use Rattle.acceptance.specs.Acceptance.{acceptedOf}
-use Rattle.atmosphere.specs.Atmosphere.{gtd7Plan}
+use Rattle.model_state.specs.Left.{leftOf}
 use Rattle.host.specs.Host.{recordOf, lengthsOf}
 
 -- gsurf to dm14, then the nodes
@@ -52,12 +47,6 @@ numbersFrom (suc m) k s = numberOf s k ∷ numbersFrom m (suc k) s
 -- all of them
 unfoldable pub numbersOf : State → List Float
 numbersOf s = numbersFrom 79 0 s
-
--- the State after gtd7 from a fresh one
-unfoldable pub leftOf : List ℤ → Input → State
-leftOf w n =
-    let v = viewOf w n in
-    (run v (gtd7Plan (v .sw) (siteOf (v .sw) (n .«g_lat») (v .doy) (n .f107a)) (n .alt)) freshOf) .left
 
 -- 4 for the lent slice, then for the fields, the array and the switches
 unfoldable pub stateAnswer : List Float → List Float → List ℤ → ℕ → Answer

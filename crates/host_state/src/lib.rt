@@ -2,7 +2,8 @@
 ghost use mathlib.Core.Path.{_≡_};
 ghost use lib.ListN.{length};
 ghost use Rattle.host.specs.Host.{codeOf};
-ghost use Rattle.host_state.specs.HostState.{nodesOf, lastOf, numberOf, numbersOf, leftOf, stateAnswer, stateNumbers};
+ghost use Rattle.model_state.specs.Left.{leftOf};
+ghost use Rattle.host_state.specs.HostState.{nodesOf, lastOf, numberOf, numbersOf, stateAnswer, stateNumbers};
 use acceptance::Answer;
 use acceptance::accepted;
 use host::record::code;

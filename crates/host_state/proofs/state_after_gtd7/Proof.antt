@@ -6,7 +6,8 @@ use borrow.Author.Tests.{not-true, not-false}
 use Rattle.acceptance.specs.declared.Answer.the-variants.{Accepted, Refused}
 use Rattle.host.specs.Host.{recordOf}
 use Rattle.host.proofs.Laws.{refused, fields-fit, switches-fit, passed, dated}
-use Rattle.host_state.specs.HostState.{numbersOf, leftOf, stateAnswer, stateNumbers}
+use Rattle.host_state.specs.HostState.{numbersOf, stateAnswer, stateNumbers}
+use Rattle.model_state.specs.Left.{leftOf}
 use Rattle.host_state.proofs.Laws.{no-slice, a-slice, answered}
 use borrow.Author.Needs.{needs}
 use Rattle.host_state.proofs.state_after_gtd7.Statement.{statement}
