@@ -31,7 +31,7 @@ use Rattle.stored.specs.declared.Parts.{Parts}
 use Rattle.stored.specs.Stored.{needOf, storedOf, rowStored}
 use Rattle.stored.specs.Rows.{partsAt, Holds}
 use Rattle.stored.specs.Eleven.{stored-eleven}
-use Rattle.column.specs.Column.{altitudesFrom, unmixedFrom, checkedOf, columnAnswer, columnRows, columnAfter}
+use Rattle.column.specs.Column.{altitudesFrom, unmixedFrom, judgedAllOf, columnAnswer, columnRows, columnAfter}
 use Rattle.column.specs.Parts.{noParts, eitherParts, partsFrom, rowsStored}
 
 -- ---- the altitudes
@@ -231,7 +231,7 @@ accepted-is Accepted h = refl
 accepted-is (Refused n k) h = absurd (false≢true h)
 
 pub accepted-altitudes : (w : List ℤ) (n : Input) (alts : List Float) (len : ℕ) → acceptedOf (columnAnswer w n alts len) ≡ true → altitudesFrom 0 alts ≡ Accepted
-unfolding columnAnswer checkedOf
+unfolding columnAnswer judgedAllOf
 accepted-altitudes w n alts len h =
     accepted-is _ (middle-passed (judgedOf w (withAltOf n 0·0)) (altitudesFrom 0 alts) _ (last-passed (ltb 512 (length alts)) (ltb len (11 * length alts)) (11 * length alts) _ h))
 
@@ -255,21 +255,21 @@ module _ (w : List ℤ) (n : Input) (alts : List Float) (len : ℕ) where
   unfolding columnAnswer
   too-short g h = simp (le-ltb _ _ g, lt-ltb _ _ h)
 
-  pub room-enough : length alts ≤ 512 → 11 * length alts ≤ len → (r : Answer) → r ≡ checkedOf w n alts → r ≡ columnAnswer w n alts len
+  pub room-enough : length alts ≤ 512 → 11 * length alts ≤ len → (r : Answer) → r ≡ judgedAllOf w n alts → r ≡ columnAnswer w n alts len
   unfolding columnAnswer
   room-enough g h r e = simp (le-ltb _ _ g, le-ltb _ _ h, e)
 
 -- what the record and the altitudes meet, test by test
 module _ (w : List ℤ) (n : Input) (alts : List Float) (m : Input) (a : Answer) (v : Bool) (e : m ≡ withAltOf n 0·0) (f : a ≡ judgedOf w m) (i : v ≡ acceptedOf a) where
-  pub record-refused : not v ≡ true → a ≡ checkedOf w n alts
-  unfolding checkedOf
+  pub record-refused : not v ≡ true → a ≡ judgedAllOf w n alts
+  unfolding judgedAllOf
   record-refused t = rw (← e, ← f) (simp (← i) (simp t))
 
   module _ (t : not v ≡ false) (b : Answer) (u : Bool) (g : b ≡ altitudesFrom 0 alts) (j : u ≡ acceptedOf b) where
-    pub altitude-refused : not u ≡ true → b ≡ checkedOf w n alts
-    unfolding checkedOf
+    pub altitude-refused : not u ≡ true → b ≡ judgedAllOf w n alts
+    unfolding judgedAllOf
     altitude-refused s = rw (← e, ← f, ← g) (simp (← i, ← j) (simp (t, s)))
 
-    pub all-checked : not u ≡ false → (on : Bool) (r : Answer) → on ≡ isOne (given w 15) → r ≡ unmixedFrom on 0 alts → r ≡ checkedOf w n alts
-    unfolding checkedOf
-    all-checked s on r k l = rw (← e, ← f, ← g, ← k, ← l) (simp (← i, ← j) (simp (t, s)))
+    pub all-judged : not u ≡ false → (on : Bool) (r : Answer) → on ≡ isOne (given w 15) → r ≡ unmixedFrom on 0 alts → r ≡ judgedAllOf w n alts
+    unfolding judgedAllOf
+    all-judged s on r k l = rw (← e, ← f, ← g, ← k, ← l) (simp (← i, ← j) (simp (t, s)))

@@ -11,7 +11,7 @@ use Rattle.acceptance.specs.declared.Answer.{Answer}
 use Rattle.acceptance.specs.declared.Answer.the-variants.{Accepted, Refused}
 use Rattle.acceptance.specs.Acceptance.{withinOf, arrayUnfitOf, unfitOf, arrayOutsideOf, outsideOf, foundOf, judgedOf, unmixedOf, withAltOf}
 use Rattle.acceptance.specs.Cases.{Case, sample}
-use Rattle.column.specs.Column.{altitudesFrom, unmixedFrom, checkedOf, columnAnswer}
+use Rattle.column.specs.Column.{altitudesFrom, unmixedFrom, judgedAllOf, columnAnswer}
 
 -- a column of the first published case, every switch 1 but 15, with a buffer of 100
 abbrev pub column : ℤ → List Float → Answer
@@ -28,5 +28,5 @@ mixing =
     []
 
 pub mixing-hold : map (λ (c : Case). c .given) mixing ≡ map (λ (c : Case). c .answer) mixing
-unfolding mixing columnAnswer checkedOf altitudesFrom unmixedFrom unmixedOf withAltOf judgedOf lacksHistoryOf asksHistoryOf outsideOf arrayOutsideOf unfitOf arrayUnfitOf foundOf withinOf finiteOf dec neg le lt eq round ofBits
+unfolding mixing columnAnswer judgedAllOf altitudesFrom unmixedFrom unmixedOf withAltOf judgedOf lacksHistoryOf asksHistoryOf outsideOf arrayOutsideOf unfitOf arrayUnfitOf foundOf withinOf finiteOf dec neg le lt eq round ofBits
 mixing-hold = refl

@@ -29,8 +29,8 @@ unmixedFrom one k [] = Accepted
 unmixedFrom one k (z ∷ zs) = cond (unmixedOf one z) (Refused 10 (17 + k)) (unmixedFrom one (k + 1) zs)
 
 -- the record, its own altitude not looked at; each altitude's 2 or 3; 'once all altitudes have passed those', 10
-unfoldable pub checkedOf : List ℤ → Input → List Float → Answer
-checkedOf w n alts =
+unfoldable pub judgedAllOf : List ℤ → Input → List Float → Answer
+judgedAllOf w n alts =
     let a = judgedOf w (withAltOf n 0·0) in
     cond (not (acceptedOf a)) a
     (cond (not (acceptedOf (altitudesFrom 0 alts))) (altitudesFrom 0 alts)
@@ -41,7 +41,7 @@ unfoldable pub columnAnswer : List ℤ → Input → List Float → ℕ → Answ
 columnAnswer w n alts len =
     cond (ltb 512 (length alts)) (Refused 5 512)
     (cond (ltb len (11 * length alts)) (Refused 4 (11 * length alts))
-    (checkedOf w n alts))
+    (judgedAllOf w n alts))
 
 -- the rows of a record: for each altitude the one-altitude call's eleven numbers
 unfoldable pub columnRows : List ℤ → Input → List Float → List Float

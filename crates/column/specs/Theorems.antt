@@ -17,7 +17,7 @@ use Rattle.atmosphere.specs.Atmosphere.{elevenOf}
 use Rattle.shutoff.specs.Shut.{Alike}
 use Rattle.shutoff.specs.Agree.{Has}
 use Rattle.shutoff.specs.Theorems.{has, judged-history, alike-at, eleven≡}
-use Rattle.column.specs.Column.{altitudesFrom, unmixedFrom, checkedOf, columnAnswer, columnRows, columnAfter}
+use Rattle.column.specs.Column.{altitudesFrom, unmixedFrom, judgedAllOf, columnAnswer, columnRows, columnAfter}
 
 -- an accepted answer comes from no refusal before it
 no-refusal : (c : Bool) (n k : ℕ) (x : Answer) → cond c (Refused n k) x ≡ Accepted → x ≡ Accepted
@@ -30,7 +30,7 @@ first (Refused n k) b e = e
 
 -- an accepted column's record meets none of 2, 1 and 3 at an altitude of 0
 pub record-accepted : (w : List ℤ) (n : Input) (alts : List Float) (len : ℕ) → columnAnswer w n alts len ≡ Accepted → judgedOf w (withAltOf n 0·0) ≡ Accepted
-unfolding columnAnswer checkedOf
+unfolding columnAnswer judgedAllOf
 record-accepted w n alts len e =
     first (judgedOf w (withAltOf n 0·0)) _
     (no-refusal (ltb len (11 * length alts)) 4 (11 * length alts) _ (no-refusal (ltb 512 (length alts)) 5 512 _ e))

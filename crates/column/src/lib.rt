@@ -4,7 +4,7 @@ ghost use mathlib.Core.List.{_++_};
 ghost use Prim.Native.Nat.{_*_, _≤_};
 ghost use lib.ListN.{length, drop};
 ghost use Rattle.acceptance.specs.declared.Answer.the-variants.{Accepted};
-ghost use Rattle.column.specs.Column.{altitudesFrom, unmixedFrom, checkedOf, columnAnswer, columnAfter, columnRows};
+ghost use Rattle.column.specs.Column.{altitudesFrom, unmixedFrom, judgedAllOf, columnAnswer, columnAfter, columnRows};
 ghost use Rattle.column.specs.Parts.{noParts, eitherParts, partsFrom, rowsStored};
 use acceptance::Answer;
 use acceptance::accepted;
@@ -58,8 +58,8 @@ pub fn unmixed_altitude(on: bool, alts: &[f64]) -> Answer
 }
 
 // What a column's record and altitudes meet, its lengths apart.
-pub fn checked(w: [i32; 24], n: Input, alts: &[f64]) -> Answer
-    ensures { λ r. ⌜ r ≡ checkedOf w n (now (alts .entry)) ⌝ }
+pub fn judge_all(w: [i32; 24], n: Input, alts: &[f64]) -> Answer
+    ensures { λ r. ⌜ r ≡ judgedAllOf w n (now (alts .entry)) ⌝ }
 {
     let m = with_alt(n, 0.0);
     let a = judge(w, m);
@@ -86,7 +86,7 @@ pub fn column_answer(w: [i32; 24], n: Input, alts: &[f64], len: usize) -> Answer
     if len < room {
         return Answer::Refused(4, room);
     }
-    checked(w, n, alts)
+    judge_all(w, n, alts)
 }
 
 pub fn no_parts() -> Parts

@@ -53,8 +53,8 @@ returns-4 c =
 
 returns-5 : tie.Need-returns-5
 returns-5 c =
-    let A = c .before .before .before .before .before .before .before .before .args in
-    marked (A .s) (A .k) (c .before .before .before .before .before .before .if1 .left) (c .before .before .before .before .before .if2 .left) (c .before .before .before .if3 .left) _ (c .before .if4 .left) (c .pick .ensures)
+    let A = c .before .before .before .before .before .before .before .before .before .args in
+    marked (A .s) (A .k) (c .before .before .before .before .before .before .before .if1 .left) (c .before .before .before .before .before .before .if2 .left) (c .before .before .before .before .if3 .left) _ (c .before .before .if4 .left) (c .pick .ensures)
 
 pub number-spec : {M : Type 1} → statement M
 number-spec =
