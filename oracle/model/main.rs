@@ -238,25 +238,32 @@ fn answered(r: &Input, w: &[i32; 24]) -> (u64, u64) {
     }
 }
 
-// A NaN in d[0] or d[2] to d[5] below 72.5 km, with fluxes from 60 to 400: at exactly 32.5 km the model has no number.
+// Rows below 72.5 km with fluxes from 60 to 400, and those with a NaN in d[0] or d[2] to d[5]: at exactly 32.5 km, where the model has no number;
+// elsewhere, with an entry 9 from -2 to 3 and with any other.
+#[derive(Default)]
 struct Low {
     rows: u64,
-    nan: u64,
     at_32_5: u64,
+    elsewhere: u64,
+    other_nine: u64,
 }
 
 impl Low {
-    fn note(&mut self, r: &Input, row: &[f64; 11]) {
+    fn note(&mut self, r: &Input, w: &[i32; 24], row: &[f64; 11]) {
         let fluxes = (60.0..=400.0).contains(&r.f107a) && (60.0..=400.0).contains(&r.f107);
-        if r.alt < 72.5 && fluxes {
-            self.rows += 1;
-            if [0, 2, 3, 4, 5].iter().any(|k| row[*k].is_nan()) {
-                if r.alt == 32.5 {
-                    self.at_32_5 += 1;
-                } else {
-                    self.nan += 1;
-                }
-            }
+        if !(r.alt < 72.5 && fluxes) {
+            return;
+        }
+        self.rows += 1;
+        if ![0, 2, 3, 4, 5].iter().any(|k| row[*k].is_nan()) {
+            return;
+        }
+        if r.alt == 32.5 {
+            self.at_32_5 += 1;
+        } else if (-2..=3).contains(&w[9]) {
+            self.elsewhere += 1;
+        } else {
+            self.other_nine += 1;
         }
     }
 }
@@ -272,7 +279,7 @@ fn show(what: &str, r: &Input, w: &[i32; 24], a: &[f64], b: &[f64]) {
 // Rows and refusals against the routed Rust.
 fn differential(call: &Call, g: &mut Random, count: u64) -> u64 {
     let (mut accepted, mut refused, mut ten, mut nan, mut bad) = (0u64, 0u64, 0u64, 0u64, 0u64);
-    let mut low = Low { rows: 0, nan: 0, at_32_5: 0 };
+    let mut low = Low::default();
     for i in 0..count {
         let w = row_of(g);
         let mut r = record(g);
@@ -287,7 +294,7 @@ fn differential(call: &Call, g: &mut Random, count: u64) -> u64 {
         let equal = if want == (0, 0) {
             accepted += 1;
             nan += expect.iter().any(|x| x.is_nan()) as u64;
-            low.note(&r, &expect);
+            low.note(&r, &w, &expect);
             (0..11).all(|k| same(row[k], expect[k]))
         } else {
             refused += 1;
@@ -302,7 +309,8 @@ fn differential(call: &Call, g: &mut Random, count: u64) -> u64 {
         }
     }
     println!("routed Rust, {}: {count} records, {accepted} accepted ({nan} with a NaN), {refused} refused ({ten} with 10), {bad} differences", call.name);
-    println!("  below 72.5 km, fluxes 60 to 400: {} rows, a NaN in d[0] or d[2] to d[5] of {} at exactly 32.5 km, of {} elsewhere", low.rows, low.at_32_5, low.nan);
+    let Low { rows, at_32_5, elsewhere, other_nine } = low;
+    println!("  below 72.5 km, fluxes 60 to 400: {rows} rows, with a NaN in d[0] or d[2] to d[5]: {at_32_5} at exactly 32.5 km; elsewhere {elsewhere} with an entry 9 from -2 to 3, {other_nine} with another");
     bad
 }
 
