@@ -16,23 +16,19 @@ use Rattle.numbers.specs.Literals.{0·0}
 use Rattle.atmosphere.specs.Atmosphere.{elevenOf}
 use Rattle.shutoff.specs.Shut.{Alike}
 use Rattle.shutoff.specs.Agree.{Has}
-use Rattle.shutoff.specs.Theorems.{has, judged-history, alike-at, eleven≡}
-use Rattle.column.specs.Column.{altitudesFrom, unmixedFrom, judgedAllOf, columnAnswer, columnRows, columnAfter}
+use Rattle.shutoff.specs.Theorems.{first-accepted, judged-history, has, alike-at, eleven≡}
+use Rattle.column.specs.Column.{judgedAllOf, columnAnswer, columnRows, columnAfter}
 
 -- an accepted answer comes from no refusal before it
 no-refusal : (c : Bool) (n k : ℕ) (x : Answer) → cond c (Refused n k) x ≡ Accepted → x ≡ Accepted
 no-refusal true n k x e = absurd (subst (λ (r : Answer). T (not (acceptedOf r))) e tt)
 no-refusal false n k x e = e
 
-first : (a b : Answer) → cond (not (acceptedOf a)) a b ≡ Accepted → a ≡ Accepted
-first Accepted b e = refl
-first (Refused n k) b e = e
-
 -- an accepted column's record meets none of 2, 1 and 3 at an altitude of 0
 pub record-accepted : (w : List ℤ) (n : Input) (alts : List Float) (len : ℕ) → columnAnswer w n alts len ≡ Accepted → judgedOf w (withAltOf n 0·0) ≡ Accepted
 unfolding columnAnswer judgedAllOf
 record-accepted w n alts len e =
-    first (judgedOf w (withAltOf n 0·0)) _
+    first-accepted (judgedOf w (withAltOf n 0·0)) _
     (no-refusal (ltb len (11 * length alts)) 4 (11 * length alts) _ (no-refusal (ltb 512 (length alts)) 5 512 _ e))
 
 -- whether the history lacks does not depend on the altitude

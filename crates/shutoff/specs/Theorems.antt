@@ -37,14 +37,15 @@ no-refusal : (c : Bool) (n k : ℕ) (x : Answer) → cond c (Refused n k) x ≡ 
 no-refusal true n k x e = absurd (subst (λ (r : Answer). T (not (acceptedOf r))) e tt)
 no-refusal false n k x e = (refl, e)
 
-first : (a b : Answer) → cond (not (acceptedOf a)) a b ≡ Accepted → a ≡ Accepted
-first Accepted b e = refl
-first (Refused n k) b e = e
+-- nor from an answer before it that is a refusal
+pub first-accepted : (a b : Answer) → cond (not (acceptedOf a)) a b ≡ Accepted → a ≡ Accepted
+first-accepted Accepted b e = refl
+first-accepted (Refused n k) b e = e
 
 -- a record that is accepted is judged so
 pub judged-first : (w : List ℤ) (n : Input) (len : ℕ) → answerOf w n len ≡ Accepted → judgedOf w n ≡ Accepted
 unfolding answerOf recordAnswer
-judged-first w n len e = first (judgedOf w n) _ ((no-refusal (not (eqb len 11)) 4 11 _ e) .1)
+judged-first w n len e = first-accepted (judgedOf w n) _ ((no-refusal (not (eqb len 11)) 4 11 _ e) .1)
 
 pub judged-history : (w : List ℤ) (n : Input) → judgedOf w n ≡ Accepted → lacksHistoryOf w n ≡ false
 unfolding judgedOf
