@@ -13,7 +13,7 @@ pub struct Flags {
     pub swc: [f64; 24],
 }
 
-// The floats that globe7, gts7 and gtd7 carry: the Rust's State, its Legendre values flat, four rows of nine; dm28_set says whether dm28 was set.
+// What globe7, gts7 and gtd7 carry: the Rust's State, its Legendre values flat, four rows of nine; dm28_set says whether dm28 was set.
 pub struct State {
     pub gsurf: f64,
     pub re: f64,
