@@ -26,15 +26,17 @@ extern "C" {
      2 at the lowest field that is NaN or infinite (0 year, 1 doy, 2 sec, 3 alt, 4 g_lat, 5 g_long, 6 lst, 7 f107a, 8 f107, 9 ap, 10 to 16
        the history);
      1 at 10, switch 9 is -1 and the history is absent;
-     3 at the lowest field that is out of range.
-   A field that the switches shut off must still be finite and in range: write 0. An accepted row can hold NaN: below 72.5 km where switch 15
-   is not 1, and at exactly 32.5 km. */
+     3 at the lowest field that is out of range;
+     10 at 3, an altitude below 72.5 km where switch 15 is not 1.
+   A field that the switches shut off must still be finite and in range: write 0. An accepted row can hold NaN: at exactly 32.5 km, and with
+   extreme fluxes. */
 uint64_t potirehu_gtd7(int32_t year, int32_t doy, const double *fields, size_t n_fields, const double *ap_array, size_t n_ap,
                        const int32_t *switches, size_t n_switches, double *row, size_t n_row);
 
 /* The same at n altitudes (km), 0 to 512 of them, the record's own altitude not looked at: each altitude's eleven numbers go into their own
    part of rows, and what lies behind them stays. After the lengths of fields, ap_array and switches: 5 at 512 for more than 512 altitudes;
-   4 at 11 n for a shorter buffer; the record as above; each altitude 2, else 3, at 17 plus its index. */
+   4 at 11 n for a shorter buffer; the record as above; each altitude 2, else 3, at 17 plus its index; once all have passed those, 10 at 17 plus the
+   lowest index below 72.5 km where switch 15 is not 1. */
 uint64_t potirehu_gtd7_column(int32_t year, int32_t doy, const double *fields, size_t n_fields, const double *ap_array, size_t n_ap,
                               const int32_t *switches, size_t n_switches, const double *altitudes, size_t n, double *rows, size_t n_rows);
 
@@ -42,7 +44,8 @@ uint64_t potirehu_gtd7_column(int32_t year, int32_t doy, const double *fields, s
    altitudes (km), 0 to 512 of them, must rise strictly; the record's own altitude is not looked at. The index of the lower altitude of each such
    pair goes to the start of list, lowest first, and what lies behind stays; a NaN at either altitude or as level makes no pair. Answers how long
    the list is, at most 511; or a refusal, and leaves list as it was. After the lengths of fields, ap_array and switches: 5 at 512 for more than
-   512 altitudes; the record as above; each altitude 2, else 3, at 17 plus its index; 8 at the lowest index whose altitude is not above the one
+   512 altitudes; the record as above; each altitude 2, else 3, at 17 plus its index; once all have passed those, 10 at 17 plus the lowest index below
+   72.5 km where switch 15 is not 1; 8 at the lowest index whose altitude is not above the one
    before it; 9 at the length needed, for a list that does not fit. A refusal is 2^32 or more, the list's length below. */
 uint64_t potirehu_crossings(int32_t year, int32_t doy, const double *fields, size_t n_fields, const double *ap_array, size_t n_ap,
                             const int32_t *switches, size_t n_switches, const double *altitudes, size_t n, double level, uint64_t *list,
@@ -66,8 +69,8 @@ uint64_t potirehu_station(int32_t year, int32_t doy, const double *fields, size_
                           const int32_t *switches, size_t n_switches, int32_t *whole, size_t n_whole, double *numbers, size_t n_numbers);
 
 /* The station's air at one altitude (km): the row that potirehu_gtd7 gives on the record as the station now has it, with this altitude. Answers 0
-   and writes the row; or 4 at the length needed, for row, whole or numbers of another length, in this order, then 2 or 3 at 3 for the altitude,
-   and leaves row as it was. */
+   and writes the row; or 4 at the length needed, for row, whole or numbers of another length, in this order, then 2, 3 or 10 at 3 for the
+   altitude, and leaves row as it was. */
 uint64_t potirehu_station_gtd7(const int32_t *whole, size_t n_whole, const double *numbers, size_t n_numbers, double alt, double *row, size_t n_row);
 
 /* The same for drag: the row that potirehu_gtd7d gives on that record. Answers and refusals are those of potirehu_station_gtd7. */

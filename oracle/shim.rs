@@ -1,9 +1,10 @@
-// Appended to a copy of atmosphere.rs: the private functions, and State as 78 numbers in the order of its fields.
+// Appended to a copy of atmosphere.rs: the private functions, and State as 79 numbers: 78 in the order of its fields, then 1 where dm28 was set and else 0,
+// which the routed copy alone can say: `prepare` leaves the lines that end in `routed` out of the untouched one.
 #[allow(dead_code, clippy::too_many_arguments)]
 pub mod shim {
     use super::*;
 
-    pub const STATE: usize = 78;
+    pub const STATE: usize = 79;
 
     fn pack(s: &State) -> [f64; STATE] {
         let mut out = [0.0; STATE];
@@ -25,6 +26,7 @@ pub mod shim {
         }
         put(&[s.ctloc, s.stloc, s.c2tloc, s.s2tloc, s.s3tloc, s.c3tloc, s.apdf]);
         put(&s.apt);
+        put(&[if s.dm28_set { 1.0 } else { 0.0 }]); // routed
         out
     }
 
@@ -61,6 +63,7 @@ pub mod shim {
         s.c3tloc = get();
         s.apdf = get();
         s.apt.iter_mut().for_each(|v| *v = get());
+        s.dm28_set = get() == 1.0; // routed
         s
     }
 

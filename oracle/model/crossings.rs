@@ -1,7 +1,7 @@
 // Where d[5] of a column passes a level: our call against a list made from the routed Rust's rows, and time per altitude.
 use crate::host::{crossings as ours, numbers};
 use crate::random::Random;
-use crate::{altitude, judged, record, row_of, sample, spoiled, to_routed, Input};
+use crate::{altitude, judged, record, row_of, sample, spoiled, to_routed, unmixed, Input};
 use std::time::Instant;
 
 // d[5] of the routed Rust at each altitude.
@@ -97,6 +97,7 @@ fn refusals(r: &Input, w: &[i32; 24], lengths: [usize; 3], alts: &[f64], wanted:
             None
         }
     }));
+    all.extend(alts.iter().position(|z| unmixed(*z, w)).map(|k| (10, 17 + k as u64)));
     all.extend((1..alts.len()).find(|k| !(alts[*k] > alts[k - 1])).map(|k| (8, k as u64)));
     all.extend(wanted.filter(|(have, need)| have < need).map(|(_, need)| (9, need as u64)));
     all
@@ -105,7 +106,7 @@ fn refusals(r: &Input, w: &[i32; 24], lengths: [usize; 3], alts: &[f64], wanted:
 // Answer, list, the rest of the buffer and what lies around it.
 pub fn crossings(g: &mut Random, count: u64) -> u64 {
     let (mut bad, mut listed, mut indices, mut longest, mut several, mut nan) = (0u64, 0u64, 0u64, 0, 0u64, 0u64);
-    let mut refused = [0u64; 10];
+    let mut refused = [0u64; 11];
     for i in 0..count {
         let mut w = row_of(g);
         if w[9] == -1 && g.below(4) > 0 {
@@ -156,7 +157,7 @@ pub fn crossings(g: &mut Random, count: u64) -> u64 {
             }
         }
     }
-    let by: Vec<String> = (1..10).filter(|k| refused[*k] > 0).map(|k| format!("{} with {k}", refused[k])).collect();
+    let by: Vec<String> = (1..11).filter(|k| refused[*k] > 0).map(|k| format!("{} with {k}", refused[k])).collect();
     println!("crossings: {count} columns, {listed} listed with {indices} indices, the longest list of {longest} ({nan} columns with a NaN), refused {} ({several} had more than one reason), {bad} differences", by.join(", "));
     bad
 }

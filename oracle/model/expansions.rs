@@ -1,4 +1,4 @@
-// The public globe7 and glob7s against the routed Rust: the refusal, the value and all 78 numbers of State to the bit, from any State, row,
+// The public globe7 and glob7s against the routed Rust: the refusal, the value and all 79 numbers of State to the bit, from any State, row,
 // record and coefficients.
 use super::{numbers, record, row_of, same, set_field, spoiled, to_routed, Input, Random};
 use routed::astro::atmosphere::shim;
@@ -70,7 +70,10 @@ fn want_glob7s(r: &Input, w: &[i32; 24], p: &[f64], s: &State) -> Given {
     if p.len() < 100 || 150 < p.len() {
         refused((6, 100))
     } else {
-        given(shim::glob7s(s, p, &to_routed(r), *w), s)
+        // the State as it was, its mark true where the number is 1
+        let mut after = *s;
+        after[shim::STATE - 1] = (s[shim::STATE - 1] == 1.0) as u64 as f64;
+        given(shim::glob7s(s, p, &to_routed(r), *w), &after)
     }
 }
 
@@ -86,8 +89,18 @@ fn number(g: &mut Random) -> f64 {
     }
 }
 
-// All zero, wild, or mild with one or no wild number.
+// All zero, wild, or mild with one or no wild number; the mark 1, 0 or a number of that kind.
 fn state(g: &mut Random) -> State {
+    let mut s = any_numbers(g);
+    match g.below(3) {
+        0 => s[shim::STATE - 1] = 0.0,
+        1 => s[shim::STATE - 1] = 1.0,
+        _ => {}
+    }
+    s
+}
+
+fn any_numbers(g: &mut Random) -> State {
     match g.below(4) {
         0 => [0.0; shim::STATE],
         1 => std::array::from_fn(|_| number(g)),
@@ -194,17 +207,17 @@ fn lengths(g: &mut Random, count: u64) -> u64 {
     let mut bad = 0;
     for i in 0..count {
         let mut n = |right: usize, most: u64| if g.below(3) > 0 { right } else { g.below(most) as usize };
-        let (n_numbers, n_fields, n_ap, n_switches, n_state) = (n(79, 100), n(8, 10), n(7, 10), n(24, 30), n(78, 100));
-        let want = if n_numbers != 79 {
-            79
+        let (n_numbers, n_fields, n_ap, n_switches, n_state) = (n(1 + shim::STATE, 100), n(8, 10), n(7, 10), n(24, 30), n(shim::STATE, 100));
+        let want = if n_numbers != 1 + shim::STATE {
+            80
         } else if n_fields != 8 {
             8
         } else if n_ap != 0 && n_ap != 7 {
             7
         } else if n_switches != 24 {
             24
-        } else if n_state != 78 {
-            78
+        } else if n_state != shim::STATE {
+            79
         } else {
             0
         };

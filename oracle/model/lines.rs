@@ -1,5 +1,5 @@
 // The line program: forms and hostile lines fed to it, each answer compared with document 01's grammar read here and the routed Rust's numbers.
-use super::{judged, row_of, to_routed, Input, Random, EDGES};
+use super::{answered, row_of, to_routed, Input, Random, EDGES};
 use routed::astro::atmosphere::shim;
 use std::io::{BufRead, BufReader, Write};
 use std::process::{Command, Stdio};
@@ -120,7 +120,7 @@ fn answer(line: &[u8], number: u64) -> String {
                 ap: x[9],
                 ap_array: history.map(|a| a.map(thousandths)),
             };
-            match judged(&r, &w) {
+            match answered(&r, &w) {
                 (0, 0) => {
                     let (row, _) = shim::gtd7(&to_routed(&r), w);
                     format!("(row {})", row.map(bits).join(" "))

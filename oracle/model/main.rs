@@ -31,6 +31,8 @@ macro_rules! to_copy {
 to_copy!(to_routed, routed);
 to_copy!(to_counted, counted);
 
+const STATE: usize = routed::astro::atmosphere::shim::STATE;
+
 type Row = fn(&Input, [i32; 24]) -> [f64; 11];
 
 // A one-altitude call of ours, with the Rust's that decides it.
@@ -76,11 +78,11 @@ fn summed(r: &Input, w: [i32; 24]) -> [f64; 11] {
     d
 }
 
-// State after gtd7, its 78 numbers.
+// State after gtd7, its 78 numbers and the mark.
 fn state(r: &Input, w: &[i32; 24]) -> Vec<f64> {
     let (fields, ap, n_ap) = numbers(r);
-    let mut all = vec![0.0; 78];
-    let code = unsafe { state_after_gtd7(r.year, r.doy, fields.as_ptr(), 8, ap.as_ptr(), n_ap, w.as_ptr(), 24, all.as_mut_ptr(), 78) };
+    let mut all = vec![0.0; STATE];
+    let code = unsafe { state_after_gtd7(r.year, r.doy, fields.as_ptr(), 8, ap.as_ptr(), n_ap, w.as_ptr(), 24, all.as_mut_ptr(), STATE) };
     assert_eq!(code, 0);
     all
 }
@@ -192,7 +194,7 @@ fn spoiled(g: &mut Random, mut r: Input) -> Input {
     r
 }
 
-// Document 01's refusals: (0, 0) for an accepted record.
+// Document 01's refusals of a record, 2, 1 and 3: (0, 0) where none fits.
 fn judged(r: &Input, w: &[i32; 24]) -> (u64, u64) {
     let mut fields = vec![r.sec, r.alt, r.g_lat, r.g_long, r.lst, r.f107a, r.f107, r.ap];
     let mut ranges = vec![
@@ -224,6 +226,49 @@ fn judged(r: &Input, w: &[i32; 24]) -> (u64, u64) {
     }
 }
 
+// Document 02's 10: below 72.5 km, switch 15 not 1.
+fn unmixed(alt: f64, w: &[i32; 24]) -> bool {
+    w[15] != 1 && alt < 72.5
+}
+
+// What the one-altitude call answers: 2, 1, 3, then 10.
+fn answered(r: &Input, w: &[i32; 24]) -> (u64, u64) {
+    match judged(r, w) {
+        (0, 0) if unmixed(r.alt, w) => (10, 3),
+        refusal => refusal,
+    }
+}
+
+// Rows below 72.5 km with fluxes from 60 to 400, and those with a NaN in d[0] or d[2] to d[5]: at exactly 32.5 km, where the model has no number;
+// elsewhere, with an entry 9 from -2 to 3 and with any other.
+#[derive(Default)]
+struct Low {
+    rows: u64,
+    at_32_5: u64,
+    elsewhere: u64,
+    other_nine: u64,
+}
+
+impl Low {
+    fn note(&mut self, r: &Input, w: &[i32; 24], row: &[f64; 11]) {
+        let fluxes = (60.0..=400.0).contains(&r.f107a) && (60.0..=400.0).contains(&r.f107);
+        if !(r.alt < 72.5 && fluxes) {
+            return;
+        }
+        self.rows += 1;
+        if ![0, 2, 3, 4, 5].iter().any(|k| row[*k].is_nan()) {
+            return;
+        }
+        if r.alt == 32.5 {
+            self.at_32_5 += 1;
+        } else if (-2..=3).contains(&w[9]) {
+            self.elsewhere += 1;
+        } else {
+            self.other_nine += 1;
+        }
+    }
+}
+
 fn same(a: f64, b: f64) -> bool {
     a.to_bits() == b.to_bits() || (a.is_nan() && b.is_nan())
 }
@@ -234,7 +279,8 @@ fn show(what: &str, r: &Input, w: &[i32; 24], a: &[f64], b: &[f64]) {
 
 // Rows and refusals against the routed Rust.
 fn differential(call: &Call, g: &mut Random, count: u64) -> u64 {
-    let (mut accepted, mut refused, mut nan, mut bad) = (0u64, 0u64, 0u64, 0u64);
+    let (mut accepted, mut refused, mut ten, mut nan, mut bad) = (0u64, 0u64, 0u64, 0u64, 0u64);
+    let mut low = Low::default();
     for i in 0..count {
         let w = row_of(g);
         let mut r = record(g);
@@ -244,14 +290,16 @@ fn differential(call: &Call, g: &mut Random, count: u64) -> u64 {
         let before: [f64; 11] = std::array::from_fn(|_| f64::from_bits(g.next()));
         let mut row = before;
         let answer = call.ours(&r, &w, &mut row);
-        let want = judged(&r, &w);
+        let want = answered(&r, &w);
         let expect = if want == (0, 0) { (call.routed)(&r, w) } else { before };
         let equal = if want == (0, 0) {
             accepted += 1;
             nan += expect.iter().any(|x| x.is_nan()) as u64;
+            low.note(&r, &w, &expect);
             (0..11).all(|k| same(row[k], expect[k]))
         } else {
             refused += 1;
+            ten += (want.0 == 10) as u64;
             (0..11).all(|k| row[k].to_bits() == before[k].to_bits())
         };
         if answer != want || !equal {
@@ -261,7 +309,9 @@ fn differential(call: &Call, g: &mut Random, count: u64) -> u64 {
             }
         }
     }
-    println!("routed Rust, {}: {count} records, {accepted} accepted ({nan} with a NaN), {refused} refused, {bad} differences", call.name);
+    println!("routed Rust, {}: {count} records, {accepted} accepted ({nan} with a NaN), {refused} refused ({ten} with 10), {bad} differences", call.name);
+    let Low { rows, at_32_5, elsewhere, other_nine } = low;
+    println!("  below 72.5 km, fluxes 60 to 400: {rows} rows, with a NaN in d[0] or d[2] to d[5]: {at_32_5} at exactly 32.5 km; elsewhere {elsewhere} with an entry 9 from -2 to 3, {other_nine} with another");
     bad
 }
 
@@ -287,9 +337,10 @@ fn lengths(call: &Call, g: &mut Random, count: u64) -> u64 {
     bad
 }
 
-// All 78 numbers of State after gtd7 against the routed Rust, on accepted records.
+// All 78 numbers of State after gtd7 and the mark against the routed Rust, on records that meet none of 2, 1 and 3; a run that is accepted below 72.5 km
+// leaves the mark true.
 fn states(g: &mut Random, count: u64) -> u64 {
-    let (mut done, mut bad) = (0u64, 0u64);
+    let (mut done, mut marked, mut zero, mut low, mut bad) = (0u64, 0u64, 0u64, 0u64, 0u64);
     while done < count {
         let w = row_of(g);
         let r = record(g);
@@ -299,14 +350,19 @@ fn states(g: &mut Random, count: u64) -> u64 {
         done += 1;
         let (_, want) = routed::astro::atmosphere::shim::gtd7(&to_routed(&r), w);
         let have = state(&r, &w);
-        if !(0..78).all(|k| same(have[k], want[k])) {
+        let mark = want[STATE - 1] == 1.0;
+        let below = r.alt < 72.5 && answered(&r, &w) == (0, 0);
+        marked += mark as u64;
+        zero += (mark && want[5] == 0.0) as u64;
+        low += below as u64;
+        if !(0..STATE).all(|k| same(have[k], want[k])) || (below && !mark) {
             bad += 1;
             if bad <= 3 {
                 show("State differs", &r, &w, &have, &want);
             }
         }
     }
-    println!("State after gtd7: {done} accepted records, 78 numbers each, {bad} differences");
+    println!("State after gtd7: {done} records, 78 numbers and the mark each, {marked} marked ({zero} with dm28 at 0), {low} accepted below 72.5 km, {bad} differences");
     bad
 }
 
@@ -357,7 +413,7 @@ fn pairs(call: &Call, g: &mut Random, count: u64) -> u64 {
 
 // Columns against one-altitude calls: refusals in document 01's order, each altitude's row, and what lies behind them.
 fn columns(g: &mut Random, count: u64) -> u64 {
-    let (mut accepted, mut rows, mut bad) = (0u64, 0u64, 0u64);
+    let (mut accepted, mut rows, mut tens, mut bad) = (0u64, 0u64, 0u64, 0u64);
     for i in 0..count {
         let w = row_of(g);
         let mut r = record(g);
@@ -388,6 +444,7 @@ fn columns(g: &mut Random, count: u64) -> u64 {
         } else if judged(&at_zero, &w) != (0, 0) {
             judged(&at_zero, &w)
         } else {
+            let ten = || alts.iter().position(|z| unmixed(*z, &w)).map_or((0, 0), |k| (10, 17 + k as u64));
             alts.iter()
                 .enumerate()
                 .find_map(|(k, z)| {
@@ -400,8 +457,9 @@ fn columns(g: &mut Random, count: u64) -> u64 {
                         None
                     }
                 })
-                .unwrap_or((0, 0))
+                .unwrap_or_else(ten)
         };
+        tens += (want.0 == 10) as u64;
         let mut expect = before.clone();
         if want == (0, 0) {
             accepted += 1;
@@ -409,7 +467,7 @@ fn columns(g: &mut Random, count: u64) -> u64 {
                 let mut one = r;
                 one.alt = *z;
                 rows += 1;
-                ours(&one, &w, &mut expect[11 * k..11 * k + 11]);
+                assert_eq!(ours(&one, &w, &mut expect[11 * k..11 * k + 11]), (0, 0));
             }
         }
         if answer != want || !(0..len).all(|k| same(out[k], expect[k])) {
@@ -419,7 +477,7 @@ fn columns(g: &mut Random, count: u64) -> u64 {
             }
         }
     }
-    println!("columns: {count}, {accepted} accepted with {rows} rows, {bad} differences");
+    println!("columns: {count}, {accepted} accepted with {rows} rows, {tens} refused with 10, {bad} differences");
     bad
 }
 

@@ -1,7 +1,7 @@
 // Prepared stations: histories of altitudes, also for drag, and changes against the routed Rust on the record as it then is; stations with any contents, which
 // need only answer; and time per altitude, preparing and change.
 use super::host::{station, station_change, station_gtd7, station_gtd7d, Change, NUMBERS, WHOLE};
-use super::{altitude, judged, numbers, ours_column, record, row_of, same, sample, spoiled, timed, Input, Random, GTD7, GTD7D};
+use super::{altitude, judged, numbers, ours_column, record, row_of, same, sample, spoiled, timed, unmixed, Input, Random, GTD7, GTD7D};
 use std::hint::black_box;
 use std::time::Instant;
 use Change::{Fluxes, Long, Lst, Sec};
@@ -167,11 +167,13 @@ fn judged_anywhere(r: &Input, w: &[i32; 24]) -> (u64, u64) {
     judged(&Input { alt: 0.0, ..*r }, w)
 }
 
-fn judged_altitude(alt: f64) -> (u64, u64) {
+fn judged_altitude(alt: f64, w: &[i32; 24]) -> (u64, u64) {
     if !alt.is_finite() {
         (2, 3)
     } else if !(0.0..=2500.0).contains(&alt) {
         (3, 3)
+    } else if unmixed(alt, w) {
+        (10, 3)
     } else {
         (0, 0)
     }
@@ -206,6 +208,7 @@ struct Figures {
     rows: u64,
     drag: u64,
     nan: u64,
+    ten: u64,
     changes: u64,
     changes_refused: u64,
     misfits: u64,
@@ -280,7 +283,8 @@ impl History {
         let misfit = n.altitude_refused();
         f.misfits += misfit.is_some() as u64;
         f.altitudes += 1;
-        let want = misfit.unwrap_or(judged_altitude(alt));
+        let want = misfit.unwrap_or(judged_altitude(alt, &self.row));
+        f.ten += (want.0 == 10) as u64;
         let r = Input { alt, ..self.record };
         let good = if want == (0, 0) {
             f.rows += 1;
@@ -338,9 +342,9 @@ pub fn stations(g: &mut Random, count: u64) -> u64 {
             }
         }
     }
-    let Figures { histories, prepared, not_prepared, altitudes, rows, drag, nan, changes, changes_refused, misfits, bad } = f;
+    let Figures { histories, prepared, not_prepared, altitudes, rows, drag, nan, ten, changes, changes_refused, misfits, bad } = f;
     println!(
-        "stations: {histories} histories, {prepared} prepared, {not_prepared} refused; {altitudes} altitudes, {rows} accepted ({drag} of gtd7d, {nan} with a NaN), {} refused; \
+        "stations: {histories} histories, {prepared} prepared, {not_prepared} refused; {altitudes} altitudes, {rows} accepted ({drag} of gtd7d, {nan} with a NaN), {} refused ({ten} with 10); \
          {changes} changes accepted, {changes_refused} refused; {misfits} refusals for a slice's length; {bad} differences",
         altitudes - rows
     );
@@ -391,9 +395,13 @@ fn contents(g: &mut Random) -> Memory {
     m
 }
 
-// A refusal that the calls know once the lengths fit, with a place of its own kind.
-fn known(answer: (u64, u64)) -> bool {
-    matches!(answer, (1, 10) | (2, 2..=16) | (3, 1..=16))
+// A refusal that an altitude or a change knows once the lengths fit, with a place of its own kind.
+fn known(asked: bool, answer: (u64, u64)) -> bool {
+    if asked {
+        matches!(answer, (2 | 3 | 10, 3))
+    } else {
+        matches!(answer, (1, 10) | (2, 2..=16) | (3, 1..=16))
+    }
 }
 
 // Stations of any contents: each call comes back with an answer that it may give, writes only what it lends out, and nothing where it refuses.
@@ -411,7 +419,7 @@ pub fn hostile(g: &mut Random, count: u64) -> u64 {
             altitudes += asked as u64;
             rows += (asked && accepted) as u64;
             changes += (!asked && accepted) as u64;
-            let answered = misfit.map_or(accepted || known(have), |refusal| have == refusal);
+            let answered = misfit.map_or(accepted || known(asked, have), |refusal| have == refusal);
             let kept = match (asked, accepted) {
                 (true, true) => m.station_kept(&before) && m.row_guards_kept(&before),
                 (false, true) => m.station_guards_kept(&before) && m.row_kept(&before),

@@ -1,15 +1,16 @@
--- Document 01's refusals of the one-altitude call that depend on the record: 2, then 1, then 3.
+-- The refusals of the one-altitude call that depend on the record: document 01's 2, then 1, then 3; then document 02's 10.
 use Prim.Native.Nat.{ℕ, suc}
 use mathlib.Core.Bool.{Bool, true, false, cond, not, _&&_}
 use mathlib.Core.List.{List, [], _∷_}
 use lib.Dec.{leb, ltb}
 use lib.IntN.{ℤ, pos, negsuc}
-use lib.Ieee.{Float, neg, le}
+use lib.Ieee.{Float, neg, lt, le}
 use Rattle.numbers.specs.Arithmetic.{_‼_}
-use Rattle.numbers.specs.Literals.{0·0, 24·0, 48·0, 90·0, 400·0, 1000·0, 2500·0, 86400·0}
+use Rattle.numbers.specs.Literals.{0·0, 24·0, 48·0, 72·5, 90·0, 400·0, 1000·0, 2500·0, 86400·0}
 use Rattle.numbers.specs.Tests.{finiteOf}
 use Rattle.setting.specs.declared.Input.{Input}
 use Rattle.setting.specs.ApHistory.{absentOf, lacksHistoryOf}
+use Rattle.setting.specs.Switches.{given, isOne}
 use Rattle.acceptance.specs.declared.Answer.{Answer}
 use Rattle.acceptance.specs.declared.Answer.the-variants.{Accepted, Refused}
 
@@ -70,7 +71,7 @@ outsideOf n =
 unfoldable pub foundOf : ℕ → Bool
 foundOf k = ltb k 17
 
--- 2, then 1, then 3, each with its place; accepted when none fits
+-- 2, then 1, then 3, each with its place; accepted when none fits. A column's and a station's record is judged by these at altitude 0
 unfoldable pub judgedOf : List ℤ → Input → Answer
 judgedOf w n =
     cond (foundOf (unfitOf n)) (Refused 2 (unfitOf n))
@@ -80,6 +81,16 @@ judgedOf w n =
 abbrev pub acceptedOf : Answer → Bool
 acceptedOf Accepted = true
 acceptedOf (Refused n k) = false
+
+-- 'below 72.5 km .. wherever switch 15 isn't 1': N2 is not mixed at z, which needs it; one says whether switch 15, as given, is 1
+unfoldable pub unmixedOf : Bool → Float → Bool
+unmixedOf one z = not one && lt z 72·5
+
+-- the one-altitude call's answer to a record: '10 comes after the range checks, place 3'
+unfoldable pub recordAnswer : List ℤ → Input → Answer
+recordAnswer w n =
+    cond (not (acceptedOf (judgedOf w n))) (judgedOf w n)
+    (cond (unmixedOf (isOne (given w 15)) (n .alt)) (Refused 10 3) Accepted)
 
 -- the record with another altitude
 unfoldable pub withAltOf : Input → Float → Input

@@ -1,17 +1,18 @@
--- S8 of document 01, and its altitude case: one table, and one statement that covers it.
+-- S8 of document 01, and its altitude case: one table, and one statement that covers it; and the cases of refusal 10 in the same form.
 use mathlib.Core.Path.{_≡_, refl}
 use mathlib.Core.Bool.{Bool, true, false, _&&_}
 use mathlib.Core.List.{List, [], _∷_, map}
 use lib.IntN.{ℤ, pos}
+use lib.ListN.{replicate, set}
 use lib.Ieee.{Float, neg, le, lt, ofBits, round}
-use Rattle.numbers.specs.Literals.{dec, 4·0, 16·0, 70·0, 100·0, 150·0, 400·0, 1000·0, 2500·0}
+use Rattle.numbers.specs.Literals.{dec, 0·0, 4·0, 16·0, 70·0, 72·5, 100·0, 150·0, 400·0, 1000·0, 2500·0}
 use Rattle.numbers.specs.Tests.{finiteOf}
 use Rattle.setting.specs.declared.Input.{Input}
 use Rattle.setting.specs.declared.History.the-variants.{Present}
 use Rattle.setting.specs.ApHistory.{asksHistoryOf, lacksHistoryOf}
 use Rattle.acceptance.specs.declared.Answer.{Answer}
 use Rattle.acceptance.specs.declared.Answer.the-variants.{Accepted, Refused}
-use Rattle.acceptance.specs.Acceptance.{withinOf, arrayUnfitOf, unfitOf, arrayOutsideOf, outsideOf, foundOf, judgedOf}
+use Rattle.acceptance.specs.Acceptance.{withinOf, arrayUnfitOf, unfitOf, arrayOutsideOf, outsideOf, foundOf, judgedOf, unmixedOf, recordAnswer}
 
 -- the first published case at an altitude and a longitude, with an array
 abbrev pub sample : Float → Float → Input
@@ -54,3 +55,21 @@ there false = refl
 pub cases-hold : (w : List ℤ) → map (λ (c : Case). c .given) (cases w) ≡ map (λ (c : Case). c .answer) (cases w)
 unfolding cases judgedOf lacksHistoryOf outsideOf arrayOutsideOf unfitOf arrayUnfitOf foundOf withinOf finiteOf dec neg le lt round ofBits
 cases-hold w = rw (there (asksHistoryOf w)) refl
+
+-- every switch 1 but 15
+abbrev row : ℤ → List ℤ
+row s = set (replicate 24 (pos 1)) 15 s
+
+-- Refusal 10: below 72.5 km and not at it, where switch 15 is not 1 (2 is not 1), after the range checks
+unfoldable pub mixing : List Case
+mixing =
+    record { given = recordAnswer (row (pos 1)) (sample 0·0 (neg 70·0)); answer = Accepted } ∷
+    record { given = recordAnswer (row (pos 0)) (sample 72·5 (neg 70·0)); answer = Accepted } ∷
+    record { given = recordAnswer (row (pos 0)) (sample (dec 72499 3) (neg 70·0)); answer = Refused 10 3 } ∷
+    record { given = recordAnswer (row (pos 2)) (sample 0·0 (neg 70·0)); answer = Refused 10 3 } ∷
+    record { given = recordAnswer (row (pos 0)) (sample 0·0 (neg (dec 10005 1))); answer = Refused 3 5 } ∷
+    []
+
+pub mixing-hold : map (λ (c : Case). c .given) mixing ≡ map (λ (c : Case). c .answer) mixing
+unfolding mixing recordAnswer unmixedOf judgedOf lacksHistoryOf asksHistoryOf outsideOf arrayOutsideOf unfitOf arrayUnfitOf foundOf withinOf finiteOf dec neg le lt round ofBits
+mixing-hold = refl

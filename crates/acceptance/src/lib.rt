@@ -1,6 +1,7 @@
-// Whether the one-altitude call accepts a record: refusals 2, 1 and 3 of document 01, in this order, with their places.
+// Whether the one-altitude call accepts a record: refusals 2, 1 and 3 of document 01, then 10 of document 02, in this order, with their places.
 ghost use mathlib.Core.Path.{_≡_};
-ghost use Rattle.acceptance.specs.Acceptance.{withinOf, dayWithin, arrayUnfitOf, unfitOf, arrayOutsideOf, outsideOf, foundOf, judgedOf, acceptedOf, withAltOf};
+ghost use Rattle.setting.specs.Switches.{given, isOne};
+ghost use Rattle.acceptance.specs.Acceptance.{withinOf, dayWithin, arrayUnfitOf, unfitOf, arrayOutsideOf, outsideOf, foundOf, judgedOf, acceptedOf, unmixedOf, recordAnswer, withAltOf};
 use numbers::finite;
 use setting::Input;
 use setting::ap_history::absent;
@@ -192,6 +193,39 @@ pub fn accepted(a: Answer) -> bool
         Answer::Accepted => true,
         Answer::Refused(n, k) => false,
     }
+}
+
+// Whether switch 15, as it is given, is 1.
+pub fn mixing_on(w: [i32; 24]) -> bool
+    ensures { λ r. ⌜ r ≡ isOne (given w 15) ⌝ }
+{
+    let x = w[15];
+    if x == 1 {
+        return true;
+    }
+    false
+}
+
+// Whether an altitude lies below 72.5 km and N2, which it needs, is not mixed; on says whether switch 15 is 1.
+pub fn unmixed(on: bool, alt: f64) -> bool
+    ensures { λ r. ⌜ r ≡ unmixedOf on alt ⌝ }
+{
+    !on & (alt < 72.5)
+}
+
+// The one-altitude call's answer to a record.
+pub fn record_answer(w: [i32; 24], n: Input) -> Answer
+    ensures { λ r. ⌜ r ≡ recordAnswer w n ⌝ }
+{
+    let a = judge(w, n);
+    if !accepted(a) {
+        return a;
+    }
+    let on = mixing_on(w);
+    if unmixed(on, n.alt) {
+        return Answer::Refused(10, 3);
+    }
+    Answer::Accepted
 }
 
 // The record with another altitude.

@@ -9,6 +9,7 @@ use lib.Ieee.{Float, lt, le}
 use Rattle.numbers.specs.Arithmetic.{_‼_}
 use Rattle.numbers.specs.Literals.{72·5}
 use Rattle.setting.specs.declared.Input.{Input}
+use Rattle.setting.specs.declared.State.{State}
 use Rattle.setting.specs.declared.View.{View}
 use Rattle.setting.specs.State.{freshOf}
 use Rattle.setting.specs.View.{viewOf}
@@ -22,7 +23,7 @@ use Rattle.lower.specs.declared.Whole.{Whole}
 use Rattle.lower.specs.Lower.{mesoPlan, lowerPlan, aboveOf, belowOf}
 use Rattle.acceptance.specs.declared.Answer.{Answer}
 use Rattle.acceptance.specs.declared.Answer.the-variants.{Accepted, Refused}
-use Rattle.acceptance.specs.Acceptance.{judgedOf, acceptedOf}
+use Rattle.acceptance.specs.Acceptance.{acceptedOf, recordAnswer}
 
 -- gtd7: gts7 at 72.5 km or above, and from there down the lower nodes
 unfoldable pub gtd7Plan : List Float → Site → Float → Plan Whole
@@ -52,9 +53,15 @@ elevenOf w n =
     let v = viewOf w n in
     elevenAtOf v (siteOf (v .sw) (n .«g_lat») (v .doy) (n .f107a)) (n .alt)
 
+-- the State after gtd7 from a fresh one
+unfoldable pub leftOf : List ℤ → Input → State
+leftOf w n =
+    let v = viewOf w n in
+    (run v (gtd7Plan (v .sw) (siteOf (v .sw) (n .«g_lat») (v .doy) (n .f107a)) (n .alt)) freshOf) .left
+
 -- the one-altitude call: 4 for a row that is not of length 11, then what the record meets
 unfoldable pub answerOf : List ℤ → Input → ℕ → Answer
-answerOf w n len = cond (not (eqb len 11)) (Refused 4 11) (judgedOf w n)
+answerOf w n len = cond (not (eqb len 11)) (Refused 4 11) (recordAnswer w n)
 
 -- the lent row afterwards: the eleven numbers where the call is accepted, else as it was
 unfoldable pub rowAfter : List ℤ → Input → List Float → List Float

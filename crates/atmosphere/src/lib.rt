@@ -8,7 +8,7 @@ ghost use Rattle.atmosphere.specs.Atmosphere.{elevenFrom, elevenOf, answ
 ghost use Rattle.atmosphere.specs.Rows.{Founded};
 use acceptance::Answer;
 use acceptance::accepted;
-use acceptance::judge;
+use acceptance::record_answer;
 use footing::Footing;
 use footing::footing_where;
 use footing::row_below;
@@ -100,7 +100,7 @@ pub fn answer(w: [i32; 24], n: Input, len: usize) -> Answer
     if len != 11 {
         return Answer::Refused(4, 11);
     }
-    judge(w, n)
+    record_answer(w, n)
 }
 
 // The one-altitude call: refused, the row as it was; accepted, the row of eleven.

@@ -17,12 +17,13 @@ use Rattle.numbers.specs.Literals.{0·0, 2500·0}
 use Rattle.numbers.specs.Tests.{finiteOf}
 use Rattle.setting.specs.declared.Input.{Input}
 use Rattle.setting.specs.declared.View.{View}
+use Rattle.setting.specs.Switches.{given, isOne}
 use Rattle.setting.specs.View.{viewOf}
 use Rattle.upper.specs.declared.Site.{Site}
 use Rattle.upper.specs.Upper.{siteOf}
 use Rattle.acceptance.specs.declared.Answer.{Answer}
 use Rattle.acceptance.specs.declared.Answer.the-variants.{Accepted, Refused}
-use Rattle.acceptance.specs.Acceptance.{withinOf, judgedOf, acceptedOf, withAltOf}
+use Rattle.acceptance.specs.Acceptance.{withinOf, judgedOf, acceptedOf, unmixedOf, withAltOf}
 use Rattle.plan.specs.declared.Levels.{Levels}
 use Rattle.levels.specs.declared.Need.{Need}
 use Rattle.levels.specs.Levels.{levelsOf}
@@ -31,7 +32,7 @@ use Rattle.stored.specs.Stored.{needOf, storedOf, rowStored}
 use Rattle.stored.specs.Rows.{partsAt, Holds}
 use Rattle.stored.specs.Eleven.{stored-eleven}
 use Rattle.atmosphere.specs.Atmosphere.{elevenOf}
-use Rattle.column.specs.Column.{altitudesFrom, afterRecord, columnAnswer, columnRows, columnAfter}
+use Rattle.column.specs.Column.{altitudesFrom, unmixedFrom, judgedAllOf, columnAnswer, columnRows, columnAfter}
 use Rattle.column.specs.Parts.{noParts, eitherParts, partsFrom, storedFor, rowsStored}
 
 -- ---- the altitudes
@@ -57,6 +58,24 @@ module _ (alts : List Float) (k : ℕ) (h : k < length alts) where
 pub all-passed : (alts : List Float) (k : ℕ) → k ≡ length alts → Accepted ≡ altitudesFrom k (drop k alts)
 unfolding altitudesFrom
 all-passed alts k e = rw (e, drop-length alts)
+
+-- ---- once they have passed, N2
+
+module _ (on : Bool) (alts : List Float) (k : ℕ) (h : k < length alts) where
+  next : unmixedFrom on k (drop k alts) ≡ unmixedFrom on k (getD alts k nan ∷ drop (suc k) alts)
+  next = ap (unmixedFrom on k) (drop-cons alts k nan h)
+
+  pub unmixed-here : (b : Bool) → b ≡ unmixedOf on (getD alts k nan) → b ≡ true → Refused 10 (17 + k) ≡ unmixedFrom on k (drop k alts)
+  unfolding unmixedFrom
+  unmixed-here b e t = rw next (simp (← e, t))
+
+  pub mixed-here : (b : Bool) → b ≡ unmixedOf on (getD alts k nan) → b ≡ false → unmixedFrom on (k + 1) (drop (k + 1) alts) ≡ unmixedFrom on k (drop k alts)
+  unfolding unmixedFrom
+  mixed-here b e t = rw (next, add-one) (simp (← e, t))
+
+pub all-mixed : (on : Bool) (alts : List Float) (k : ℕ) → k ≡ length alts → Accepted ≡ unmixedFrom on k (drop k alts)
+unfolding unmixedFrom
+all-mixed on alts k e = rw (e, drop-length alts)
 
 -- ---- the parts that are read
 
@@ -222,22 +241,24 @@ pub accepted-room : (w : List ℤ) (n : Input) (alts : List Float) (len : ℕ) �
 unfolding columnAnswer
 accepted-room w n alts len h = second-passed (ltb 512 (length alts)) (ltb len (11 * length alts)) (11 * length alts) _ h
 
-last-passed : (b c : Bool) (n : ℕ) (a : Answer) (alts : List Float) → acceptedOf (cond b (Refused 5 512) (cond c (Refused 4 n) (afterRecord a alts))) ≡ true
-    → acceptedOf (altitudesFrom 0 alts) ≡ true
-unfolding afterRecord
-last-passed true c n a alts h = absurd (false≢true h)
-last-passed false true n a alts h = absurd (false≢true h)
-last-passed false false n Accepted alts h = h
-last-passed false false n (Refused i j) alts h = absurd (false≢true h)
+last-passed : (b c : Bool) (n : ℕ) (r : Answer) → acceptedOf (cond b (Refused 5 512) (cond c (Refused 4 n) r)) ≡ true → acceptedOf r ≡ true
+last-passed true c n r h = absurd (false≢true h)
+last-passed false true n r h = absurd (false≢true h)
+last-passed false false n r h = h
+
+middle-passed : (a b c : Answer) → acceptedOf (cond (not (acceptedOf a)) a (cond (not (acceptedOf b)) b c)) ≡ true → acceptedOf b ≡ true
+middle-passed Accepted Accepted c h = refl
+middle-passed Accepted (Refused n k) c h = h
+middle-passed (Refused n k) b c h = absurd (false≢true h)
 
 accepted-is : (a : Answer) → acceptedOf a ≡ true → a ≡ Accepted
 accepted-is Accepted h = refl
 accepted-is (Refused n k) h = absurd (false≢true h)
 
 pub accepted-altitudes : (w : List ℤ) (n : Input) (alts : List Float) (len : ℕ) → acceptedOf (columnAnswer w n alts len) ≡ true → altitudesFrom 0 alts ≡ Accepted
-unfolding columnAnswer
+unfolding columnAnswer judgedAllOf
 accepted-altitudes w n alts len h =
-    accepted-is _ (last-passed (ltb 512 (length alts)) (ltb len (11 * length alts)) (11 * length alts) (judgedOf w (withAltOf n 0·0)) alts h)
+    accepted-is _ (middle-passed (judgedOf w (withAltOf n 0·0)) (altitudesFrom 0 alts) _ (last-passed (ltb 512 (length alts)) (ltb len (11 * length alts)) (11 * length alts) _ h))
 
 pub kept : (w : List ℤ) (n : Input) (alts xs : List Float) → acceptedOf (columnAnswer w n alts (length xs)) ≡ false → xs ≡ columnAfter w n alts xs
 unfolding columnAfter
@@ -259,16 +280,21 @@ module _ (w : List ℤ) (n : Input) (alts : List Float) (len : ℕ) where
   unfolding columnAnswer
   too-short g h = simp (le-ltb _ _ g, lt-ltb _ _ h)
 
-  room-enough : length alts ≤ 512 → 11 * length alts ≤ len → columnAnswer w n alts len ≡ afterRecord (judgedOf w (withAltOf n 0·0)) alts
+  pub room-enough : length alts ≤ 512 → 11 * length alts ≤ len → (r : Answer) → r ≡ judgedAllOf w n alts → r ≡ columnAnswer w n alts len
   unfolding columnAnswer
-  room-enough g h = simp (le-ltb _ _ g, le-ltb _ _ h)
+  room-enough g h r e = simp (le-ltb _ _ g, le-ltb _ _ h, e)
 
-  pub record-refused : length alts ≤ 512 → 11 * length alts ≤ len → (m : Input) (a : Answer) (v : Bool)
-      → m ≡ withAltOf n 0·0 → a ≡ judgedOf w m → v ≡ acceptedOf a → not v ≡ true → a ≡ columnAnswer w n alts len
-  unfolding afterRecord
-  record-refused g h m a v e f i t = rw (room-enough g h, ← e, ← f) (simp (← i) (simp t))
+-- what the record and the altitudes meet, test by test
+module _ (w : List ℤ) (n : Input) (alts : List Float) (m : Input) (a : Answer) (v : Bool) (e : m ≡ withAltOf n 0·0) (f : a ≡ judgedOf w m) (i : v ≡ acceptedOf a) where
+  pub record-refused : not v ≡ true → a ≡ judgedAllOf w n alts
+  unfolding judgedAllOf
+  record-refused t = rw (← e, ← f) (simp (← i) (simp t))
 
-  pub record-passed : length alts ≤ 512 → 11 * length alts ≤ len → (m : Input) (a r : Answer) (v : Bool)
-      → m ≡ withAltOf n 0·0 → a ≡ judgedOf w m → v ≡ acceptedOf a → not v ≡ false → r ≡ altitudesFrom 0 alts → r ≡ columnAnswer w n alts len
-  unfolding afterRecord
-  record-passed g h m a r v e f i t s = rw (room-enough g h, ← e, ← f, ← s) (simp (← i) (simp t))
+  module _ (t : not v ≡ false) (b : Answer) (u : Bool) (g : b ≡ altitudesFrom 0 alts) (j : u ≡ acceptedOf b) where
+    pub altitude-refused : not u ≡ true → b ≡ judgedAllOf w n alts
+    unfolding judgedAllOf
+    altitude-refused s = rw (← e, ← f, ← g) (simp (← i, ← j) (simp (t, s)))
+
+    pub all-judged : not u ≡ false → (on : Bool) (r : Answer) → on ≡ isOne (given w 15) → r ≡ unmixedFrom on 0 alts → r ≡ judgedAllOf w n alts
+    unfolding judgedAllOf
+    all-judged s on r k l = rw (← e, ← f, ← g, ← k, ← l) (simp (← i, ← j) (simp (t, s)))

@@ -13,33 +13,28 @@ use Rattle.acceptance.specs.declared.Answer.{Answer}
 use Rattle.acceptance.specs.declared.Answer.the-variants.{Accepted, Refused}
 use Rattle.acceptance.specs.Acceptance.{judgedOf, acceptedOf, withAltOf}
 use Rattle.numbers.specs.Literals.{0·0}
-use Rattle.atmosphere.specs.Atmosphere.{elevenOf, answerOf}
+use Rattle.atmosphere.specs.Atmosphere.{elevenOf}
 use Rattle.shutoff.specs.Shut.{Alike}
 use Rattle.shutoff.specs.Agree.{Has}
-use Rattle.shutoff.specs.Theorems.{has, has-history, alike-at, eleven≡}
-use Rattle.column.specs.Column.{afterRecord, columnAnswer, columnRows, columnAfter}
+use Rattle.shutoff.specs.Theorems.{first-accepted, judged-history, has, alike-at, eleven≡}
+use Rattle.column.specs.Column.{judgedAllOf, columnAnswer, columnRows, columnAfter}
 
 -- an accepted answer comes from no refusal before it
 no-refusal : (c : Bool) (n k : ℕ) (x : Answer) → cond c (Refused n k) x ≡ Accepted → x ≡ Accepted
 no-refusal true n k x e = absurd (subst (λ (r : Answer). T (not (acceptedOf r))) e tt)
 no-refusal false n k x e = e
 
-first : (a : Answer) (alts : List Float) → afterRecord a alts ≡ Accepted → a ≡ Accepted
-unfolding afterRecord
-first Accepted alts e = refl
-first (Refused n k) alts e = e
-
--- an accepted column's record is accepted at an altitude of 0
-pub record-accepted : (w : List ℤ) (n : Input) (alts : List Float) (len : ℕ) → columnAnswer w n alts len ≡ Accepted → answerOf w (withAltOf n 0·0) 11 ≡ Accepted
-unfolding columnAnswer answerOf
+-- an accepted column's record meets none of 2, 1 and 3 at an altitude of 0
+pub record-accepted : (w : List ℤ) (n : Input) (alts : List Float) (len : ℕ) → columnAnswer w n alts len ≡ Accepted → judgedOf w (withAltOf n 0·0) ≡ Accepted
+unfolding columnAnswer judgedAllOf
 record-accepted w n alts len e =
-    first (judgedOf w (withAltOf n 0·0)) alts
+    first-accepted (judgedOf w (withAltOf n 0·0)) _
     (no-refusal (ltb len (11 * length alts)) 4 (11 * length alts) _ (no-refusal (ltb 512 (length alts)) 5 512 _ e))
 
 -- whether the history lacks does not depend on the altitude
 pub has-at : (w : List ℤ) (n : Input) (alts : List Float) (len : ℕ) (z : Float) → columnAnswer w n alts len ≡ Accepted → Has w (withAltOf n z)
 unfolding withAltOf lacksHistoryOf
-has-at w n alts len z e = has w (withAltOf n z) (has-history w (withAltOf n 0·0) 11 (record-accepted w n alts len e))
+has-at w n alts len z e = has w (withAltOf n z) (judged-history w (withAltOf n 0·0) (record-accepted w n alts len e))
 
 -- records alike but for their own altitudes are alike with any one altitude in both
 pub at-altitude : (w : List ℤ) (a b : Input) (z : Float) → Alike w (withAltOf a 0·0) (withAltOf b 0·0) → Alike w (withAltOf a z) (withAltOf b z)

@@ -5,11 +5,13 @@ ghost use Prim.Native.Nat.{_*_, _≤_};
 ghost use lib.ListN.{length, take, drop};
 ghost use Rattle.setting.specs.View.{viewOf};
 ghost use Rattle.acceptance.specs.declared.Answer.the-variants.{Accepted};
-ghost use Rattle.column.specs.Column.{altitudesFrom, columnAnswer, columnAfter, columnRows};
+ghost use Rattle.column.specs.Column.{altitudesFrom, unmixedFrom, judgedAllOf, columnAnswer, columnAfter, columnRows};
 ghost use Rattle.column.specs.Parts.{noParts, eitherParts, partsFrom, storedFor, rowsStored};
 use acceptance::Answer;
 use acceptance::accepted;
 use acceptance::judge;
+use acceptance::mixing_on;
+use acceptance::unmixed;
 use acceptance::with_alt;
 use acceptance::within;
 use levels::levels_of;
@@ -41,6 +43,38 @@ pub fn altitudes(alts: &[f64]) -> Answer
     Answer::Accepted
 }
 
+// The first altitude below 72.5 km where N2 is not mixed; on says whether switch 15 is 1.
+pub fn unmixed_altitude(on: bool, alts: &[f64]) -> Answer
+    ensures { λ r. ⌜ r ≡ unmixedFrom on 0 (now (alts .entry)) ⌝ }
+{
+    let mut k: usize = 0;
+    while k < alts.len() {
+        let z = alts[k];
+        if unmixed(on, z) {
+            return Answer::Refused(10, 17 + k);
+        }
+        k += 1;
+    }
+    Answer::Accepted
+}
+
+// What a column's record and altitudes meet, its lengths apart.
+pub fn judge_all(w: [i32; 24], n: Input, alts: &[f64]) -> Answer
+    ensures { λ r. ⌜ r ≡ judgedAllOf w n (now (alts .entry)) ⌝ }
+{
+    let m = with_alt(n, 0.0);
+    let a = judge(w, m);
+    if !accepted(a) {
+        return a;
+    }
+    let b = altitudes(alts);
+    if !accepted(b) {
+        return b;
+    }
+    let on = mixing_on(w);
+    unmixed_altitude(on, alts)
+}
+
 // The answer to a record, its altitudes and a buffer of the length len.
 pub fn column_answer(w: [i32; 24], n: Input, alts: &[f64], len: usize) -> Answer
     ensures { λ r. ⌜ r ≡ columnAnswer w n (now (alts .entry)) len ⌝ }
@@ -53,12 +87,7 @@ pub fn column_answer(w: [i32; 24], n: Input, alts: &[f64], len: usize) -> Answer
     if len < room {
         return Answer::Refused(4, room);
     }
-    let m = with_alt(n, 0.0);
-    let a = judge(w, m);
-    if !accepted(a) {
-        return a;
-    }
-    altitudes(alts)
+    judge_all(w, n, alts)
 }
 
 pub fn no_parts() -> Parts

@@ -75,7 +75,7 @@ pub after-law : (v : View) (p : List Float) (s : State)
     → t ≡ turnsAfterOf v s
     → q ≡ flatOf g
     → g ≡ legendreOf (v .slat) (v .clat) (s .plg)
-    → _≡_ {A = State} (record { gsurf = s .gsurf; re = s .re; dd = s .dd; dm04 = s .dm04; dm16 = s .dm16; dm28 = s .dm28; dm32 = s .dm32; dm40 = s .dm40; dm01 = s .dm01; dm14 = s .dm14; «meso_tn1» = s .«meso_tn1»; «meso_tn2» = s .«meso_tn2»; «meso_tn3» = s .«meso_tn3»; «meso_tgn1» = s .«meso_tgn1»; «meso_tgn2» = s .«meso_tgn2»; «meso_tgn3» = s .«meso_tgn3»; dfa = v .dfa; plg = q; ctloc = t .ct; stloc = t .st; c2tloc = t .c2t; s2tloc = t .s2t; s3tloc = t .s3t; c3tloc = t .c3t; apdf = apdf; apt = set (s .apt) 0 apt }) (afterOf v p s)
+    → _≡_ {A = State} (record { gsurf = s .gsurf; re = s .re; dd = s .dd; dm04 = s .dm04; dm16 = s .dm16; dm28 = s .dm28; «dm28_set» = s .«dm28_set»; dm32 = s .dm32; dm40 = s .dm40; dm01 = s .dm01; dm14 = s .dm14; «meso_tn1» = s .«meso_tn1»; «meso_tn2» = s .«meso_tn2»; «meso_tn3» = s .«meso_tn3»; «meso_tgn1» = s .«meso_tgn1»; «meso_tgn2» = s .«meso_tgn2»; «meso_tgn3» = s .«meso_tgn3»; dfa = v .dfa; plg = q; ctloc = t .ct; stloc = t .st; c2tloc = t .c2t; s2tloc = t .s2t; s3tloc = t .s3t; c3tloc = t .c3t; apdf = apdf; apt = set (s .apt) 0 apt }) (afterOf v p s)
 unfolding afterOf
 after-law v p s apt apdf t q g e0 e1 e2 e3 e4 =
     simp (e0, e1, e2, e3, e4)

@@ -85,6 +85,7 @@ afterOf v p s =
       dm04 = s .dm04;
       dm16 = s .dm16;
       dm28 = s .dm28;
+      «dm28_set» = s .«dm28_set»;
       dm32 = s .dm32;
       dm40 = s .dm40;
       dm01 = s .dm01;

@@ -56,7 +56,7 @@ pub extern "C" fn potirehu_station_gtd7(
     alt: f64,
     row: &mut [f64],
 ) -> u64
-    ensures { λ r. ⌜ (r ≡ codeOf (altitudeAnswer (length (now (row .entry))) (length (now (whole .entry))) (length (now (numbers .entry))) alt))
+    ensures { λ r. ⌜ (r ≡ codeOf (altitudeAnswer (length (now (row .entry))) (now (whole .entry)) (length (now (numbers .entry))) alt))
         × (now (row .exit) ≡ altitudeRow (now (whole .entry)) (now (numbers .entry)) alt (now (row .entry))) ⌝ }
 {
     let a = gtd7(whole, numbers, alt, row);
@@ -71,7 +71,7 @@ pub extern "C" fn potirehu_station_gtd7d(
     alt: f64,
     row: &mut [f64],
 ) -> u64
-    ensures { λ r. ⌜ (r ≡ codeOf (altitudeAnswer (length (now (row .entry))) (length (now (whole .entry))) (length (now (numbers .entry))) alt))
+    ensures { λ r. ⌜ (r ≡ codeOf (altitudeAnswer (length (now (row .entry))) (now (whole .entry)) (length (now (numbers .entry))) alt))
         × (now (row .exit) ≡ altitudeDrag (now (whole .entry)) (now (numbers .entry)) alt (now (row .entry))) ⌝ }
 {
     let a = gtd7d(whole, numbers, alt, row);

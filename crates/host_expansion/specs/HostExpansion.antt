@@ -5,8 +5,9 @@ use mathlib.Core.List.{List, [], _∷_}
 use lib.Dec.{eqb}
 use lib.IntN.{ℤ}
 use lib.ListN.{length}
-use lib.Ieee.{Float}
+use lib.Ieee.{Float, eq}
 use Rattle.numbers.specs.Arithmetic.{_‼_}
+use Rattle.numbers.specs.Literals.{1·0}
 use Rattle.setting.specs.declared.State.{State}
 use Rattle.setting.specs.State.{freshOf}
 use Rattle.calls.specs.declared.Expanded.{Expanded}
@@ -22,7 +23,7 @@ legendreOf x =
     (x ‼ 49) ∷ (x ‼ 50) ∷ (x ‼ 51) ∷ (x ‼ 52) ∷ (x ‼ 53) ∷ (x ‼ 54) ∷ (x ‼ 55) ∷ (x ‼ 56) ∷ (x ‼ 57) ∷
     (x ‼ 58) ∷ (x ‼ 59) ∷ (x ‼ 60) ∷ (x ‼ 61) ∷ (x ‼ 62) ∷ (x ‼ 63) ∷ (x ‼ 64) ∷ (x ‼ 65) ∷ (x ‼ 66) ∷ []
 
--- State from its 78 numbers in the order of its fields, the Legendre values from g
+-- State from its 79 numbers in the order of its fields, the Legendre values from g; dm28 was set where the last is 1
 unfoldable pub stateWith : List Float → List Float → State
 stateWith x g =
     record {
@@ -32,6 +33,7 @@ stateWith x g =
       dm04 = x ‼ 3;
       dm16 = x ‼ 4;
       dm28 = x ‼ 5;
+      «dm28_set» = eq (x ‼ 78) 1·0;
       dm32 = x ‼ 6;
       dm40 = x ‼ 7;
       dm01 = x ‼ 8;
@@ -61,11 +63,11 @@ stateOf x = stateWith x (legendreOf x)
 -- switches, the State
 unfoldable pub misfitOf : ℕ → ℕ → ℕ → ℕ → ℕ → ℕ
 misfitOf numbers fields array switches state =
-    cond (not (eqb numbers 79)) 79
+    cond (not (eqb numbers 80)) 80
     (cond (not (eqb fields 8)) 8
     (cond (not (eqb array 0) && not (eqb array 7)) 7
     (cond (not (eqb switches 24)) 24
-    (cond (not (eqb state 78)) 78 0))))
+    (cond (not (eqb state 79)) 79 0))))
 
 -- 4 with the length needed, and a fresh State; then the rest
 abbrev pub fittedOf : ℕ → Expanded → Expanded
@@ -89,7 +91,7 @@ entriesOf zero e k = []
 entriesOf (suc m) e k = entryOf e k ∷ entriesOf m e (suc k)
 
 abbrev pub numbersOf : Expanded → List Float
-numbersOf e = entriesOf 79 e 0
+numbersOf e = entriesOf 80 e 0
 
 -- the lent slice afterwards: after a refusal what it held
 unfoldable pub numbersAfter : Expanded → List Float → List Float

@@ -1,4 +1,4 @@
-// For comparison on the host: the public globe7 and glob7s on numbers and slices. A call writes its value and the 78 numbers of the State
+// For comparison on the host: the public globe7 and glob7s on numbers and slices. A call writes its value and the 79 numbers of the State
 // after it into a lent slice and answers 0, or the refusal's number times 2^32 and its place, the slice as lent.
 ghost use mathlib.Core.Path.{_≡_};
 ghost use lib.ListN.{length};
@@ -12,9 +12,9 @@ use host::record::switch_row;
 use host_state::number;
 use setting::State;
 
-// The Legendre values of the 78 numbers, 31 to 66.
+// The Legendre values of the 79 numbers, 31 to 66.
 pub fn legendre(x: &[f64]) -> [f64; 36]
-    requires { ⌜ length (now x) ≡ 78 ⌝ }
+    requires { ⌜ length (now x) ≡ 79 ⌝ }
     ensures { λ r. ⌜ r ≡ legendreOf (now (x .entry)) ⌝ }
 {
     [
@@ -57,9 +57,9 @@ pub fn legendre(x: &[f64]) -> [f64; 36]
     ]
 }
 
-// State from its 78 numbers in the order of its fields, the Legendre values from g.
+// State from its 79 numbers in the order of its fields, the Legendre values from g; dm28 was set where the last is 1.
 pub fn state_with(x: &[f64], g: [f64; 36]) -> State
-    requires { ⌜ length (now x) ≡ 78 ⌝ }
+    requires { ⌜ length (now x) ≡ 79 ⌝ }
     ensures { λ r. ⌜ r ≡ stateWith (now (x .entry)) g ⌝ }
 {
     State {
@@ -69,6 +69,7 @@ pub fn state_with(x: &[f64], g: [f64; 36]) -> State
         dm04: x[3],
         dm16: x[4],
         dm28: x[5],
+        dm28_set: x[78] == 1.0,
         dm32: x[6],
         dm40: x[7],
         dm01: x[8],
@@ -93,7 +94,7 @@ pub fn state_with(x: &[f64], g: [f64; 36]) -> State
 }
 
 pub fn state_of(x: &[f64]) -> State
-    requires { ⌜ length (now x) ≡ 78 ⌝ }
+    requires { ⌜ length (now x) ≡ 79 ⌝ }
     ensures { λ r. ⌜ r ≡ stateOf (now (x .entry)) ⌝ }
 {
     let g = legendre(x);
@@ -109,10 +110,10 @@ pub fn misfit(
     state: usize,
 ) -> usize
     ensures { λ r. ⌜ r ≡ misfitOf numbers fields «ap_array» switches state ⌝ }
-    ensures { λ r. ⌜ (r ≡ 0 → (numbers ≡ 79) × (fields ≡ 8) × (switches ≡ 24) × (state ≡ 78)) ⌝ }
+    ensures { λ r. ⌜ (r ≡ 0 → (numbers ≡ 80) × (fields ≡ 8) × (switches ≡ 24) × (state ≡ 79)) ⌝ }
 {
-    if numbers != 79 {
-        return 79;
+    if numbers != 80 {
+        return 80;
     }
     if fields != 8 {
         return 8;
@@ -123,8 +124,8 @@ pub fn misfit(
     if switches != 24 {
         return 24;
     }
-    if state != 78 {
-        return 78;
+    if state != 79 {
+        return 79;
     }
     0
 }
@@ -141,18 +142,18 @@ pub fn entry(e: Expanded, k: usize) -> f64
 }
 
 pub fn put(e: Expanded, numbers: &mut [f64])
-    requires { ⌜ length (now numbers) ≡ 79 ⌝ }
+    requires { ⌜ length (now numbers) ≡ 80 ⌝ }
     ensures { λ _. ⌜ now (numbers .exit) ≡ numbersOf e ⌝ }
 {
     let mut i: usize = 0;
-    while i < 79 {
+    while i < 80 {
         numbers[i] = entry(e, i);
         i += 1;
     }
 }
 
 pub fn tell(e: Expanded, numbers: &mut [f64]) -> u64
-    requires { ⌜ length (now numbers) ≡ 79 ⌝ }
+    requires { ⌜ length (now numbers) ≡ 80 ⌝ }
     ensures { λ r. ⌜ (r ≡ codeOf e) × (now (numbers .exit) ≡ numbersAfter e (now (numbers .entry))) ⌝ }
 {
     let c = packed(e.refused, e.place);
@@ -163,7 +164,7 @@ pub fn tell(e: Expanded, numbers: &mut [f64]) -> u64
     c
 }
 
-// globe7: fields and ap_array as potirehu_gtd7 has them, p the coefficients, state the 78 numbers of State.
+// globe7: fields and ap_array as potirehu_gtd7 has them, p the coefficients, state the 79 numbers of State.
 #[no_mangle]
 pub extern "C" fn expansion_globe7(
     year: i32,
@@ -195,7 +196,7 @@ pub extern "C" fn expansion_globe7(
     tell(e, numbers)
 }
 
-// glob7s: fields and ap_array as potirehu_gtd7 has them, p the coefficients, state the 78 numbers of State.
+// glob7s: fields and ap_array as potirehu_gtd7 has them, p the coefficients, state the 79 numbers of State.
 #[no_mangle]
 pub extern "C" fn expansion_glob7s(
     year: i32,

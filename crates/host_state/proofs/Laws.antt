@@ -2,14 +2,16 @@
 use Prim.Native.Nat.{ℕ, zero, suc, _+_, _-_, _<_, _≤_}
 use mathlib.Core.Path.{_≡_, refl, sym, _∙_, ap}
 use mathlib.Core.List.{List}
+use mathlib.Core.Bool.{cond, _&&_}
 use native.Mathlib.Nat.{not-suc-le-zero, le-of-suc-le-suc}
 use native.Mathlib.Omega.{arith}
 use borrow.Author.Tests.{lt-ltb, le-ltb, eq-eqb, ne-eqb}
+use lib.Dec.{eqb}
 use lib.IntN.{ℤ}
 use lib.ListN.{length, getD}
 use lib.Ieee.{Float, nan}
 use Rattle.numbers.specs.Arithmetic.{_‼_}
-use Rattle.numbers.specs.Literals.{0·0}
+use Rattle.numbers.specs.Literals.{0·0, 1·0}
 use Rattle.setting.specs.declared.Input.{Input}
 use Rattle.setting.specs.declared.State.{State}
 use Rattle.setting.specs.declared.View.{View}
@@ -20,9 +22,9 @@ use Rattle.upper.specs.Upper.{siteOf}
 use Rattle.lower.specs.declared.Whole.{Whole}
 use Rattle.plan.specs.Plan.{Ran, ends, run}
 use Rattle.acceptance.specs.declared.Answer.the-variants.{Accepted, Refused}
-use Rattle.atmosphere.specs.Atmosphere.{gtd7Plan}
+use Rattle.atmosphere.specs.Atmosphere.{gtd7Plan, leftOf}
 use Rattle.host.specs.Host.{codeOf, recordOf, lengthsOf}
-use Rattle.host_state.specs.HostState.{nodesOf, lastOf, numberOf, numbersFrom, numbersOf, leftOf, stateAnswer, stateNumbers}
+use Rattle.host_state.specs.HostState.{nodesOf, lastOf, numberOf, numbersFrom, numbersOf, stateAnswer, stateNumbers}
 
 module _ (s : State) (k : ℕ) where
   pub first : (a : List Float) → a ≡ nodesOf s → k < 30 → a ‼ k ≡ numberOf s k
@@ -44,9 +46,9 @@ module _ (s : State) (k : ℕ) where
         unfolding numberOf
         fourth l e h = simp (e, le-ltb k 30 a, ne-eqb k 30 b, le-ltb k 67 c, lt-ltb k 78 h)
 
-        pub beyond : 78 ≤ k → 0·0 ≡ numberOf s k
+        pub marked : (x : Float) → 78 ≤ k → x ≡ cond (eqb k 78 && s .«dm28_set») 1·0 0·0 → x ≡ numberOf s k
         unfolding numberOf
-        beyond h = simp (le-ltb k 30 a, ne-eqb k 30 b, le-ltb k 67 c, le-ltb k 78 h)
+        marked x h e = simp (e, le-ltb k 30 a, ne-eqb k 30 b, le-ltb k 67 c, le-ltb k 78 h)
 
 -- ---- all numbers
 
@@ -61,13 +63,13 @@ from-at zero k i s h = absurd (not-suc-le-zero h)
 from-at (suc m) k zero s h = let e : k ≡ k + 0 = omega arith in ap (numberOf s) e
 from-at (suc m) k (suc i) s h = let e : suc k + i ≡ k + suc i = omega arith in from-at m (suc k) i s (le-of-suc-le-suc h) ∙ ap (numberOf s) e
 
-pub numbers-length : (s : State) → length (numbersOf s) ≡ 78
+pub numbers-length : (s : State) → length (numbersOf s) ≡ 79
 unfolding numbersOf
-numbers-length s = from-length 78 0 s
+numbers-length s = from-length 79 0 s
 
-pub numbers-at : (s : State) (i : ℕ) → i < 78 → getD (numbersOf s) i nan ≡ numberOf s i
+pub numbers-at : (s : State) (i : ℕ) → i < 79 → getD (numbersOf s) i nan ≡ numberOf s i
 unfolding numbersOf
-numbers-at s i h = let e : 0 + i ≡ i = omega arith in from-at 78 0 i s h ∙ ap (numberOf s) e
+numbers-at s i h = let e : 0 + i ≡ i = omega arith in from-at 79 0 i s h ∙ ap (numberOf s) e
 
 -- ---- the State after gtd7
 
@@ -82,11 +84,11 @@ left-law w n b t x v e0 e1 e2 = sym (ap (λ (r : Ran Whole). r .left) e0) ∙ rw
 -- ---- the call
 
 module _ (f l : List Float) (w : List ℤ) (xs : List Float) where
-  pub no-slice : (length xs ≡ 78 → ⊥) → stateAnswer f l w (length xs) ≡ Refused 4 78
+  pub no-slice : (length xs ≡ 79 → ⊥) → stateAnswer f l w (length xs) ≡ Refused 4 79
   unfolding stateAnswer
   no-slice h = simp (ne-eqb _ _ h)
 
-  pub a-slice : length xs ≡ 78 → stateAnswer f l w (length xs) ≡ lengthsOf f l w Accepted
+  pub a-slice : length xs ≡ 79 → stateAnswer f l w (length xs) ≡ lengthsOf f l w Accepted
   unfolding stateAnswer
   a-slice h = simp (eq-eqb _ _ h)
 

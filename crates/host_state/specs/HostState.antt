@@ -1,23 +1,18 @@
--- The 78 numbers of the State that gtd7 leaves.
+-- The 79 numbers of the State that gtd7 leaves.
 use Prim.Native.Nat.{ℕ, zero, suc, _-_}
-use mathlib.Core.Bool.{cond, not}
+use mathlib.Core.Bool.{cond, not, _&&_}
 use mathlib.Core.List.{List, [], _∷_}
 use lib.Dec.{eqb, ltb}
 use lib.IntN.{ℤ}
 use lib.ListN.{length}
 use lib.Ieee.{Float}
 use Rattle.numbers.specs.Arithmetic.{_‼_}
-use Rattle.numbers.specs.Literals.{0·0}
-use Rattle.setting.specs.declared.Input.{Input}
+use Rattle.numbers.specs.Literals.{0·0, 1·0}
 use Rattle.setting.specs.declared.State.{State}
-use Rattle.setting.specs.State.{freshOf}
-use Rattle.setting.specs.View.{viewOf}
-use Rattle.upper.specs.Upper.{siteOf}
-use Rattle.plan.specs.Plan.{run}
 use Rattle.acceptance.specs.declared.Answer.{Answer}
 use Rattle.acceptance.specs.declared.Answer.the-variants.{Accepted, Refused}
 use Rattle.acceptance.specs.Acceptance.{acceptedOf}
-use Rattle.atmosphere.specs.Atmosphere.{gtd7Plan}
+use Rattle.atmosphere.specs.Atmosphere.{leftOf}
 use Rattle.host.specs.Host.{recordOf, lengthsOf}
 
 -- gsurf to dm14, then the nodes
@@ -35,13 +30,14 @@ lastOf s =
     s .ctloc ∷ s .stloc ∷ s .c2tloc ∷ s .s2tloc ∷ s .s3tloc ∷ s .c3tloc ∷ s .apdf ∷
     (s .apt ‼ 0) ∷ (s .apt ‼ 1) ∷ (s .apt ‼ 2) ∷ (s .apt ‼ 3) ∷ []
 
--- number k in the order of the fields, dfa being number 30 and the Legendre values 31 to 66
+-- number k in the order of the fields, dfa being number 30 and the Legendre values 31 to 66; number 78 is 1 where dm28 was set, else 0
 unfoldable pub numberOf : State → ℕ → Float
 numberOf s k =
     cond (ltb k 30) (nodesOf s ‼ k)
     (cond (eqb k 30) (s .dfa)
     (cond (ltb k 67) (s .plg ‼ (k - 31))
-    (cond (ltb k 78) (lastOf s ‼ (k - 67)) 0·0)))
+    (cond (ltb k 78) (lastOf s ‼ (k - 67))
+    (cond (eqb k 78 && s .«dm28_set») 1·0 0·0))))
 
 -- m numbers from number k on
 unfoldable pub numbersFrom : ℕ → ℕ → State → List Float
@@ -50,17 +46,11 @@ numbersFrom (suc m) k s = numberOf s k ∷ numbersFrom m (suc k) s
 
 -- all of them
 unfoldable pub numbersOf : State → List Float
-numbersOf s = numbersFrom 78 0 s
-
--- the State after gtd7 from a fresh one
-unfoldable pub leftOf : List ℤ → Input → State
-leftOf w n =
-    let v = viewOf w n in
-    (run v (gtd7Plan (v .sw) (siteOf (v .sw) (n .«g_lat») (v .doy) (n .f107a)) (n .alt)) freshOf) .left
+numbersOf s = numbersFrom 79 0 s
 
 -- 4 for the lent slice, then for the fields, the array and the switches
 unfoldable pub stateAnswer : List Float → List Float → List ℤ → ℕ → Answer
-stateAnswer f l w len = cond (not (eqb len 78)) (Refused 4 78) (lengthsOf f l w Accepted)
+stateAnswer f l w len = cond (not (eqb len 79)) (Refused 4 79) (lengthsOf f l w Accepted)
 
 -- the lent slice afterwards
 unfoldable pub stateNumbers : ℤ → ℤ → List Float → List Float → List ℤ → List Float → List Float

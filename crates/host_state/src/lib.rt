@@ -1,8 +1,9 @@
-// For comparison on the host: the 78 numbers of the State that gtd7 leaves.
+// For comparison on the host: the 79 numbers of the State that gtd7 leaves, the last of them 1 or 0 for the mark beside dm28.
 ghost use mathlib.Core.Path.{_≡_};
 ghost use lib.ListN.{length};
 ghost use Rattle.host.specs.Host.{codeOf};
-ghost use Rattle.host_state.specs.HostState.{nodesOf, lastOf, numberOf, numbersOf, leftOf, stateAnswer, stateNumbers};
+ghost use Rattle.atmosphere.specs.Atmosphere.{leftOf};
+ghost use Rattle.host_state.specs.HostState.{nodesOf, lastOf, numberOf, numbersOf, stateAnswer, stateNumbers};
 use acceptance::Answer;
 use acceptance::accepted;
 use host::record::code;
@@ -10,6 +11,7 @@ use host::record::lengths;
 use host::record::record_of;
 use host::record::switch_row;
 use model_state::gtd7_from_fresh;
+use numbers::pick;
 use setting::Input;
 use setting::State;
 use setting::views::view_of;
@@ -72,7 +74,7 @@ pub fn last(s: State) -> [f64; 11]
     ]
 }
 
-// Number k of State in the order of its fields, 0 beyond its 78.
+// Number k of State in the order of its fields, the mark behind them; 0 beyond its 79.
 pub fn number(s: State, k: usize) -> f64
     ensures { λ r. ⌜ r ≡ numberOf s k ⌝ }
 {
@@ -91,16 +93,16 @@ pub fn number(s: State, k: usize) -> f64
     if k < 78 {
         return c[k - 67];
     }
-    0.0
+    pick((k == 78) & s.dm28_set, 1.0, 0.0)
 }
 
-// All 78 into a slice of 78.
+// All 79 into a slice of 79.
 pub fn put_state(s: State, out: &mut [f64])
-    requires { ⌜ length (now out) ≡ 78 ⌝ }
+    requires { ⌜ length (now out) ≡ 79 ⌝ }
     ensures { λ _. ⌜ now (out .exit) ≡ numbersOf s ⌝ }
 {
     let mut i: usize = 0;
-    while i < 78 {
+    while i < 79 {
         out[i] = number(s, i);
         i += 1;
     }
@@ -117,7 +119,7 @@ pub fn left(w: [i32; 24], n: Input) -> State
     r.state
 }
 
-// The State after gtd7 into a slice of 78 numbers, with no check of the record beyond its slices' lengths: 0, or 4 and the length needed, and
+// The State after gtd7 into a slice of 79 numbers, with no check of the record beyond its slices' lengths: 0, or 4 and the length needed, and
 // then the slice as it was.
 #[no_mangle]
 pub extern "C" fn state_after_gtd7(
@@ -131,8 +133,8 @@ pub extern "C" fn state_after_gtd7(
     ensures { λ r. ⌜ (r ≡ codeOf (stateAnswer (now (fields .entry)) (now («ap_array» .entry)) (now (switches .entry)) (length (now (numbers .entry)))))
         × (now (numbers .exit) ≡ stateNumbers year doy (now (fields .entry)) (now («ap_array» .entry)) (now (switches .entry)) (now (numbers .entry))) ⌝ }
 {
-    if numbers.len() != 78 {
-        return code(Answer::Refused(4, 78));
+    if numbers.len() != 79 {
+        return code(Answer::Refused(4, 79));
     }
     let l = lengths(fields, ap_array, switches);
     if !accepted(l) {

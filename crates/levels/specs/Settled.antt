@@ -114,7 +114,7 @@ glob7s-second v p r q = ap₂ (glob7sFrom v q) (rows-second v p r) (carried-seco
 
 -- ---- a plan run from a State, and told the same answers
 
--- what the expansions leave has the property Q; with any sixteen fields the result is the same, and they are set by the steps alone
+-- what the expansions leave has the property Q; with any seventeen fields the result is the same, and they are set by the steps alone
 pub record Kept {A : Type 0} (v : View) (g : Ask → Float) (Q : State → Type 0) (m : Plan A) (s : State) : Type 0 where
   pub after : State
   pub fits : Q after

@@ -1,5 +1,5 @@
--- The sixteen fields of State that gts7 and gtd7 set themselves and no expansion reads or sets.
-use mathlib.Core.Bool.{Bool, cond}
+-- The seventeen fields of State that gts7 and gtd7 set themselves and no expansion reads or sets.
+use mathlib.Core.Bool.{Bool, true, cond}
 use mathlib.Core.List.{List}
 use lib.ListN.{set}
 use lib.Ieee.{Float}
@@ -13,6 +13,7 @@ pub record Fields : Type 0 where
   pub dm04 : Float
   pub dm16 : Float
   pub dm28 : Float
+  pub «dm28_set» : Bool
   pub dm32 : Float
   pub dm40 : Float
   pub dm01 : Float
@@ -33,6 +34,7 @@ fieldsOf s =
       dm04 = s .dm04;
       dm16 = s .dm16;
       dm28 = s .dm28;
+      «dm28_set» = s .«dm28_set»;
       dm32 = s .dm32;
       dm40 = s .dm40;
       dm01 = s .dm01;
@@ -55,6 +57,7 @@ withFields s f =
       dm04 = f .dm04;
       dm16 = f .dm16;
       dm28 = f .dm28;
+      «dm28_set» = f .«dm28_set»;
       dm32 = f .dm32;
       dm40 = f .dm40;
       dm01 = f .dm01;
@@ -89,6 +92,7 @@ setGravity g r f =
       dm04 = f .dm04;
       dm16 = f .dm16;
       dm28 = f .dm28;
+      «dm28_set» = f .«dm28_set»;
       dm32 = f .dm32;
       dm40 = f .dm40;
       dm01 = f .dm01;
@@ -110,6 +114,7 @@ setDd x f =
       dm04 = f .dm04;
       dm16 = f .dm16;
       dm28 = f .dm28;
+      «dm28_set» = f .«dm28_set»;
       dm32 = f .dm32;
       dm40 = f .dm40;
       dm01 = f .dm01;
@@ -131,6 +136,7 @@ setDm04 x f =
       dm04 = x;
       dm16 = f .dm16;
       dm28 = f .dm28;
+      «dm28_set» = f .«dm28_set»;
       dm32 = f .dm32;
       dm40 = f .dm40;
       dm01 = f .dm01;
@@ -152,6 +158,7 @@ setDm16 x f =
       dm04 = f .dm04;
       dm16 = x;
       dm28 = f .dm28;
+      «dm28_set» = f .«dm28_set»;
       dm32 = f .dm32;
       dm40 = f .dm40;
       dm01 = f .dm01;
@@ -164,6 +171,7 @@ setDm16 x f =
       «meso_tgn3» = f .«meso_tgn3»;
     }
 
+-- dm28, and the mark that it was set: 'set by the one step that sets dm28'
 unfoldable pub setDm28 : Float → Fields → Fields
 setDm28 x f =
     record {
@@ -173,6 +181,7 @@ setDm28 x f =
       dm04 = f .dm04;
       dm16 = f .dm16;
       dm28 = x;
+      «dm28_set» = true;
       dm32 = f .dm32;
       dm40 = f .dm40;
       dm01 = f .dm01;
@@ -194,6 +203,7 @@ setDm32 x f =
       dm04 = f .dm04;
       dm16 = f .dm16;
       dm28 = f .dm28;
+      «dm28_set» = f .«dm28_set»;
       dm32 = x;
       dm40 = f .dm40;
       dm01 = f .dm01;
@@ -215,6 +225,7 @@ setDm40 x f =
       dm04 = f .dm04;
       dm16 = f .dm16;
       dm28 = f .dm28;
+      «dm28_set» = f .«dm28_set»;
       dm32 = f .dm32;
       dm40 = x;
       dm01 = f .dm01;
@@ -236,6 +247,7 @@ setDm01 x f =
       dm04 = f .dm04;
       dm16 = f .dm16;
       dm28 = f .dm28;
+      «dm28_set» = f .«dm28_set»;
       dm32 = f .dm32;
       dm40 = f .dm40;
       dm01 = x;
@@ -257,6 +269,7 @@ setDm14 x f =
       dm04 = f .dm04;
       dm16 = f .dm16;
       dm28 = f .dm28;
+      «dm28_set» = f .«dm28_set»;
       dm32 = f .dm32;
       dm40 = f .dm40;
       dm01 = f .dm01;
@@ -279,6 +292,7 @@ setTn1 t g f =
       dm04 = f .dm04;
       dm16 = f .dm16;
       dm28 = f .dm28;
+      «dm28_set» = f .«dm28_set»;
       dm32 = f .dm32;
       dm40 = f .dm40;
       dm01 = f .dm01;
@@ -301,6 +315,7 @@ setTn2 t g f =
       dm04 = f .dm04;
       dm16 = f .dm16;
       dm28 = f .dm28;
+      «dm28_set» = f .«dm28_set»;
       dm32 = f .dm32;
       dm40 = f .dm40;
       dm01 = f .dm01;
@@ -323,6 +338,7 @@ setTn3 t g f =
       dm04 = f .dm04;
       dm16 = f .dm16;
       dm28 = f .dm28;
+      «dm28_set» = f .«dm28_set»;
       dm32 = f .dm32;
       dm40 = f .dm40;
       dm01 = f .dm01;

@@ -153,7 +153,7 @@ stepped-then g m k s a t e =
     ap₂ (λ (b : _) (f : Fields). ends b (withFields s f)) (told->>= g m k) (kept->>= g m k (fieldsOf s))
     ∙ ap (λ (r : Ran _). ends (told g (k (r .result))) (withFields (r .left) (kept g (k (r .result)) (fieldsOf (r .left))))) e
 
--- an answer sees none of the sixteen fields, and leaves them as they were
+-- an answer sees none of the seventeen fields, and leaves them as they were
 pub answer-fields : (v : View) (q : Ask) (s : State) (f : Fields)
     → answer v q (withFields s f) ≡ record { value = (answer v q s) .value; state = withFields ((answer v q s) .state) f }
 unfolding answer onePlusGlobe7Of expGlobe7Of onePlusGlob7sOf oneMinusGlob7sOf globe7Of glob7sOf carriedOf afterOf turnsAfterOf

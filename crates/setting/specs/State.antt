@@ -1,4 +1,5 @@
 -- The State of a call that has not begun: State::new of the Rust.
+use mathlib.Core.Bool.{false}
 use lib.ListN.{replicate}
 use Rattle.numbers.specs.Literals.{0·0}
 use Rattle.setting.specs.declared.State.{State}
@@ -12,6 +13,7 @@ freshOf =
       dm04 = 0·0;
       dm16 = 0·0;
       dm28 = 0·0;
+      «dm28_set» = false;
       dm32 = 0·0;
       dm40 = 0·0;
       dm01 = 0·0;

@@ -13,7 +13,7 @@ pub struct Flags {
     pub swc: [f64; 24],
 }
 
-// The floats that globe7, gts7 and gtd7 carry: the Rust's State, its Legendre values flat, four rows of nine.
+// What globe7, gts7 and gtd7 carry: the Rust's State, its Legendre values flat, four rows of nine; dm28_set says whether dm28 was set.
 pub struct State {
     pub gsurf: f64,
     pub re: f64,
@@ -21,6 +21,7 @@ pub struct State {
     pub dm04: f64,
     pub dm16: f64,
     pub dm28: f64,
+    pub dm28_set: bool,
     pub dm32: f64,
     pub dm40: f64,
     pub dm01: f64,
@@ -115,6 +116,7 @@ pub fn fresh() -> State
         dm04: 0.0,
         dm16: 0.0,
         dm28: 0.0,
+        dm28_set: false,
         dm32: 0.0,
         dm40: 0.0,
         dm01: 0.0,

@@ -23,7 +23,7 @@ use Rattle.upper.specs.Upper.{siteOf}
 use Rattle.lower.specs.declared.Whole.{Whole}
 use Rattle.acceptance.specs.declared.Answer.{Answer}
 use Rattle.acceptance.specs.declared.Answer.the-variants.{Accepted, Refused}
-use Rattle.acceptance.specs.Acceptance.{unfitOf, outsideOf, foundOf, judgedOf, acceptedOf, withAltOf}
+use Rattle.acceptance.specs.Acceptance.{unfitOf, outsideOf, foundOf, judgedOf, acceptedOf, recordAnswer, withAltOf}
 use Rattle.atmosphere.specs.Atmosphere.{gtd7Plan, elevenAtOf, elevenOf, answerOf, rowAfter}
 use Rattle.shutoff.specs.Fields.{float, missing, field, fields}
 use Rattle.shutoff.specs.Shut.{Alike}
@@ -37,12 +37,24 @@ no-refusal : (c : Bool) (n k : ℕ) (x : Answer) → cond c (Refused n k) x ≡ 
 no-refusal true n k x e = absurd (subst (λ (r : Answer). T (not (acceptedOf r))) e tt)
 no-refusal false n k x e = (refl, e)
 
-pub has-history : (w : List ℤ) (n : Input) (len : ℕ) → answerOf w n len ≡ Accepted → lacksHistoryOf w n ≡ false
-unfolding answerOf judgedOf
-has-history w n len e =
-    let a = no-refusal (not (eqb len 11)) 4 11 _ e in
-    let b = no-refusal (foundOf (unfitOf n)) 2 (unfitOf n) _ (a .1) in
+-- nor from an answer before it that is a refusal
+pub first-accepted : (a b : Answer) → cond (not (acceptedOf a)) a b ≡ Accepted → a ≡ Accepted
+first-accepted Accepted b e = refl
+first-accepted (Refused n k) b e = e
+
+-- a record that is accepted is judged so
+pub judged-first : (w : List ℤ) (n : Input) (len : ℕ) → answerOf w n len ≡ Accepted → judgedOf w n ≡ Accepted
+unfolding answerOf recordAnswer
+judged-first w n len e = first-accepted (judgedOf w n) _ ((no-refusal (not (eqb len 11)) 4 11 _ e) .1)
+
+pub judged-history : (w : List ℤ) (n : Input) → judgedOf w n ≡ Accepted → lacksHistoryOf w n ≡ false
+unfolding judgedOf
+judged-history w n e =
+    let b = no-refusal (foundOf (unfitOf n)) 2 (unfitOf n) _ e in
     (no-refusal (lacksHistoryOf w n) 1 10 _ (b .1)) .0
+
+pub has-history : (w : List ℤ) (n : Input) (len : ℕ) → answerOf w n len ≡ Accepted → lacksHistoryOf w n ≡ false
+has-history w n len e = judged-history w n (judged-first w n len e)
 
 there : (m : Bool) (h : History) → (m && absentOf h) ≡ false → T m → T (not (absentOf h))
 there true Absent e t = subst T e tt

@@ -58,13 +58,14 @@ pub fn set_dd(s: State, x: f64) -> State
     out
 }
 
-// N2, where it is mixed.
+// N2, where it is mixed, with the mark that its density was set.
 pub fn set_dm28(s: State, on: bool, x: f64) -> State
     ensures { λ r. ⌜ r ≡ withFields s (when on (setDm28 x) (fieldsOf s)) ⌝ }
 {
     if on {
         let mut out = s;
         out.dm28 = x;
+        out.dm28_set = true;
         return out;
     }
     s

@@ -62,14 +62,14 @@ passed : (b : Bool) (n k : ℕ) (a : Answer) → acceptedOf (cond (not b) (Refus
 passed true n k a h = (refl, h)
 passed false n k a h = absurd (false≢true h)
 
-module _ (len ints count : ℕ) (alt : Float) where
-  pub altitude-fits : acceptedOf (altitudeAnswer len ints count alt) ≡ true → (len ≡ 11) × (ints ≡ 27) × (count ≡ 234)
+module _ (len : ℕ) (whole : List ℤ) (count : ℕ) (alt : Float) where
+  pub altitude-fits : acceptedOf (altitudeAnswer len whole count alt) ≡ true → (len ≡ 11) × (length whole ≡ 27) × (count ≡ 234)
   unfolding altitudeAnswer
   altitude-fits h =
       let a = passed (eqb len 11) 4 11 _ h in
-      let b = passed (eqb ints 27) 4 27 _ (a .1) in
+      let b = passed (eqb (length whole) 27) 4 27 _ (a .1) in
       let c = passed (eqb count 234) 4 234 _ (b .1) in
-      (eqb-true len 11 (a .0), eqb-true ints 27 (b .0), eqb-true count 234 (c .0))
+      (eqb-true len 11 (a .0), eqb-true (length whole) 27 (b .0), eqb-true count 234 (c .0))
 
 -- ---- preparing
 
@@ -152,21 +152,21 @@ pub verdict : {a d : Answer} {v b : Bool} → a ≡ d → v ≡ acceptedOf a →
 verdict e f g = sym (ap acceptedOf e) ∙ sym f ∙ g
 
 module _ (whole : List ℤ) (xs : List Float) (alt : Float) (row : List Float) where
-  pub altitude-refused : acceptedOf (altitudeAnswer (length row) (length whole) (length xs) alt) ≡ false → row ≡ altitudeRow whole xs alt row
+  pub altitude-refused : acceptedOf (altitudeAnswer (length row) whole (length xs) alt) ≡ false → row ≡ altitudeRow whole xs alt row
   unfolding altitudeRow
   altitude-refused h = simp h
 
-  pub altitude-given : (r : List Float) (s t : Float) → acceptedOf (altitudeAnswer (length row) (length whole) (length xs) alt) ≡ true
+  pub altitude-given : (r : List Float) (s t : Float) → acceptedOf (altitudeAnswer (length row) whole (length xs) alt) ≡ true
       → r ≡ rowStored s t xs alt → s ≡ onOff (isOne (getD whole 3 (pos 0))) → t ≡ onOff (isOne (getD whole 18 (pos 0))) → r ≡ altitudeRow whole xs alt row
   unfolding altitudeRow
   altitude-given r s t h e f g = simp h (rw (f, g) at e)
 
   -- gtd7d, by gtd7's row
-  pub drag-refused : (r : List Float) → acceptedOf (altitudeAnswer (length row) (length whole) (length xs) alt) ≡ false → r ≡ altitudeRow whole xs alt row → r ≡ altitudeDrag whole xs alt row
+  pub drag-refused : (r : List Float) → acceptedOf (altitudeAnswer (length row) whole (length xs) alt) ≡ false → r ≡ altitudeRow whole xs alt row → r ≡ altitudeDrag whole xs alt row
   unfolding altitudeRow altitudeDrag
   drag-refused r h e = simp h (rw h at e)
 
-  pub drag-given : (r d : List Float) (s : Float) → acceptedOf (altitudeAnswer (length row) (length whole) (length xs) alt) ≡ true
+  pub drag-given : (r d : List Float) (s : Float) → acceptedOf (altitudeAnswer (length row) whole (length xs) alt) ≡ true
       → d ≡ draggedOf s r → s ≡ onOff (isOne (getD whole 3 (pos 0))) → r ≡ altitudeRow whole xs alt row → d ≡ altitudeDrag whole xs alt row
   unfolding altitudeRow altitudeDrag
   drag-given r d s h e f g = simp h (e ∙ rw (f, rw h at g))

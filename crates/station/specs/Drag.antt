@@ -30,9 +30,9 @@ main-0 w n = refl
 -- gtd7d of a station is its gtd7 with d[5] summed again
 pub summed : (whole : List ℤ) (xs : List Float) (z : Float) (row : List Float)
     → altitudeDrag whole xs z row
-    ≡ cond (acceptedOf (altitudeAnswer (length row) (length whole) (length xs) z)) (draggedOf (onOff (isOne (getD whole 3 (pos 0)))) (altitudeRow whole xs z row)) row
+    ≡ cond (acceptedOf (altitudeAnswer (length row) whole (length xs) z)) (draggedOf (onOff (isOne (getD whole 3 (pos 0)))) (altitudeRow whole xs z row)) row
 unfolding altitudeDrag altitudeRow
-summed whole xs z row = seen (acceptedOf (altitudeAnswer (length row) (length whole) (length xs) z)) (draggedOf (onOff (isOne (getD whole 3 (pos 0))))) _ row
+summed whole xs z row = seen (acceptedOf (altitudeAnswer (length row) whole (length xs) z)) (draggedOf (onOff (isOne (getD whole 3 (pos 0))))) _ row
 
 -- An altitude of a station that holds a record: gtd7d's row with that altitude; the answer is `altitude-told`'s
 pub drag-told : (w : List ℤ) (n : Input) (z : Float) (row : List Float) → Held w n
@@ -56,8 +56,8 @@ pub demand-3-station-drag : (w : List ℤ) (a b : Input) (z : Float) (xs ys : Li
     → Alike w a b
     → Held w a
     → Held w b
-    → altitudeAnswer (length xs) (length (wholeOf w a)) (length (numbersOf w a)) z ≡ Accepted
-    → altitudeAnswer (length ys) (length (wholeOf w b)) (length (numbersOf w b)) z ≡ Accepted
+    → altitudeAnswer (length xs) (wholeOf w a) (length (numbersOf w a)) z ≡ Accepted
+    → altitudeAnswer (length ys) (wholeOf w b) (length (numbersOf w b)) z ≡ Accepted
     → (altitudeDrag (wholeOf w a) (numbersOf w a) z xs ≡ altitudeDrag (wholeOf w b) (numbersOf w b) z ys)
     × (altitudeDrag (wholeOf w a) (numbersOf w a) z xs ≡ dragOf w (withAltOf a z))
     × (altitudeDrag (wholeOf w b) (numbersOf w b) z ys ≡ dragOf w (withAltOf b z))

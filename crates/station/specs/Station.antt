@@ -17,7 +17,7 @@ use Rattle.setting.specs.Switches.{isOne, onOff}
 use Rattle.setting.specs.View.{viewOf}
 use Rattle.acceptance.specs.declared.Answer.{Answer}
 use Rattle.acceptance.specs.declared.Answer.the-variants.{Accepted, Refused}
-use Rattle.acceptance.specs.Acceptance.{withinOf, judgedOf, acceptedOf, withAltOf}
+use Rattle.acceptance.specs.Acceptance.{withinOf, judgedOf, acceptedOf, unmixedOf, withAltOf}
 use Rattle.levels.specs.Levels.{levelsOf}
 use Rattle.upper.specs.Upper.{siteOf}
 use Rattle.stored.specs.Stored.{allParts, needOf, storedOf, rowStored}
@@ -81,26 +81,27 @@ wholeAfter w n ys count = cond (acceptedOf (stationAnswer w n (length ys) count)
 unfoldable pub numbersAfter : List ℤ → Input → ℕ → List Float → List Float
 numbersAfter w n ints xs = cond (acceptedOf (stationAnswer w n ints (length xs))) (numbersOf w (withAltOf n 0·0)) xs
 
--- ---- an altitude: 4 for the row, for the two slices; 2, then 3 at place 3
+-- ---- an altitude: 4 for the row, for the two slices; 2, then 3, then 10 at place 3; switch 0 stands at 3 and switch 15 at 18
 
-unfoldable pub altitudeAnswer : ℕ → ℕ → ℕ → Float → Answer
-altitudeAnswer len ints count alt =
+unfoldable pub altitudeAnswer : ℕ → List ℤ → ℕ → Float → Answer
+altitudeAnswer len whole count alt =
     cond (not (eqb len 11)) (Refused 4 11)
-    (cond (not (eqb ints 27)) (Refused 4 27)
+    (cond (not (eqb (length whole) 27)) (Refused 4 27)
     (cond (not (eqb count 234)) (Refused 4 234)
     (cond (not (finiteOf alt)) (Refused 2 3)
-    (cond (not (withinOf 0·0 2500·0 alt)) (Refused 3 3) Accepted))))
+    (cond (not (withinOf 0·0 2500·0 alt)) (Refused 3 3)
+    (cond (unmixedOf (isOne (getD whole 18 (pos 0))) alt) (Refused 10 3) Accepted)))))
 
--- the lent row afterwards: switch 0 stands at 3 and switch 15 at 18
+-- the lent row afterwards
 unfoldable pub altitudeRow : List ℤ → List Float → Float → List Float → List Float
 altitudeRow whole xs alt row =
-    cond (acceptedOf (altitudeAnswer (length row) (length whole) (length xs) alt))
+    cond (acceptedOf (altitudeAnswer (length row) whole (length xs) alt))
     (rowStored (onOff (isOne (getD whole 3 (pos 0)))) (onOff (isOne (getD whole 18 (pos 0)))) xs alt) row
 
 -- the lent row after gtd7d, whose answer is the same
 unfoldable pub altitudeDrag : List ℤ → List Float → Float → List Float → List Float
 altitudeDrag whole xs alt row =
-    cond (acceptedOf (altitudeAnswer (length row) (length whole) (length xs) alt))
+    cond (acceptedOf (altitudeAnswer (length row) whole (length xs) alt))
     (draggedOf (onOff (isOne (getD whole 3 (pos 0)))) (rowStored (onOff (isOne (getD whole 3 (pos 0)))) (onOff (isOne (getD whole 18 (pos 0)))) xs alt)) row
 
 -- ---- changes of sec, of lst, of g_long, of the fluxes

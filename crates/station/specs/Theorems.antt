@@ -17,11 +17,11 @@ use Rattle.setting.specs.declared.Input.{Input}
 use Rattle.setting.specs.declared.History.{History}
 use Rattle.setting.specs.declared.History.the-variants.{Absent, Present}
 use Rattle.setting.specs.ApHistory.{absentOf, lacksHistoryOf}
-use Rattle.setting.specs.Switches.{isOne, onOff, filled, swOf}
+use Rattle.setting.specs.Switches.{given, isOne, onOff, filled, swOf}
 use Rattle.setting.specs.View.{viewOf}
 use Rattle.acceptance.specs.declared.Answer.{Answer}
 use Rattle.acceptance.specs.declared.Answer.the-variants.{Accepted, Refused}
-use Rattle.acceptance.specs.Acceptance.{withinOf, dayWithin, lowest, arrayUnfitOf, unfitOf, arrayOutsideOf, outsideOf, foundOf, judgedOf, acceptedOf, withAltOf}
+use Rattle.acceptance.specs.Acceptance.{withinOf, dayWithin, lowest, arrayUnfitOf, unfitOf, arrayOutsideOf, outsideOf, foundOf, judgedOf, acceptedOf, unmixedOf, recordAnswer, withAltOf}
 use Rattle.levels.specs.Levels.{levelsOf}
 use Rattle.upper.specs.Upper.{siteOf}
 use Rattle.atmosphere.specs.Atmosphere.{elevenOf, answerOf, rowAfter}
@@ -252,11 +252,11 @@ passed : (b : Bool) (n k : ℕ) (a : Answer) → acceptedOf (cond (not b) (Refus
 passed true n k a h = (refl, h)
 passed false n k a h = absurd (false≢true h)
 
-in-range : (len ints count : ℕ) (z : Float) → acceptedOf (altitudeAnswer len ints count z) ≡ true → withinOf 0·0 2500·0 z ≡ true
+in-range : (len : ℕ) (whole : List ℤ) (count : ℕ) (z : Float) → acceptedOf (altitudeAnswer len whole count z) ≡ true → withinOf 0·0 2500·0 z ≡ true
 unfolding altitudeAnswer
-in-range len ints count z h =
+in-range len whole count z h =
     let a = passed (eqb len 11) 4 11 _ h in
-    let b = passed (eqb ints 27) 4 27 _ (a .1) in
+    let b = passed (eqb (length whole) 27) 4 27 _ (a .1) in
     let c = passed (eqb count 234) 4 234 _ (b .1) in
     let d = passed (finiteOf z) 2 3 _ (c .1) in
     (passed (withinOf 0·0 2500·0 z) 3 3 _ (d .1)) .0
@@ -265,26 +265,44 @@ same-row : (b : Bool) (x y r : List Float) → (b ≡ true → x ≡ y) → cond
 same-row true x y r e = e refl
 same-row false x y r e = refl
 
+-- 10 behind the altitude's own 2 and 3
+ten-behind : (a b c : Bool)
+    → cond (not (acceptedOf (cond a (Refused 2 3) (cond b (Refused 3 3) Accepted)))) (cond a (Refused 2 3) (cond b (Refused 3 3) Accepted)) (cond c (Refused 10 3) Accepted)
+    ≡ cond a (Refused 2 3) (cond b (Refused 3 3) (cond c (Refused 10 3) Accepted))
+ten-behind true b c = refl
+ten-behind false true c = refl
+ten-behind false false c = refl
+
+fifteen : (w : List ℤ) (n : Input) → getD (wholeOf w n) 18 (pos 0) ≡ given w 15
+unfolding wholeOf
+fifteen w n = refl
+
+at-altitude : (n : Input) (z : Float) → (withAltOf n z) .alt ≡ z
+unfolding withAltOf
+at-altitude n z = refl
+
 answer-told : (w : List ℤ) (n : Input) (z : Float) (len : ℕ) → Held w n
-    → altitudeAnswer len (length (wholeOf w n)) (length (numbersOf w n)) z ≡ answerOf w (withAltOf n z) len
-unfolding altitudeAnswer answerOf
-answer-told w n z len h = rw (eq-eqb _ _ (whole-long w n (h .row)), eq-eqb _ _ (numbers-long w n), judged-at w n z h)
+    → altitudeAnswer len (wholeOf w n) (length (numbersOf w n)) z ≡ answerOf w (withAltOf n z) len
+unfolding altitudeAnswer answerOf recordAnswer
+answer-told w n z len h =
+    rw (eq-eqb _ _ (whole-long w n (h .row)), eq-eqb _ _ (numbers-long w n), judged-at w n z h, fifteen w n, at-altitude n z)
+    (ap (cond (not (eqb len 11)) (Refused 4 11)) (sym (ten-behind (not (finiteOf z)) (not (withinOf 0·0 2500·0 z)) (unmixedOf (isOne (given w 15)) z))))
 
 -- An altitude of a station that holds a record: answer and row are the one-altitude call's with that altitude
 pub altitude-told : (w : List ℤ) (n : Input) (z : Float) (row : List Float) → Held w n
-    → (altitudeAnswer (length row) (length (wholeOf w n)) (length (numbersOf w n)) z ≡ answerOf w (withAltOf n z) (length row))
+    → (altitudeAnswer (length row) (wholeOf w n) (length (numbersOf w n)) z ≡ answerOf w (withAltOf n z) (length row))
     × (altitudeRow (wholeOf w n) (numbersOf w n) z row ≡ rowAfter w (withAltOf n z) row)
 unfolding altitudeRow rowAfter
 altitude-told w n z row h =
     let e = answer-told w n z (length row) h in (
       e,
-      same-row (acceptedOf (altitudeAnswer (length row) (length (wholeOf w n)) (length (numbersOf w n)) z)) _ _ row (λ t. row-told w n z (in-range _ _ _ z t))
+      same-row (acceptedOf (altitudeAnswer (length row) (wholeOf w n) (length (numbersOf w n)) z)) _ _ row (λ t. row-told w n z (in-range _ _ _ z t))
           ∙ ap (λ (a : Answer). cond (acceptedOf a) (elevenOf w (withAltOf n z)) row) e,
     )
 
 -- the same after any changes: the record as it then is
 pub altitude-kept : (w : List ℤ) (n : Input) (cs : List Change) (z : Float) (row : List Float) → Held w n
-    → (altitudeAnswer (length row) (length (wholeOf w n)) (length (stationAfter (wholeOf w n) (numbersOf w n) cs)) z ≡ answerOf w (withAltOf (recordAfter w n cs) z) (length row))
+    → (altitudeAnswer (length row) (wholeOf w n) (length (stationAfter (wholeOf w n) (numbersOf w n) cs)) z ≡ answerOf w (withAltOf (recordAfter w n cs) z) (length row))
     × (altitudeRow (wholeOf w n) (stationAfter (wholeOf w n) (numbersOf w n) cs) z row ≡ rowAfter w (withAltOf (recordAfter w n cs) z) row)
 altitude-kept w n cs z row h =
     let r = kept w n cs h in
@@ -301,8 +319,8 @@ pub demand-3-station : (w : List ℤ) (a b : Input) (z : Float) (xs ys : List Fl
     → Alike w a b
     → Held w a
     → Held w b
-    → altitudeAnswer (length xs) (length (wholeOf w a)) (length (numbersOf w a)) z ≡ Accepted
-    → altitudeAnswer (length ys) (length (wholeOf w b)) (length (numbersOf w b)) z ≡ Accepted
+    → altitudeAnswer (length xs) (wholeOf w a) (length (numbersOf w a)) z ≡ Accepted
+    → altitudeAnswer (length ys) (wholeOf w b) (length (numbersOf w b)) z ≡ Accepted
     → (altitudeRow (wholeOf w a) (numbersOf w a) z xs ≡ altitudeRow (wholeOf w b) (numbersOf w b) z ys)
     × (altitudeRow (wholeOf w a) (numbersOf w a) z xs ≡ elevenOf w (withAltOf a z))
     × (altitudeRow (wholeOf w b) (numbersOf w b) z ys ≡ elevenOf w (withAltOf b z))

@@ -9,6 +9,7 @@ ghost use Rattle.station.specs.Station.{markOf, historyIn, wholeOf, reco
 use acceptance::Answer;
 use acceptance::accepted;
 use acceptance::judge;
+use acceptance::unmixed;
 use acceptance::with_alt;
 use acceptance::within;
 use drag_sum::drag_on;
@@ -227,13 +228,26 @@ pub fn prepare(w: [i32; 24], n: Input, whole: &mut [i32], numbers: &mut [f64]) -
     a
 }
 
-// The answer to an altitude: the lengths of the row, the whole numbers and the numbers; 2, then 3.
-pub fn altitude_answer(len: usize, ints: usize, count: usize, alt: f64) -> Answer
-    ensures { λ r. ⌜ r ≡ altitudeAnswer len ints count alt ⌝ }
+// Whether a switch of the whole numbers, as given, is 1.
+pub fn one_in(whole: &[i32], i: usize) -> bool
+    requires { ⌜ i < length (now whole) ⌝ }
+    ensures { λ r. ⌜ r ≡ isOne (getD (now (whole .entry)) i (pos 0)) ⌝ }
+{
+    let x = whole[i];
+    if x == 1 {
+        return true;
+    }
+    false
+}
+
+// The answer to an altitude: the lengths of the row, the whole numbers and the numbers; 2, then 3, then 10.
+pub fn altitude_answer(len: usize, whole: &[i32], count: usize, alt: f64) -> Answer
+    ensures { λ r. ⌜ r ≡ altitudeAnswer len (now (whole .entry)) count alt ⌝ }
 {
     if len != 11 {
         return Answer::Refused(4, 11);
     }
+    let ints = whole.len();
     if ints != 27 {
         return Answer::Refused(4, 27);
     }
@@ -246,15 +260,19 @@ pub fn altitude_answer(len: usize, ints: usize, count: usize, alt: f64) -> Answe
     if !within(0.0, 2500.0, alt) {
         return Answer::Refused(3, 3);
     }
+    let on = one_in(whole, 18);
+    if unmixed(on, alt) {
+        return Answer::Refused(10, 3);
+    }
     Answer::Accepted
 }
 
 // An altitude of a station; the record was judged when it was prepared or changed.
 pub fn gtd7(whole: &[i32], numbers: &[f64], alt: f64, out: &mut [f64]) -> Answer
-    ensures { λ r. ⌜ (r ≡ altitudeAnswer (length (now (out .entry))) (length (now (whole .entry))) (length (now (numbers .entry))) alt)
+    ensures { λ r. ⌜ (r ≡ altitudeAnswer (length (now (out .entry))) (now (whole .entry)) (length (now (numbers .entry))) alt)
         × (now (out .exit) ≡ altitudeRow (now (whole .entry)) (now (numbers .entry)) alt (now (out .entry))) ⌝ }
 {
-    let a = altitude_answer(out.len(), whole.len(), numbers.len(), alt);
+    let a = altitude_answer(out.len(), whole, numbers.len(), alt);
     if !accepted(a) {
         return a;
     }
@@ -266,7 +284,7 @@ pub fn gtd7(whole: &[i32], numbers: &[f64], alt: f64, out: &mut [f64]) -> Answer
 
 // The same for drag: d[5] summed again in the row that gtd7 gave.
 pub fn gtd7d(whole: &[i32], numbers: &[f64], alt: f64, out: &mut [f64]) -> Answer
-    ensures { λ r. ⌜ (r ≡ altitudeAnswer (length (now (out .entry))) (length (now (whole .entry))) (length (now (numbers .entry))) alt)
+    ensures { λ r. ⌜ (r ≡ altitudeAnswer (length (now (out .entry))) (now (whole .entry)) (length (now (numbers .entry))) alt)
         × (now (out .exit) ≡ altitudeDrag (now (whole .entry)) (now (numbers .entry)) alt (now (out .entry))) ⌝ }
 {
     let a = gtd7(whole, numbers, alt, out);

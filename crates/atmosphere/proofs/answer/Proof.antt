@@ -9,12 +9,9 @@ returns : tie.Need-returns
 unfolding answerOf
 returns c = simp (ne-eqb _ _ (c .if1 .taken))
 
-judge-requires : tie.Need-judge-requires
-judge-requires c κs = search needs
-
 returns-2 : tie.Need-returns-2
 unfolding answerOf
-returns-2 c = simp (← c .judge .ensures) (simp (eq-eqb _ _ (c .before .if1 .left)))
+returns-2 c = simp (← c .record-answer .ensures) (simp (eq-eqb _ _ (c .before .if1 .left)))
 
 pub answer-spec : {M : Type 1} → statement M
-answer-spec = tie.close (tie.spec returns judge-requires returns-2)
+answer-spec = tie.close (tie.spec returns (λ c κs. search needs) returns-2)

@@ -14,10 +14,10 @@ use Rattle.host_expansion.proofs.put.Statement.{statement}
 use Rattle.host_expansion.proofs.put.Tie as tie
 
 abbrev Inv-loop : tie.InvT-loop
-Inv-loop e numbers₀ i₀ numbers i = (i ≤ 79) × (length numbers ≡ 79) × ((k : ℕ) → k < i → getD numbers k nan ≡ entryOf e k)
+Inv-loop e numbers₀ i₀ numbers i = (i ≤ 80) × (length numbers ≡ 80) × ((k : ℕ) → k < i → getD numbers k nan ≡ entryOf e k)
 
 abbrev μ-loop : tie.MeasureT-loop
-μ-loop e numbers₀ i₀ numbers i = 79 - i
+μ-loop e numbers₀ i₀ numbers i = 80 - i
 
 loop-holds : tie.Need-loop-holds Inv-loop μ-loop
 loop-holds c = (search needs, search needs, below-none _)
@@ -35,7 +35,7 @@ returns : tie.Need-returns Inv-loop μ-loop
 returns c =
     let at = c .before .loop in
     let e = c .before .before .before .args .e in
-    ext-getD nan _ _ (at .inv .1 ∙ sym (entries-length 79 e 0)) (λ k h. at .inv .2 k (omega arith) ∙ sym (entries-at 79 e 0 k (omega arith) ∙ ap (entryOf e) (zero-add k)))
+    ext-getD nan _ _ (at .inv .1 ∙ sym (entries-length 80 e 0)) (λ k h. at .inv .2 k (omega arith) ∙ sym (entries-at 80 e 0 k (omega arith) ∙ ap (entryOf e) (zero-add k)))
 
 pub put-spec : {M : Type 1} → statement M
 put-spec =

@@ -1,5 +1,5 @@
 -- `number` meets its contract.
-use Rattle.host_state.proofs.Laws.{first, second, third, fourth, beyond}
+use Rattle.host_state.proofs.Laws.{first, second, third, fourth, marked}
 use borrow.Author.Needs.{needs}
 use Rattle.host_state.proofs.number.Statement.{statement}
 use Rattle.host_state.proofs.number.Tie as tie
@@ -53,8 +53,8 @@ returns-4 c =
 
 returns-5 : tie.Need-returns-5
 returns-5 c =
-    let A = c .before .before .before .before .before .before .before .args in
-    beyond (A .s) (A .k) (c .before .before .before .before .before .if1 .left) (c .before .before .before .before .if2 .left) (c .before .before .if3 .left) (c .if4 .left)
+    let A = c .before .before .before .before .before .before .before .before .before .args in
+    marked (A .s) (A .k) (c .before .before .before .before .before .before .before .if1 .left) (c .before .before .before .before .before .before .if2 .left) (c .before .before .before .before .if3 .left) _ (c .before .before .if4 .left) (c .pick .ensures)
 
 pub number-spec : {M : Type 1} → statement M
 number-spec =
@@ -73,4 +73,5 @@ number-spec =
     mul-result-3
     array-read-result-3
     returns-4
+    (λ c κs. search needs)
     returns-5)

@@ -14,10 +14,10 @@ use Rattle.host_state.proofs.put_state.Statement.{statement}
 use Rattle.host_state.proofs.put_state.Tie as tie
 
 abbrev Inv-loop : tie.InvT-loop
-Inv-loop s out₀ i₀ out i = (i ≤ 78) × (length out ≡ 78) × ((k : ℕ) → k < i → getD out k nan ≡ numberOf s k)
+Inv-loop s out₀ i₀ out i = (i ≤ 79) × (length out ≡ 79) × ((k : ℕ) → k < i → getD out k nan ≡ numberOf s k)
 
 abbrev μ-loop : tie.MeasureT-loop
-μ-loop s out₀ i₀ out i = 78 - i
+μ-loop s out₀ i₀ out i = 79 - i
 
 loop-holds : tie.Need-loop-holds Inv-loop μ-loop
 loop-holds c = (search needs, search needs, below-none _)

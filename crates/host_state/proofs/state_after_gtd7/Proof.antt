@@ -6,7 +6,8 @@ use borrow.Author.Tests.{not-true, not-false}
 use Rattle.acceptance.specs.declared.Answer.the-variants.{Accepted, Refused}
 use Rattle.host.specs.Host.{recordOf}
 use Rattle.host.proofs.Laws.{refused, fields-fit, switches-fit, passed, dated}
-use Rattle.host_state.specs.HostState.{numbersOf, leftOf, stateAnswer, stateNumbers}
+use Rattle.host_state.specs.HostState.{numbersOf, stateAnswer, stateNumbers}
+use Rattle.atmosphere.specs.Atmosphere.{leftOf}
 use Rattle.host_state.proofs.Laws.{no-slice, a-slice, answered}
 use borrow.Author.Needs.{needs}
 use Rattle.host_state.proofs.state_after_gtd7.Statement.{statement}
@@ -16,7 +17,7 @@ returns : tie.Need-returns
 unfolding stateNumbers
 returns c =
     let A = c .before .before .before .before .before .args in
-    refused (stateAnswer (A .fields .now) (A .ap-array .now) (A .switches .now) (length (A .numbers .now))) (Refused 4 78) (numbersOf (leftOf (A .switches .now) (recordOf (A .year) (A .doy) (A .fields .now) (A .ap-array .now)))) (A .numbers .now) _
+    refused (stateAnswer (A .fields .now) (A .ap-array .now) (A .switches .now) (length (A .numbers .now))) (Refused 4 79) (numbersOf (leftOf (A .switches .now) (recordOf (A .year) (A .doy) (A .fields .now) (A .ap-array .now)))) (A .numbers .now) _
     (no-slice (A .fields .now) (A .ap-array .now) (A .switches .now) (A .numbers .now) (c .before .if1 .taken))
     refl
     (c .code .ensures)

@@ -1,0 +1,79 @@
+-- The State that gtd7 leaves: when its mark says that dm28 was set, and that it says so after every accepted run below 72.5 km.
+use Prim.Native.Nat.{ℕ}
+use mathlib.Core.Path.{_≡_, refl, sym, ap, _∙_}
+use mathlib.Core.Bool.{Bool, true, false, cond, not, _&&_, false≢true}
+use mathlib.Core.List.{List}
+use lib.Dec.{eqb}
+use lib.IntN.{ℤ}
+use lib.Ieee.{Float, lt, le, eq, ne, ofBits}
+use Rattle.numbers.specs.Arithmetic.{_‼_}
+use Rattle.numbers.specs.Literals.{1·0, 72·5}
+use Rattle.setting.specs.declared.Input.{Input}
+use Rattle.setting.specs.declared.State.{State}
+use Rattle.setting.specs.declared.View.{View}
+use Rattle.setting.specs.Switches.{given, isOne, onOff, filled, swOf}
+use Rattle.setting.specs.State.{freshOf}
+use Rattle.setting.specs.View.{viewOf}
+use Rattle.mixing.specs.Limits.{n2Mixed}
+use Rattle.places.proofs.Order.{lt-asym}
+use Rattle.expansion.specs.Expansion.{afterOf}
+use Rattle.plan.specs.Plan.{Ran, run, stepped}
+use Rattle.upper.specs.declared.Site.{Site}
+use Rattle.lower.specs.declared.Whole.{Whole}
+use Rattle.acceptance.specs.declared.Answer.{Answer}
+use Rattle.acceptance.specs.declared.Answer.the-variants.{Accepted, Refused}
+use Rattle.acceptance.specs.Acceptance.{judgedOf, acceptedOf, unmixedOf, recordAnswer}
+use Rattle.atmosphere.specs.Atmosphere.{gtd7Plan, leftOf, answerOf}
+use Rattle.atmosphere.specs.Answers.{gtd7-left}
+use Rattle.model_state.specs.Mark.{gtd7-marks}
+
+-- ---- the mark after any run
+
+itself : (b : Bool) → cond b true false ≡ b
+itself true = refl
+itself false = refl
+
+-- From a fresh State gtd7 leaves the mark true exactly where N2 is mixed at gts7's altitude, whatever the number that is then in dm28
+pub left-marked : (v : View) (x : Site) (alt : Float)
+    → (run v (gtd7Plan (v .sw) x alt) freshOf) .left .«dm28_set» ≡ n2Mixed (v .sw ‼ 15) (cond (lt 72·5 alt) alt 72·5)
+unfolding stepped afterOf freshOf
+left-marked v x alt =
+    ap (λ (r : Ran Whole). r .left .«dm28_set») (gtd7-left v x alt)
+    ∙ gtd7-marks (v .sw) x alt _ _
+    ∙ itself (n2Mixed (v .sw ‼ 15) (cond (lt 72·5 alt) alt 72·5))
+
+-- ---- after accepted runs below 72.5 km
+
+ten-passed : (a : Answer) (c : Bool) → cond (not (acceptedOf a)) a (cond c (Refused 10 3) Accepted) ≡ Accepted → c ≡ false
+ten-passed Accepted true e = absurd (false≢true (ap acceptedOf e))
+ten-passed Accepted false e = refl
+ten-passed (Refused n k) c e = absurd (false≢true (ap acceptedOf e))
+
+length-passed : (b : Bool) (a : Answer) → cond (not b) (Refused 4 11) a ≡ Accepted → a ≡ Accepted
+length-passed true a e = e
+length-passed false a e = absurd (false≢true (ap acceptedOf e))
+
+is-on : (one low : Bool) → low ≡ true → (not one && low) ≡ false → one ≡ true
+is-on true low e f = refl
+is-on false low e f = absurd (false≢true (sym f ∙ e))
+
+-- an accepted record below 72.5 km has switch 15 at 1
+pub mixing-given : (w : List ℤ) (n : Input) (len : ℕ) → answerOf w n len ≡ Accepted → lt (n .alt) 72·5 ≡ true → isOne (given w 15) ≡ true
+unfolding answerOf recordAnswer unmixedOf
+mixing-given w n len e low =
+    is-on (isOne (given w 15)) (lt (n .alt) 72·5) low (ten-passed (judgedOf w n) _ (length-passed (eqb len 11) _ e))
+
+main-15 : (w : List ℤ) (n : Input) → (viewOf w n) .sw ‼ 15 ≡ onOff (isOne (given w 15))
+unfolding viewOf swOf filled
+main-15 w n = refl
+
+on-at-72 : n2Mixed 1·0 72·5 ≡ true
+unfolding ne eq le lt ofBits
+on-at-72 = refl
+
+-- In every accepted run below 72.5 km the mark is true at the end.
+pub mixed-below : (w : List ℤ) (n : Input) (len : ℕ) → answerOf w n len ≡ Accepted → lt (n .alt) 72·5 ≡ true → (leftOf w n) .«dm28_set» ≡ true
+unfolding leftOf
+mixed-below w n len e low =
+    left-marked (viewOf w n) _ (n .alt)
+    ∙ rw (main-15 w n, mixing-given w n len e low, lt-asym (n .alt) 72·5 low) on-at-72

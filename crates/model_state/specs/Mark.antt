@@ -1,0 +1,159 @@
+-- The mark beside dm28 after gts7 and gtd7: N2's step sets it where N2 is mixed, and no other step does.
+use mathlib.Core.Path.{_≡_, refl, _∙_}
+use mathlib.Core.Bool.{Bool, false, cond, not}
+use mathlib.Core.List.{List}
+use lib.Ieee.{Float, lt, le}
+use Rattle.numbers.specs.Arithmetic.{_⊗_, _‼_}
+use Rattle.numbers.specs.Literals.{32·5, 72·5, 300·0}
+use Rattle.profile.specs.declared.unchecked.Shape.{Shape}
+use Rattle.mixing.specs.Limits.{n2Mixed, heMixed, oMixed, o2Mixed, arMixed, hMixed, nMixed}
+use Rattle.species.specs.Species.{heliumOf, oxygenOf, o2Of, argonOf, hydrogenOf, nitrogenOf}
+use Rattle.plan.specs.Fields.{Fields, when, setDm04, setDm16, setDm32, setDm40, setDm01, setDm14}
+use Rattle.plan.specs.Plan.{Plan, done, ask, keep, either, _>>=_}
+use Rattle.plan.specs.Mark.{Leaves, dm28-marks, gravity-leaves, dd-leaves, dm04-leaves, dm16-leaves, dm32-leaves, dm40-leaves, dm01-leaves, dm14-leaves, tn1-leaves, tn2-leaves, tn3-leaves, nodes1-leaves, top3-leaves, when-leaves, Marks, Unmarking, done-leaves, ask-marks, keep-marks, when-marks, either-leaves, then-leaves, then-marks}
+use Rattle.tables.specs.Tables.{pdT0, pdT1, pdT4, pdT5, pdT6, pdT7, pdmT0, pdmT1, pdmT3, pdmT4, pdmT5, pdmT6, pdlT1}
+use Rattle.upper.specs.declared.Site.{Site}
+use Rattle.upper.specs.declared.Upper.{Upper}
+use Rattle.stages.specs.Stages.{densuSets, mixedSets, tinfPlan, gradientPlan, tlbPlan, nodesPlan, shapePlan, n2Plan, heliumPlan, oxygenPlan, o2Plan, argonPlan, hydrogenPlan, nitrogenPlan, hotPlan, speciesPlan, gts7Plan}
+use Rattle.lower.specs.declared.Meso.{Meso}
+use Rattle.lower.specs.Lower.{mesoNodesPlan, mesoPlan, lowerPlan}
+use Rattle.atmosphere.specs.Atmosphere.{gtd7Plan}
+
+densu-leaves : (h : Shape) (z : Float) → Leaves (densuSets h z)
+unfolding densuSets
+densu-leaves h z f = tn1-leaves _ _ f
+
+mixed-leaves : (h : Shape) (z zh : Float) (u : Fields → Fields) → Leaves u → Leaves (mixedSets h z zh u)
+mixed-leaves h z zh u i f = i (densuSets h z (densuSets h zh f)) ∙ densu-leaves h z (densuSets h zh f) ∙ densu-leaves h zh f
+
+-- a species: densu's, and its dm by u where b holds
+species-leaves : {A : Type 0} (b : Bool) (h : Shape) (z zh : Float) (u : Fields → Fields) → Leaves u → (a : A)
+    → Unmarking (keep (densuSets h z) (keep (when b (mixedSets h z zh u)) (done a)))
+species-leaves b h z zh u i a =
+    keep-marks false (densuSets h z) (keep (when b (mixedSets h z zh u)) (done a)) (densu-leaves h z)
+    (keep-marks false (when b (mixedSets h z zh u)) (done a) (when-leaves b (mixedSets h z zh u) (mixed-leaves h z zh u i)) (done-leaves a))
+
+-- ---- gts7
+
+tinf-leaves : (sw : List Float) (z : Float) → Unmarking (tinfPlan sw z)
+unfolding tinfPlan _>>=_
+tinf-leaves sw z = either-leaves (lt (pdlT1 ‼ 15) z) _ _ (ask-marks false _ _ (λ a. done-leaves _)) (done-leaves _)
+
+gradient-leaves : (sw : List Float) (z : Float) → Unmarking (gradientPlan sw z)
+unfolding gradientPlan _>>=_
+gradient-leaves sw z = either-leaves (lt 72·5 z) _ _ (ask-marks false _ _ (λ a. done-leaves _)) (done-leaves _)
+
+tlb-leaves : (sw : List Float) → Unmarking (tlbPlan sw)
+unfolding tlbPlan _>>=_
+tlb-leaves sw = ask-marks false _ _ (λ a. done-leaves _)
+
+nodes-leaves : (sw : List Float) (z : Float) → Unmarking (nodesPlan sw z)
+unfolding nodesPlan _>>=_
+nodes-leaves sw z =
+    either-leaves (lt z 300·0) _ _
+    (ask-marks false _ _ (λ a. ask-marks false _ _ (λ b. ask-marks false _ _ (λ c. ask-marks false _ _ (λ e. ask-marks false _ _ (λ g. keep-marks false _ _ (nodes1-leaves _ _) (done-leaves _)))))))
+    (keep-marks false _ _ (nodes1-leaves _ _) (done-leaves _))
+
+shape-leaves : (sw : List Float) (x : Site) (z : Float) → Unmarking (shapePlan sw x z)
+unfolding shapePlan
+shape-leaves sw x z =
+    then-leaves false (tinfPlan sw z) _ (tinf-leaves sw z)
+    (λ t. then-leaves false (gradientPlan sw z) _ (gradient-leaves sw z)
+    (λ g. then-leaves false (tlbPlan sw) _ (tlb-leaves sw)
+    (λ b. then-leaves false (nodesPlan sw z) _ (nodes-leaves sw z)
+    (λ n. done-leaves _))))
+
+n2-marks : (sw : List Float) (h : Shape) (z zhf : Float) → Marks (n2Mixed (sw ‼ 15) z) (n2Plan sw h z zhf)
+unfolding n2Plan _>>=_
+n2-marks sw h z zhf =
+    let b = n2Mixed (sw ‼ 15) z in
+    ask-marks b _ _
+    (λ g. keep-marks b _ _ (densu-leaves h z)
+    (keep-marks b _ _ (densu-leaves h _)
+    (when-marks b _ _ (λ f. (dm28-marks _ _) .0) (done-leaves _))))
+
+helium-leaves : (sw : List Float) (h : Shape) (z b28 zhm xmm : Float) → Unmarking (heliumPlan sw h z b28 zhm xmm)
+unfolding heliumPlan _>>=_
+helium-leaves sw h z b28 zhm xmm =
+    ask-marks false _ _ (λ g. let x = heliumOf h (sw ‼ 15) z b28 (pdmT0 ‼ 0 ⊗ g ⊗ pdT0 ‼ 0) zhm xmm in species-leaves (heMixed (sw ‼ 15) z) h z (pdmT0 ‼ 2) (setDm04 (x .dm)) (dm04-leaves (x .dm)) x)
+
+oxygen-leaves : (sw : List Float) (h : Shape) (z zhm xmm flux : Float) → Unmarking (oxygenPlan sw h z zhm xmm flux)
+unfolding oxygenPlan _>>=_
+oxygen-leaves sw h z zhm xmm flux =
+    ask-marks false _ _ (λ g. let x = oxygenOf h (sw ‼ 15) z (pdmT1 ‼ 0 ⊗ g ⊗ pdT1 ‼ 0) zhm xmm flux in species-leaves (oMixed (sw ‼ 15) z) h z (pdmT1 ‼ 2) (setDm16 (x .dm)) (dm16-leaves (x .dm)) x)
+
+o2-leaves : (sw : List Float) (h : Shape) (z b28 zhm xmm flux : Float) → Unmarking (o2Plan sw h z b28 zhm xmm flux)
+unfolding o2Plan _>>=_
+o2-leaves sw h z b28 zhm xmm flux =
+    ask-marks false _ _ (λ g. let x = o2Of h (sw ‼ 15) z b28 (pdmT3 ‼ 0 ⊗ g ⊗ pdT4 ‼ 0) zhm xmm flux in species-leaves (o2Mixed (sw ‼ 15) z) h z (pdmT3 ‼ 2) (setDm32 (x .dm)) (dm32-leaves (x .dm)) x)
+
+argon-leaves : (sw : List Float) (h : Shape) (z b28 zhm xmm : Float) → Unmarking (argonPlan sw h z b28 zhm xmm)
+unfolding argonPlan _>>=_
+argon-leaves sw h z b28 zhm xmm =
+    ask-marks false _ _ (λ g. let x = argonOf h (sw ‼ 15) z b28 (pdmT4 ‼ 0 ⊗ g ⊗ pdT5 ‼ 0) zhm xmm in species-leaves (arMixed (sw ‼ 15) z) h z (pdmT4 ‼ 2) (setDm40 (x .dm)) (dm40-leaves (x .dm)) x)
+
+hydrogen-leaves : (sw : List Float) (h : Shape) (z b28 zhm xmm : Float) → Unmarking (hydrogenPlan sw h z b28 zhm xmm)
+unfolding hydrogenPlan _>>=_
+hydrogen-leaves sw h z b28 zhm xmm =
+    ask-marks false _ _ (λ g. let x = hydrogenOf h (sw ‼ 15) z b28 (pdmT5 ‼ 0 ⊗ g ⊗ pdT6 ‼ 0) zhm xmm in species-leaves (hMixed (sw ‼ 15) z) h z (pdmT5 ‼ 2) (setDm01 (x .dm)) (dm01-leaves (x .dm)) x)
+
+nitrogen-leaves : (sw : List Float) (h : Shape) (z b28 zhm xmm : Float) → Unmarking (nitrogenPlan sw h z b28 zhm xmm)
+unfolding nitrogenPlan _>>=_
+nitrogen-leaves sw h z b28 zhm xmm =
+    ask-marks false _ _ (λ g. let x = nitrogenOf h (sw ‼ 15) z b28 (pdmT6 ‼ 0 ⊗ g ⊗ pdT7 ‼ 0) zhm xmm in species-leaves (nMixed (sw ‼ 15) z) h z (pdmT6 ‼ 2) (setDm14 (x .dm)) (dm14-leaves (x .dm)) x)
+
+hot-leaves : (sw : List Float) (h : Shape) (z : Float) → Unmarking (hotPlan sw h z)
+unfolding hotPlan _>>=_
+hot-leaves sw h z = ask-marks false _ _ (λ g. keep-marks false _ _ (densu-leaves h z) (done-leaves _))
+
+six-leaves : (sw : List Float) (h : Shape) (z b28 flux : Float) → Unmarking (speciesPlan sw h z b28 flux)
+unfolding speciesPlan
+six-leaves sw h z b28 flux =
+    then-leaves false (heliumPlan sw h z b28 _ _) _ (helium-leaves sw h z b28 _ _)
+    (λ a. then-leaves false (oxygenPlan sw h z _ _ flux) _ (oxygen-leaves sw h z _ _ flux)
+    (λ b. then-leaves false (o2Plan sw h z b28 _ _ flux) _ (o2-leaves sw h z b28 _ _ flux)
+    (λ c. then-leaves false (argonPlan sw h z b28 _ _) _ (argon-leaves sw h z b28 _ _)
+    (λ d. then-leaves false (hydrogenPlan sw h z b28 _ _) _ (hydrogen-leaves sw h z b28 _ _)
+    (λ e. then-leaves false (nitrogenPlan sw h z b28 _ _) _ (nitrogen-leaves sw h z b28 _ _)
+    (λ f. done-leaves _))))))
+
+-- gts7 sets the mark exactly where N2 is mixed
+pub gts7-marks : (sw : List Float) (x : Site) (z : Float) → Marks (n2Mixed (sw ‼ 15) z) (gts7Plan sw x z)
+unfolding gts7Plan
+gts7-marks sw x z =
+    let m = n2Mixed (sw ‼ 15) z in
+    then-marks m (shapePlan sw x z) _ (shape-leaves sw x z)
+    (λ h. then-leaves m (n2Plan sw h z (x .zhf)) _ (n2-marks sw h z (x .zhf))
+    (λ b. then-leaves false (speciesPlan sw h z _ (x .flux)) _ (six-leaves sw h z _ (x .flux))
+    (λ y. then-leaves false (hotPlan sw _ z) _ (hot-leaves sw _ z)
+    (λ o. keep-marks false _ _ (densu-leaves h _) (done-leaves _)))))
+
+-- ---- gtd7
+
+meso-leaves : (sw : List Float) (u : Upper) → Unmarking (mesoPlan sw u)
+unfolding mesoPlan mesoNodesPlan _>>=_
+meso-leaves sw u =
+    ask-marks false _ _
+    (λ a. ask-marks false _ _
+    (λ b. ask-marks false _ _
+    (λ c. ask-marks false _ _
+    (λ e. keep-marks false _ _ (tn2-leaves _ _) (keep-marks false _ _ (top3-leaves _) (done-leaves _))))))
+
+lower-leaves : (sw : List Float) (alt : Float) (m : Meso) → Unmarking (lowerPlan sw alt m)
+unfolding lowerPlan _>>=_
+lower-leaves sw alt m =
+    either-leaves (not (lt alt 32·5)) _ _ (done-leaves _)
+    (ask-marks false _ _ (λ a. ask-marks false _ _ (λ b. ask-marks false _ _ (λ c. ask-marks false _ _ (λ e. ask-marks false _ _ (λ g. keep-marks false _ _ (tn3-leaves _ _) (done-leaves _)))))))
+
+-- gtd7 sets the mark exactly where N2 is mixed at gts7's altitude, which is 72.5 km or above
+pub gtd7-marks : (sw : List Float) (x : Site) (alt : Float) → Marks (n2Mixed (sw ‼ 15) (cond (lt 72·5 alt) alt 72·5)) (gtd7Plan sw x alt)
+unfolding gtd7Plan
+gtd7-marks sw x alt =
+    let z = cond (lt 72·5 alt) alt 72·5 in
+    let m = n2Mixed (sw ‼ 15) z in
+    keep-marks m _ _ (gravity-leaves _ _)
+    (then-leaves m (gts7Plan sw x z) _ (gts7-marks sw x z)
+    (λ u. either-leaves (le 72·5 alt) _ _ (done-leaves _)
+    (then-leaves false (mesoPlan sw u) _ (meso-leaves sw u)
+    (λ k. then-leaves false (lowerPlan sw alt k) _ (lower-leaves sw alt k)
+    (λ w. keep-marks false _ _ (dd-leaves _) (done-leaves _))))))
