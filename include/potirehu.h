@@ -80,7 +80,7 @@ uint64_t potirehu_station_fluxes(int32_t *whole, size_t n_whole, double *numbers
 #define POTIREHU_BANDS 1601
 
 /* Reads a text of bands into table, one a line: (band FROM TO (switches ..)), whole metres, FROM included and TO not, 24 switches, single spaces,
-   numbers with an optional minus and 1 to 9 digits; the bands, in line order, cover 0 to 2,500,000 with no gap or overlap, the last TO being
+   numbers with an optional minus and 1 to 9 digits, no leading zero, no -0; the bands, in line order, cover 0 to 2,500,000 with no gap or overlap, the last TO being
    2,500,001, in at most 64 lines; the last may lack its newline. Answers 0; or leaves table as it was and answers 4 at the length needed; 11 at the
    first line that is not a band, has FROM not below TO, ends past 2,500,001, or is the 65th; then, line by line, 12 at an overlap, FROM below the
    last TO, 13 at a gap, FROM above it; 13 at one past the last line where the table ends short. Lines are counted from 1. */

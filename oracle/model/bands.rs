@@ -89,7 +89,7 @@ fn cover(g: &mut Random) -> Vec<Band> {
         1 => 1 + g.below(64),
         _ => 1 + g.below(6),
     };
-    let mut cuts: Vec<i32> = (1..n).map(|_| if g.below(4) == 0 { [1, 32_500, 72_500, 2_500_000][g.below(4) as usize] } else { 1 + g.below(2_500_000) as i32 }).collect();
+    let mut cuts: Vec<i32> = (1..n).map(|_| if n < 64 && g.below(4) == 0 { [1, 32_500, 72_500, 2_500_000][g.below(4) as usize] } else { 1 + g.below(2_500_000) as i32 }).collect();
     cuts.extend([0, 2_500_001]);
     cuts.sort();
     cuts.dedup();
@@ -180,9 +180,12 @@ fn code(e: (u64, u64)) -> u64 {
 }
 
 pub fn texts(g: &mut Random, count: u64) -> u64 {
-    let (mut bad, mut accepted, mut refused) = (0, 0u64, [0u64; 4]);
+    let (mut bad, mut accepted, mut refused, mut full, mut over) = (0, 0u64, [0u64; 4], 0u64, 0u64);
     for _ in 0..count {
         let text = text(g);
+        let lines = text.iter().filter(|c| **c == b'\n').count() + (text.last().is_some_and(|c| *c != b'\n') as usize);
+        full += (lines == 64) as u64;
+        over += (lines > 64) as u64;
         let n = if g.below(20) == 0 { [0, 1, TABLE - 1, TABLE + 1][g.below(4) as usize] } else { TABLE };
         let before: Vec<i32> = (0..n + 2 * GUARD).map(|_| g.next() as i32).collect();
         let mut table = before.clone();
@@ -207,16 +210,16 @@ pub fn texts(g: &mut Random, count: u64) -> u64 {
             }
         }
     }
-    println!("bands: {count} texts, {accepted} accepted, refused with 4, 11, 12, 13: {refused:?}, {bad} differences");
+    println!("bands: {count} texts ({full} of 64 lines, {over} of more), {accepted} accepted, refused with 4, 11, 12, 13: {refused:?}, {bad} differences");
     bad
 }
 
 // ---- densities
 
 pub fn densities(g: &mut Random, count: u64) -> u64 {
-    let (mut bad, mut accepted, mut refused, mut done, mut tables) = (0, 0u64, 0u64, 0, 0u64);
+    let (mut bad, mut accepted, mut refused, mut done, mut tables) = (0, 0u64, [0u64; 11], 0, 0u64);
     while done < count {
-        let bands: Vec<Band> = cover(g).into_iter().collect();
+        let bands = cover(g);
         let text = bands.iter().map(line).collect::<Vec<_>>().join("\n");
         let mut table: Vec<i32> = (0..TABLE).map(|_| g.next() as i32).collect();
         let read = unsafe { potirehu_bands(text.as_ptr(), text.len(), table.as_mut_ptr(), TABLE) };
@@ -235,17 +238,29 @@ pub fn densities(g: &mut Random, count: u64) -> u64 {
             if g.below(8) == 0 {
                 r = spoiled(g, r);
             }
-            let n_row = if g.below(40) == 0 { 10 } else { 11 };
+            // at times a slice of another length, refused in this order: row, table, fields, ap_array
+            let odd = |g: &mut Random, n: usize| if g.below(40) == 0 { g.below(n as u64) as usize } else { n };
+            let (n_row, n_table, n_fields) = (odd(g, 11), odd(g, TABLE), odd(g, 8));
             let before: Vec<f64> = (0..n_row + 2 * GUARD).map(|_| f64::from_bits(g.next())).collect();
             let mut row = before.clone();
-            let (fields, ap, n_ap) = numbers(&r);
+            let (fields, ap, there) = numbers(&r);
+            let n_ap = if g.below(40) == 0 { g.below(7) as usize } else { there };
             let answer = unsafe {
-                potirehu_bands_gtd7(table.as_ptr(), TABLE, metre, r.year, r.doy, fields.as_ptr(), 8, ap.as_ptr(), n_ap, row.as_mut_ptr().add(GUARD), n_row)
+                potirehu_bands_gtd7(table.as_ptr(), n_table, metre, r.year, r.doy, fields.as_ptr(), n_fields, ap.as_ptr(), n_ap, row.as_mut_ptr().add(GUARD), n_row)
             };
             let mut after = before.clone();
             let want = if n_row != 11 {
                 (4, 11)
+            } else if n_table != TABLE {
+                (4, TABLE as u64)
+            } else if n_fields != 8 {
+                (4, 8)
+            } else if n_ap != 0 && n_ap != 7 {
+                (4, 7)
             } else {
+                if n_ap == 0 {
+                    r.ap_array = None;
+                }
                 match bands.iter().find(|b| (b.from as i64..b.to as i64).contains(&metre)) {
                     None => (3, 3),
                     Some(b) => {
@@ -261,7 +276,7 @@ pub fn densities(g: &mut Random, count: u64) -> u64 {
             if want == (0, 0) {
                 accepted += 1;
             } else {
-                refused += 1;
+                refused[want.0 as usize] += 1;
             }
             let kept = |k: usize| row[k].to_bits() == before[k].to_bits();
             let equal = (0..row.len()).all(|k| if want == (0, 0) && (GUARD..GUARD + 11).contains(&k) { same(row[k], after[k]) } else { kept(k) });
@@ -273,6 +288,6 @@ pub fn densities(g: &mut Random, count: u64) -> u64 {
             }
         }
     }
-    println!("densities in bands: {done} in {tables} tables, {accepted} accepted, {refused} refused, {bad} differences");
+    println!("densities in bands: {done} in {tables} tables, {accepted} accepted, refused with 1, 2, 3, 4, 10: {:?}, {bad} differences", [1, 2, 3, 4, 10].map(|k: usize| refused[k]));
     bad
 }

@@ -15,6 +15,7 @@ use Rattle.acceptance.specs.Acceptance.{acceptedOf}
 use Rattle.bands.specs.Bands.{bandedAnswer, bandedAfter}
 use Rattle.host.specs.Host.{codeOf, recordOf}
 use Rattle.host.specs.Bands.{bandLengthsOf, hostBanded, hostBandedRow}
+use Rattle.host.proofs.Laws.{twice}
 
 abbrev tests : Bool → Bool → Bool → Bool → Answer → Answer
 tests a b c d rest = cond (not a) (Refused 4 11) (cond (not b) (Refused 4 1601) (cond (not c) (Refused 4 8) (cond d (Refused 4 7) rest)))
@@ -53,10 +54,6 @@ module _ (t : List ℤ) (metre year doy : ℤ) (f l xs : List Float) (a : Answer
     pub fields-long : length f ≡ 8
     fields-long = eqb-true (length f) 8 (fit .0)
 
-    twice : (b : Bool) (ys : List Float) → cond b ys xs ≡ cond b (cond b ys xs) xs
-    twice true ys = refl
-    twice false ys = refl
-
     -- the call behind it
     pub called : (x : ℕ) (r : Answer) (n : Input) (m : ℤ) (ys : List Float)
         → x ≡ codeOf r
@@ -68,4 +65,4 @@ module _ (t : List ℤ) (metre year doy : ℤ) (f l xs : List Float) (a : Answer
     unfolding hostBanded hostBandedRow bandedAfter
     called x r n m ys e0 e1 e2 e3 e4 =
         let k = (fit .1) (bandedAnswer t metre (recordOf year doy f l) (length xs)) in
-        (simp (e0, e1, e3, e4, k), simp (e2, e3, e4, k) (twice (acceptedOf (bandedAnswer t metre (recordOf year doy f l) (length xs))) _))
+        (simp (e0, e1, e3, e4, k), simp (e2, e3, e4, k) (twice (acceptedOf (bandedAnswer t metre (recordOf year doy f l) (length xs))) _ xs))
