@@ -1,4 +1,4 @@
-/* What libhost.a offers: NRLMSISE-00 at one altitude, also for drag, at a column of altitudes, where its density passes a level, and from a
+/* What libhost.a offers: NRLMSISE-00 at one altitude, also for drag, at a column of altitudes, where its density passes a level, in bands of switch rows, and from a
    prepared station, and the elementary functions it is built on. Nothing is kept between calls; only memcpy and memset are needed from
    outside. docs/RULES.md has every rule. */
 #ifndef POTIREHU_H
@@ -88,6 +88,23 @@ uint64_t potirehu_station_g_long(int32_t *whole, size_t n_whole, double *numbers
 
 /* Changes f107a and f107 together, in the same way. */
 uint64_t potirehu_station_fluxes(int32_t *whole, size_t n_whole, double *numbers, size_t n_numbers, double f107a, double f107);
+
+/* A table of bands has a switch row for each height band: an array of the caller's, of this length. What it holds is the library's own; it may
+   be copied and moved, and need not be given back. What is said here of a table holds for one that potirehu_bands gave. */
+#define POTIREHU_BANDS 1601
+
+/* Reads a text of bands into table, one a line: (band FROM TO (switches ..)), whole metres, FROM included and TO not, 24 switches, single spaces,
+   numbers with an optional minus and 1 to 9 digits, no leading zero, no -0; the bands, in line order, cover 0 to 2,500,000 with no gap or overlap, the last TO being
+   2,500,001, in at most 64 lines; the last may lack its newline. Answers 0; or leaves table as it was and answers 4 at the length needed; 11 at the
+   first line that is not a band, has FROM not below TO, ends past 2,500,001, or is the 65th; then, line by line, 12 at an overlap, FROM below the
+   last TO, 13 at a gap, FROM above it; 13 at one past the last line where the table ends short. Lines are counted from 1. */
+uint64_t potirehu_bands(const uint8_t *text, size_t n_text, int32_t *table, size_t n_table);
+
+/* potirehu_gtd7 at a whole metre, with the row of the band in which it lies, at metre / 1000 km; fields has its eight, the altitude among them is
+   not looked at. Answers 0 and writes the row; or leaves it as it was and answers 4 at the length needed, for row, table, fields or ap_array of
+   another length, in this order; 3 at 3 for a metre outside 0 to 2,500,000; then what potirehu_gtd7 refuses with that row. */
+uint64_t potirehu_bands_gtd7(const int32_t *table, size_t n_table, int64_t metre, int32_t year, int32_t doy, const double *fields, size_t n_fields,
+                             const double *ap_array, size_t n_ap, double *row, size_t n_row);
 
 /* The elementary functions of docs/ELEMENTARY.md: total, never refused. */
 double elementary_exp(double x);

@@ -74,7 +74,7 @@ extern "C" {
 }
 
 // The whole number behind a macro of the C header, read where this is compiled; a header without the macro does not compile.
-const fn header(define: &str) -> usize {
+pub const fn header(define: &str) -> usize {
     let (text, define) = (include_bytes!("../include/potirehu.h"), define.as_bytes());
     let mut at = 0;
     let mut seen = 0;

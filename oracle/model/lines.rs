@@ -16,16 +16,16 @@ enum Form {
     Run([i32; 10], Option<[i32; 7]>, [i32; 24]),
 }
 
-struct Reader<'a>(&'a [u8]);
+pub struct Reader<'a>(pub &'a [u8]);
 
 impl Reader<'_> {
-    fn text(&mut self, t: &str) -> Option<()> {
+    pub fn text(&mut self, t: &str) -> Option<()> {
         self.0 = self.0.strip_prefix(t.as_bytes())?;
         Some(())
     }
 
     // An optional minus, 1 to 9 digits, no leading zero, no -0.
-    fn number(&mut self) -> Option<i32> {
+    pub fn number(&mut self) -> Option<i32> {
         let minus = self.text("-").is_some();
         let n = self.0.iter().take_while(|c| c.is_ascii_digit()).count();
         let (digits, rest) = self.0.split_at(n);
@@ -38,7 +38,7 @@ impl Reader<'_> {
     }
 
     // Numbers with a space before each, and the bracket behind them.
-    fn numbers<const N: usize>(&mut self) -> Option<[i32; N]> {
+    pub fn numbers<const N: usize>(&mut self) -> Option<[i32; N]> {
         let mut out = [0; N];
         for x in &mut out {
             self.text(" ")?;

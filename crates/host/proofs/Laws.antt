@@ -26,6 +26,11 @@ pub refused : (d r : Answer) (ys xs : List Float) (x : ℕ) → d ≡ r → acce
     → (x ≡ codeOf d) × (xs ≡ cond (acceptedOf d) ys xs)
 refused d r ys xs x e t c = (c ∙ sym (ap codeOf e), sym (ap (λ (b : Bool). cond b ys xs) (ap acceptedOf e ∙ t)))
 
+-- a choice made twice is made once
+pub twice : (b : Bool) (ys xs : List Float) → cond b ys xs ≡ cond b (cond b ys xs) xs
+twice true ys xs = refl
+twice false ys xs = refl
+
 -- ---- the record's three slices, by their tests
 
 abbrev tests : Bool → Bool → Bool → Answer → Answer
@@ -95,10 +100,6 @@ module _ (year doy : ℤ) (f l : List Float) (w : List ℤ) where
     answered row x r n v ys e0 e1 e2 e3 e4 e5 = (simp (e0, e1, e3, e4, e5), simp (e2, e3, e4, e5))
 
   module _ (alts xs : List Float) where
-    twice : (b : Bool) (ys : List Float) → cond b ys xs ≡ cond b (cond b ys xs) xs
-    twice true ys = refl
-    twice false ys = refl
-
     pub answered-column : (x : ℕ) (r : Answer) (n : Input) (v : List ℤ) (ys : List Float)
         → x ≡ codeOf r
         → r ≡ columnAnswer v n alts (length xs)
@@ -110,7 +111,7 @@ module _ (year doy : ℤ) (f l : List Float) (w : List ℤ) where
     unfolding hostRows columnAfter
     answered-column x r n v ys e0 e1 e2 e3 e4 e5 = (
       simp (e0, e1, e3, e4, e5),
-      simp (e2, e3, e4, e5) (twice (acceptedOf (columnAnswer w (recordOf year doy f l) alts (length xs))) _),
+      simp (e2, e3, e4, e5) (twice (acceptedOf (columnAnswer w (recordOf year doy f l) alts (length xs))) _ xs),
     )
 
 -- ---- the crossings

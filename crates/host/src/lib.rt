@@ -1,5 +1,6 @@
-// What the host links: the elementary functions, the one-altitude call, also for drag, the column, where its density passes a level, and the station, on
-// numbers and slices.
+// What the host links: the elementary functions, the one-altitude call, also for drag and in bands of switch rows, the column, where its density passes a
+// level, and the station, on numbers and slices.
+pub mod banded;
 pub mod listing;
 pub mod record;
 pub mod stations;

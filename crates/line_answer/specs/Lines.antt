@@ -1,20 +1,15 @@
--- The lines of a text and the answers to them; and the same byte by byte, as the program reads them.
+-- The answers to the lines of a text; and the same byte by byte, as the program reads them.
 use Prim.Native.Nat.{ℕ, _+_}
 use mathlib.Core.Path.{_≡_}
 use mathlib.Core.Bool.{cond}
 use mathlib.Core.List.{List, [], _∷_, _++_}
 use lib.Dec.{ltb, eqb}
 use lib.ListN.{length, take, drop, set}
+use Rattle.line_cut.specs.Lines.{linesFrom}
 use Rattle.line_answer.specs.declared.Place.{Place}
 use Rattle.line_answer.specs.Answer.{answerText}
 
 -- ---- a whole text
-
--- the lines of a text that goes on with a line begun; 10 is the newline, and the last line may lack it
-unfoldable pub linesFrom : List ℕ → List ℕ → List (List ℕ)
-linesFrom [] [] = []
-linesFrom [] (c ∷ begun) = (c ∷ begun) ∷ []
-linesFrom (b ∷ text) begun = cond (eqb b 10) (begun ∷ linesFrom text []) (linesFrom text (begun ++ (b ∷ [])))
 
 -- the number after a line's, which stops at the largest that 64 bits hold
 abbrev pub afterOf : ℕ → ℕ
