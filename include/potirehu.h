@@ -75,6 +75,16 @@ uint64_t potirehu_station_g_long(int32_t *whole, size_t n_whole, double *numbers
 /* Changes f107a and f107 together, in the same way. */
 uint64_t potirehu_station_fluxes(int32_t *whole, size_t n_whole, double *numbers, size_t n_numbers, double f107a, double f107);
 
+/* Two boards' logs held against each other: of each board its seconds, strictly rising, and its densities d[5] by their 64 bits, up to 256
+   entries. Of the two front entries, those no further apart than tolerance pair up, else the earlier stands alone; once a log is used up, the
+   rest of the other stand alone. Answers how many of these there are and writes report, 512 numbers: in the order they arise 1 for a pair whose
+   density bits agree, 2 for a pair whose bits don't, 3 for a single of board 1, 4 of board 2, and 0 behind them. Or answers a refusal's number
+   times 2^32 plus its place and leaves report as it was: 4 at 512 for a report of another length, before all else; 14 at the board, 1 first,
+   whose log is over 256 entries or whose seconds and densities differ in number; then 15 at the index of the first entry not above the one
+   before it in board 1, else at 256 plus that in board 2. */
+uint64_t potirehu_logs(const uint64_t *seconds_1, size_t n_seconds_1, const uint64_t *bits_1, size_t n_bits_1, const uint64_t *seconds_2,
+                       size_t n_seconds_2, const uint64_t *bits_2, size_t n_bits_2, uint64_t tolerance, uint32_t *report, size_t n_report);
+
 /* The elementary functions of docs/ELEMENTARY.md: total, never refused. */
 double elementary_exp(double x);
 double elementary_log(double x);

@@ -1,10 +1,11 @@
 // Our one-altitude calls, gtd7 and gtd7d, against the Rust: the eleven numbers to the bit, the refusals, pairs under the shut-off list, the 1E-6 rule,
-// the published samples, calls of each elementary function, and time per call. The expansions, the line program and prepared stations stand in
-// files of their own.
+// the published samples, calls of each elementary function, and time per call. The expansions, the line program, prepared stations and the boards' logs
+// stand in files of their own.
 mod expansions;
 #[path = "../host.rs"]
 mod host;
 mod lines;
+mod logs;
 #[path = "../random.rs"]
 mod random;
 mod stations;
@@ -624,6 +625,7 @@ fn main() {
         Some("hostile") => lines::hostile(&args[4], &mut g, count),
         Some("stations") => stations::stations(&mut g, count),
         Some("hostile-stations") => stations::hostile(&mut g, count),
+        Some("logs") => logs::logs(&mut g, count),
         Some("near") => near(&GTD7, &mut g, count, false),
         Some("near-d") => near(&GTD7D, &mut g, count, false),
         Some("near-any") => near(&GTD7, &mut g, count, true),

@@ -1,4 +1,5 @@
 // What the host links: the elementary functions, the one-altitude call, also for drag, the column and the station, on numbers and slices.
+pub mod boards;
 pub mod record;
 pub mod stations;
 
