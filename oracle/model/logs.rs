@@ -33,7 +33,7 @@ fn log(g: &mut Random) -> Log {
         0 => [0, 1, 255, 256, 257, 300][g.below(6) as usize],
         _ => g.below(24) as usize,
     };
-    let step = [1, 2, 6, 1000, 1 << 56][g.below(5) as usize];
+    let step: u64 = [1, 2, 6, 1000, 1 << 56][g.below(5) as usize];
     let mut at = match g.below(6) {
         0 => 0,
         1 => u64::MAX - g.below(step.saturating_mul(30)),
