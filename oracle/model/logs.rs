@@ -31,6 +31,7 @@ const GUARD: usize = 8;
 fn log(g: &mut Random) -> Log {
     let n = match g.below(8) {
         0 => [0, 1, 255, 256, 257, 300][g.below(6) as usize],
+        1 => g.below(301) as usize,
         _ => g.below(24) as usize,
     };
     let step: u64 = [1, 2, 6, 1000, 1 << 56][g.below(5) as usize];
