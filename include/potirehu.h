@@ -1,5 +1,5 @@
 /* What libhost.a offers: NRLMSISE-00 at one altitude, also for drag, at a column of altitudes, where its density passes a level, in bands of switch rows, and from a
-   prepared station, and the elementary functions it is built on. Nothing is kept between calls; only memcpy and memset are needed from
+   prepared station, two boards' logs held against each other, and the elementary functions it is built on. Nothing is kept between calls; only memcpy and memset are needed from
    outside. docs/RULES.md has every rule. */
 #ifndef POTIREHU_H
 #define POTIREHU_H
@@ -105,6 +105,16 @@ uint64_t potirehu_bands(const uint8_t *text, size_t n_text, int32_t *table, size
    another length, in this order; 3 at 3 for a metre outside 0 to 2,500,000; then what potirehu_gtd7 refuses with that row. */
 uint64_t potirehu_bands_gtd7(const int32_t *table, size_t n_table, int64_t metre, int32_t year, int32_t doy, const double *fields, size_t n_fields,
                              const double *ap_array, size_t n_ap, double *row, size_t n_row);
+
+/* Two boards' logs held against each other: of each board its seconds, strictly rising, and its densities d[5] by their 64 bits, up to 256
+   entries. Of the two front entries, those no further apart than tolerance pair up, else the earlier stands alone; once a log is used up, the
+   rest of the other stand alone. Answers how many of these there are and writes report, 512 numbers: in the order they arise 1 for a pair whose
+   density bits agree, 2 for a pair whose bits don't, 3 for a single of board 1, 4 of board 2, and 0 behind them. Or answers a refusal's number
+   times 2^32 plus its place and leaves report as it was: 4 at 512 for a report of another length, before all else; 14 at the board, 1 first,
+   whose log is over 256 entries or whose seconds and densities differ in number; then 15 at the index of the first entry not above the one
+   before it in board 1, else at 256 plus that in board 2. */
+uint64_t potirehu_logs(const uint64_t *seconds_1, size_t n_seconds_1, const uint64_t *bits_1, size_t n_bits_1, const uint64_t *seconds_2,
+                       size_t n_seconds_2, const uint64_t *bits_2, size_t n_bits_2, uint64_t tolerance, uint32_t *report, size_t n_report);
 
 /* The elementary functions of docs/ELEMENTARY.md: total, never refused. */
 double elementary_exp(double x);

@@ -1,12 +1,13 @@
 // Our one-altitude calls, gtd7 and gtd7d, against the Rust: the eleven numbers to the bit, the refusals, pairs under the shut-off list, the 1E-6 rule,
-// the published samples, calls of each elementary function, and time per call. Bands of switch rows, the crossings, the expansions, the line program and
-// prepared stations stand in files of their own.
+// the published samples, calls of each elementary function, and time per call. Bands of switch rows, the crossings, the expansions, the line program,
+// prepared stations and the boards' logs stand in files of their own.
 mod bands;
 mod crossings;
 mod expansions;
 #[path = "../host.rs"]
 mod host;
 mod lines;
+mod logs;
 #[path = "../random.rs"]
 mod random;
 mod stations;
@@ -687,6 +688,7 @@ fn main() {
         Some("hostile-stations") => stations::hostile(&mut g, count),
         Some("bands") => bands::texts(&mut g, count),
         Some("banded") => bands::densities(&mut g, count),
+        Some("logs") => logs::logs(&mut g, count),
         Some("near") => near(&GTD7, &mut g, count, false),
         Some("near-d") => near(&GTD7D, &mut g, count, false),
         Some("near-any") => near(&GTD7, &mut g, count, true),
@@ -707,7 +709,7 @@ fn main() {
             0
         }
         _ => {
-            eprintln!("model differential|gtd7d|lengths|pairs|pairs-d|states|expansions|raised|columns|crossings|stations|hostile-stations|bands|banded|near|near-d|near-any [SEED] [COUNT], lines|hostile SEED COUNT PROGRAM, forms SEED COUNT INPUT OUTPUT, samples FILE, counts, time");
+            eprintln!("model differential|gtd7d|lengths|pairs|pairs-d|states|expansions|raised|columns|crossings|stations|hostile-stations|bands|banded|logs|near|near-d|near-any [SEED] [COUNT], lines|hostile SEED COUNT PROGRAM, forms SEED COUNT INPUT OUTPUT, samples FILE, counts, time");
             std::process::exit(2);
         }
     };

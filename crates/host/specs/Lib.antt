@@ -2,3 +2,4 @@
 pub mod Host
 pub mod Crossings
 pub mod Bands
+pub mod Boards

@@ -1,6 +1,7 @@
 // What the host links: the elementary functions, the one-altitude call, also for drag and in bands of switch rows, the column, where its density passes a
-// level, and the station, on numbers and slices.
+// level, the station and the boards' logs, on numbers and slices.
 pub mod banded;
+pub mod boards;
 pub mod listing;
 pub mod record;
 pub mod stations;
