@@ -368,7 +368,7 @@ fn states(g: &mut Random, count: u64) -> u64 {
     bad
 }
 
-// Pairs that differ only where document 01's list shuts a field off.
+// Pairs that differ only where the list of document 01, with W-210's two rows, shuts a field off.
 fn pairs(call: &Call, g: &mut Random, count: u64) -> u64 {
     let (mut done, mut bad) = (0u64, 0u64);
     while done < count {
@@ -386,8 +386,12 @@ fn pairs(call: &Call, g: &mut Random, count: u64) -> u64 {
         if w[10] != 1 || (w[11] != 1 && w[12] != 1 && w[13] != 1) {
             b.g_long = other.g_long;
         }
-        if w[9] == 0 && w[7] != 1 && w[8] != 1 && w[14] != 1 {
+        if w[8] != 1 && w[14] != 1 && (w[7] <= 0 || (w[9] == 0 && w[7] != 1)) {
             b.lst = other.lst;
+        }
+        if w[1] <= 0 {
+            b.f107a = other.f107a;
+            b.f107 = other.f107;
         }
         if w[9] == -1 || (w[9] == 0 && (w[10] != 1 || w[13] != 1)) {
             b.ap = other.ap;
