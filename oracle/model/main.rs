@@ -368,11 +368,30 @@ fn states(g: &mut Random, count: u64) -> u64 {
     bad
 }
 
-// Pairs that differ only where document 01's list shuts a field off.
-fn pairs(call: &Call, g: &mut Random, count: u64) -> u64 {
-    let (mut done, mut bad) = (0u64, 0u64);
+// Which rows the pairs are drawn from: any, those of W-210 that shut off the fluxes, those that shut off lst.
+#[derive(Clone, Copy, PartialEq)]
+enum Rows {
+    Any,
+    Fluxes,
+    Lst,
+}
+
+// Pairs that differ only where the list of document 01, with W-210's two rows, shuts a field off.
+fn pairs(call: &Call, rows: Rows, g: &mut Random, count: u64) -> u64 {
+    let (mut done, mut bad, mut fluxes, mut lst) = (0u64, 0u64, 0u64, 0u64);
     while done < count {
-        let w = row_of(g);
+        let mut w = row_of(g);
+        if rows == Rows::Fluxes {
+            w[1] = -(g.below(3) as i32);
+        }
+        if rows == Rows::Lst {
+            w[7] = -(g.below(3) as i32);
+            for k in [8, 14] {
+                if w[k] == 1 {
+                    w[k] = [0, 2][g.below(2) as usize];
+                }
+            }
+        }
         let mut a = record(g);
         if w[9] == -1 && a.ap_array.is_none() {
             a.ap_array = Some([4.0; 7]);
@@ -386,8 +405,12 @@ fn pairs(call: &Call, g: &mut Random, count: u64) -> u64 {
         if w[10] != 1 || (w[11] != 1 && w[12] != 1 && w[13] != 1) {
             b.g_long = other.g_long;
         }
-        if w[9] == 0 && w[7] != 1 && w[8] != 1 && w[14] != 1 {
+        if w[8] != 1 && w[14] != 1 && (w[7] <= 0 || (w[9] == 0 && w[7] != 1)) {
             b.lst = other.lst;
+        }
+        if w[1] <= 0 {
+            b.f107a = other.f107a;
+            b.f107 = other.f107;
         }
         if w[9] == -1 || (w[9] == 0 && (w[10] != 1 || w[13] != 1)) {
             b.ap = other.ap;
@@ -402,6 +425,8 @@ fn pairs(call: &Call, g: &mut Random, count: u64) -> u64 {
             continue;
         }
         done += 1;
+        fluxes += (a.f107a.to_bits() != b.f107a.to_bits() || a.f107.to_bits() != b.f107.to_bits()) as u64;
+        lst += (a.lst.to_bits() != b.lst.to_bits()) as u64;
         if !(0..11).all(|k| same(x[k], y[k])) {
             bad += 1;
             if bad <= 3 {
@@ -409,7 +434,7 @@ fn pairs(call: &Call, g: &mut Random, count: u64) -> u64 {
             }
         }
     }
-    println!("pairs under the shut-off list, {}: {done}, {bad} differences", call.name);
+    println!("pairs under the shut-off list, {}: {done} ({fluxes} with other fluxes, {lst} with another lst), {bad} differences", call.name);
     bad
 }
 
@@ -675,8 +700,10 @@ fn main() {
         Some("differential") => differential(&GTD7, &mut g, count),
         Some("gtd7d") => differential(&GTD7D, &mut g, count),
         Some("lengths") => lengths(&GTD7, &mut g, count) + lengths(&GTD7D, &mut g, count),
-        Some("pairs") => pairs(&GTD7, &mut g, count),
-        Some("pairs-d") => pairs(&GTD7D, &mut g, count),
+        Some("pairs") => pairs(&GTD7, Rows::Any, &mut g, count),
+        Some("pairs-fluxes") => pairs(&GTD7, Rows::Fluxes, &mut g, count),
+        Some("pairs-lst") => pairs(&GTD7, Rows::Lst, &mut g, count),
+        Some("pairs-d") => pairs(&GTD7D, Rows::Any, &mut g, count),
         Some("states") => states(&mut g, count),
         Some("expansions") => expansions::expansions(&mut g, count),
         Some("raised") => expansions::raised(&mut g, count),
@@ -709,7 +736,7 @@ fn main() {
             0
         }
         _ => {
-            eprintln!("model differential|gtd7d|lengths|pairs|pairs-d|states|expansions|raised|columns|crossings|stations|hostile-stations|bands|banded|logs|near|near-d|near-any [SEED] [COUNT], lines|hostile SEED COUNT PROGRAM, forms SEED COUNT INPUT OUTPUT, samples FILE, counts, time");
+            eprintln!("model differential|gtd7d|lengths|pairs|pairs-fluxes|pairs-lst|pairs-d|states|expansions|raised|columns|crossings|stations|hostile-stations|bands|banded|logs|near|near-d|near-any [SEED] [COUNT], lines|hostile SEED COUNT PROGRAM, forms SEED COUNT INPUT OUTPUT, samples FILE, counts, time");
             std::process::exit(2);
         }
     };

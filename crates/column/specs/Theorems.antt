@@ -8,15 +8,13 @@ use lib.IntN.{ℤ}
 use lib.ListN.{length, drop}
 use lib.Ieee.{Float}
 use Rattle.setting.specs.declared.Input.{Input}
-use Rattle.setting.specs.ApHistory.{lacksHistoryOf}
 use Rattle.acceptance.specs.declared.Answer.{Answer}
 use Rattle.acceptance.specs.declared.Answer.the-variants.{Accepted, Refused}
 use Rattle.acceptance.specs.Acceptance.{judgedOf, acceptedOf, withAltOf}
 use Rattle.numbers.specs.Literals.{0·0}
 use Rattle.atmosphere.specs.Atmosphere.{elevenOf}
 use Rattle.shutoff.specs.Shut.{Alike}
-use Rattle.shutoff.specs.Agree.{Has}
-use Rattle.shutoff.specs.Theorems.{first-accepted, judged-history, has, alike-at, eleven≡}
+use Rattle.shutoff.specs.Theorems.{first-accepted, Known, known, known-at, alike-at, eleven≡}
 use Rattle.column.specs.Column.{judgedAllOf, columnAnswer, columnRows, columnAfter}
 
 -- an accepted answer comes from no refusal before it
@@ -31,21 +29,20 @@ record-accepted w n alts len e =
     first-accepted (judgedOf w (withAltOf n 0·0)) _
     (no-refusal (ltb len (11 * length alts)) 4 (11 * length alts) _ (no-refusal (ltb 512 (length alts)) 5 512 _ e))
 
--- whether the history lacks does not depend on the altitude
-pub has-at : (w : List ℤ) (n : Input) (alts : List Float) (len : ℕ) (z : Float) → columnAnswer w n alts len ≡ Accepted → Has w (withAltOf n z)
-unfolding withAltOf lacksHistoryOf
-has-at w n alts len z e = has w (withAltOf n z) (judged-history w (withAltOf n 0·0) (record-accepted w n alts len e))
+-- what demand 3 needs of an accepted column's record, at any altitude
+pub column-known : (w : List ℤ) (n : Input) (alts : List Float) (len : ℕ) (z : Float) → columnAnswer w n alts len ≡ Accepted → Known w (withAltOf n z)
+unfolding withAltOf
+column-known w n alts len z e = known-at w (withAltOf n 0·0) z (known w (withAltOf n 0·0) (record-accepted w n alts len e))
 
 -- records alike but for their own altitudes are alike with any one altitude in both
 pub at-altitude : (w : List ℤ) (a b : Input) (z : Float) → Alike w (withAltOf a 0·0) (withAltOf b 0·0) → Alike w (withAltOf a z) (withAltOf b z)
 unfolding withAltOf
 at-altitude w a b z like = alike-at w (withAltOf a 0·0) (withAltOf b 0·0) z like
 
-rows≡ : (w : List ℤ) (a b : Input) → Alike w (withAltOf a 0·0) (withAltOf b 0·0) → ((z : Float) → Has w (withAltOf a z)) → (alts : List Float) → columnRows w a alts ≡ columnRows w b alts
+rows≡ : (w : List ℤ) (a b : Input) → ((z : Float) → elevenOf w (withAltOf a z) ≡ elevenOf w (withAltOf b z)) → (alts : List Float) → columnRows w a alts ≡ columnRows w b alts
 unfolding columnRows
-rows≡ w a b like h [] = refl
-rows≡ w a b like h (z ∷ zs) =
-    ap₂ (λ (l r : List Float). l ++ r) (eleven≡ w (withAltOf a z) (withAltOf b z) (at-altitude w a b z like) (h z)) (rows≡ w a b like h zs)
+rows≡ w a b h [] = refl
+rows≡ w a b h (z ∷ zs) = ap₂ (λ (l r : List Float). l ++ r) (h z) (rows≡ w a b h zs)
 
 pub written : (w : List ℤ) (n : Input) (alts xs : List Float) → columnAnswer w n alts (length xs) ≡ Accepted
     → columnAfter w n alts xs ≡ columnRows w n alts ++ drop (11 * length alts) xs
@@ -63,8 +60,6 @@ pub demand-3-column : (w : List ℤ) (a b : Input) (alts xs ys : List Float)
     × (columnAfter w a alts xs ≡ columnRows w a alts ++ drop (11 * length alts) xs)
     × (columnAfter w b alts ys ≡ columnRows w a alts ++ drop (11 * length alts) ys)
 demand-3-column w a b alts xs ys like e f =
-    let h : (z : Float) → Has w (withAltOf a z) = λ z. has-at w a alts (length xs) z e in (
-      λ z. eleven≡ w (withAltOf a z) (withAltOf b z) (at-altitude w a b z like) (h z),
-      written w a alts xs e,
-      written w b alts ys f ∙ ap (λ (l : List Float). l ++ drop (11 * length alts) ys) (sym (rows≡ w a b like h alts)),
-    )
+    let h : (z : Float) → elevenOf w (withAltOf a z) ≡ elevenOf w (withAltOf b z) = λ z.
+    eleven≡ w (withAltOf a z) (withAltOf b z) (at-altitude w a b z like) (column-known w a alts (length xs) z e) (column-known w b alts (length ys) z f) in
+    (h, written w a alts xs e, written w b alts ys f ∙ ap (λ (l : List Float). l ++ drop (11 * length alts) ys) (sym (rows≡ w a b h alts)))

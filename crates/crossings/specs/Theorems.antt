@@ -20,7 +20,7 @@ use Rattle.atmosphere.specs.Atmosphere.{elevenOf}
 use Rattle.shutoff.specs.Shut.{Alike}
 use Rattle.shutoff.specs.Theorems.{eleven≡}
 use Rattle.column.specs.Column.{columnAnswer}
-use Rattle.column.specs.Theorems.{has-at, at-altitude}
+use Rattle.column.specs.Theorems.{column-known, at-altitude}
 use Rattle.crossings_list.specs.declared.Listing.{Listing}
 use Rattle.crossings_list.specs.declared.Listing.the-variants as listing
 use Rattle.crossings_list.specs.CrossingsList.{passesOf, crossingsOf, listAnswer, listAfter}
@@ -159,6 +159,7 @@ pub demand-3-crossings : (w : List ℤ) (a b : Input) (alts : List Float) (level
 unfolding listOf crossingsAnswer crossingsAfter checkedOf
 demand-3-crossings w a b alts level xs like e f =
     let h : (z : Float) → elevenOf w (withAltOf a z) ≡ elevenOf w (withAltOf b z) =
-    λ z. eleven≡ w (withAltOf a z) (withAltOf b z) (at-altitude w a b z like) (has-at w a alts (11 * length alts) z e) in
+    λ z.
+    eleven≡ w (withAltOf a z) (withAltOf b z) (at-altitude w a b z like) (column-known w a alts (11 * length alts) z e) (column-known w b alts (11 * length alts) z f) in
     let d = densities≡ w a b h alts in
     (ap (crossingsOf level) d, rw (e, f, d), rw (e, f, d))

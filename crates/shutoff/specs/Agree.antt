@@ -1,4 +1,5 @@
--- The proof of demand 3 over plans: records that are alike under a row give one result, one lemma for each term that reads a field.
+-- The proof of demand 3 over plans for all fields but lst, f107a and f107: records that are alike and have these three in common give one
+-- result, one lemma for each term that reads a field. It holds of any coefficients and any numbers.
 use mathlib.Core.Path.{_≡_, refl, sym, _∙_, ap, ap₂}
 use mathlib.Core.List.{List}
 use mathlib.Core.Bool.{Bool, true, false, not, _&&_, _||_, cond}
@@ -27,7 +28,7 @@ use Rattle.plan.specs.Fields.{Fields, fieldsOf, withFields}
 use Rattle.plan.specs.Plan.{Ask, one-plus-globe7, exp-globe7, one-plus-glob7s, one-minus-glob7s, onePlusGlobe7Of, expGlobe7Of, onePlusGlob7sOf, oneMinusGlob7sOf, Plan, done, ask, keep, answer, run}
 use Rattle.shutoff.specs.Nine.{asks-minus-one}
 use Rattle.shutoff.specs.Fields.{whole, float, inHistory, fields, field}
-use Rattle.shutoff.specs.Shut.{one, isZero, nineIsZero, nineIsMinusOne, shut, Alike}
+use Rattle.shutoff.specs.Shut.{one, isZero, nineIsZero, nineIsMinusOne, others, AlikeBut}
 use Rattle.shutoff.specs.PlainView.{plainView}
 
 -- ---- a branch is only looked at where its test passes
@@ -76,7 +77,7 @@ on→one false t = t
 not-zero : (n : ℕ) → T (not (eqb (suc n) 0))
 not-zero n = rw eqb·suc-zero tt
 
-zero-off : (z : ℤ) → T (ne (ofInt binary64 z) 0·0) → T (not (isZero z))
+pub zero-off : (z : ℤ) → T (ne (ofInt binary64 z) 0·0) → T (not (isZero z))
 unfolding ne ofInt ofBits
 zero-off (pos zero) t = t
 zero-off (pos (suc n)) t = not-zero n
@@ -103,14 +104,6 @@ glong-live true false false true t u = tt
 glong-live true false false false t u = u
 glong-live false y z v t u = t
 
-lst-of-nine : (n x y z : Bool) → T (not n) → T (not (n && not x && not y && not z))
-lst-of-nine false x y z t = tt
-lst-of-nine true x y z t = absurd t
-
-lst-of-tests : (n x y z : Bool) → T (not (not x && not y && not z)) → T (not (n && not x && not y && not z))
-lst-of-tests false x y z t = tt
-lst-of-tests true x y z t = t
-
 ap-of-nine : (m n x y : Bool) → T (not m) → T (not n) → T (not (m || (n && (not x || not y))))
 ap-of-nine false false x y t u = tt
 ap-of-nine false true x y t u = absurd u
@@ -134,13 +127,6 @@ or-r false y t = t
 pub not-not : (b : Bool) → T b → T (not (not b))
 not-not true t = tt
 not-not false t = t
-
-tests : (x y z : Bool) → T (not ((eq (onOff x) 0·0 && eq (onOff y) 0·0) && eq (onOff z) 0·0)) → T (not (not x && not y && not z))
-unfolding eq ofBits
-tests true y z t = tt
-tests false true z t = tt
-tests false false true t = tt
-tests false false false t = t
 
 pub float-is : {x y : Float} → float x ≡ float y → x ≡ y
 float-is p = cc
@@ -172,7 +158,7 @@ pub record Same (w : List ℤ) (s t : State) : Type 0 where
   pub s2t : s .s2tloc ≡ t .s2tloc
   pub c3t : s .c3tloc ≡ t .c3tloc
   pub s3t : s .s3tloc ≡ t .s3tloc
-  pub apdf : T (not (getD (shut w) 9 true)) → s .apdf ≡ t .apdf
+  pub apdf : T (not (getD (others w) 9 true)) → s .apdf ≡ t .apdf
   pub apt : s .apt ≡ t .apt
 
 -- a State shares all with itself
@@ -189,7 +175,7 @@ pub six : (ex p24 p25 : Float) (l m : List Float) → l ‼ 1 ≡ m ‼ 1 → l 
 unfolding sg0Of
 six ex p24 p25 l m e1 e2 e3 e4 e5 e6 = rw (e1, e2, e3, e4, e5, e6)
 
-module _ (w : List ℤ) (a b : Input) (like : Alike w a b) where
+module _ (w : List ℤ) (a b : Input) (like : AlikeBut (others w) a b) where
   pub doy≡ : a .doy ≡ b .doy
   doy≡ = whole-is (like 1 (lit< tt) tt)
 
@@ -211,22 +197,16 @@ module _ (w : List ℤ) (a b : Input) (like : Alike w a b) where
   glong≡ : T (one w 10) → T (one w 11 || one w 12 || one w 13) → a .«g_long» ≡ b .«g_long»
   glong≡ t u = float-is (like 5 (lit< tt) (glong-live (one w 10) (one w 11) (one w 12) (one w 13) t u))
 
-  lst≡ : T (not (getD (shut w) 6 true)) → a .lst ≡ b .lst
-  lst≡ t = float-is (like 6 (lit< tt) t)
+  lst≡ : a .lst ≡ b .lst
+  lst≡ = float-is (like 6 (lit< tt) tt)
 
-  ap≡ : T (not (getD (shut w) 9 true)) → a .ap ≡ b .ap
+  ap≡ : T (not (getD (others w) 9 true)) → a .ap ≡ b .ap
   ap≡ t = float-is (like 9 (lit< tt) t)
 
-  lst-9 : T (on w 9) → a .lst ≡ b .lst
-  lst-9 v = lst≡ (lst-of-nine (nineIsZero w) (one w 7) (one w 8) (one w 14) (zero-off (given w 9) v))
-
-  lst-any : T (not ((eq (swAt w 7) 0·0 && eq (swAt w 8) 0·0) && eq (swAt w 14) 0·0)) → a .lst ≡ b .lst
-  lst-any u = lst≡ (lst-of-tests (nineIsZero w) (one w 7) (one w 8) (one w 14) (tests (one w 7) (one w 8) (one w 14) u))
-
-  ap-9 : T (not (asks w)) → T (on w 9) → T (not (getD (shut w) 9 true))
+  ap-9 : T (not (asks w)) → T (on w 9) → T (not (getD (others w) 9 true))
   ap-9 u v = ap-of-nine (nineIsMinusOne w) (nineIsZero w) (one w 10) (one w 13) (minus-one-asks (given w 9) u) (zero-off (given w 9) v)
 
-  ap-13 : T (not (asks w)) → T (on w 10) → T (on w 13) → T (not (getD (shut w) 9 true))
+  ap-13 : T (not (asks w)) → T (on w 10) → T (on w 13) → T (not (getD (others w) 9 true))
   ap-13 u v x = ap-of-place (nineIsMinusOne w) (nineIsZero w) (one w 10) (one w 13) (minus-one-asks (given w 9) u) (on→one (one w 10) v) (on→one (one w 13) x)
 
   glong-11 : T (on w 10) → T (on w 11) → a .«g_long» ≡ b .«g_long»
@@ -252,8 +232,8 @@ module _ (w : List ℤ) (a b : Input) (like : Alike w a b) where
     unfolding t8Of history8Of daily8Of
     t8≡ g cd =
         branch (asks w)
-        (λ u. skip (ne (p ‼ 51) 0·0) (λ _. skip (on w 9) (λ v. cc (e .apt, lst-9 v))))
-        (λ u. skip (on w 9) (λ v. cc (e .apdf (ap-9 u v), lst-9 v)))
+        (λ u. skip (ne (p ‼ 51) 0·0) (λ _. skip (on w 9) (λ v. cc (e .apt, lst≡))))
+        (λ u. skip (on w 9) (λ v. cc (e .apdf (ap-9 u v), lst≡)))
 
     t10≡ : (g : List (List Float)) (cd : Float) → t10Of (plainView w a) p g cd ≡ t10Of (plainView w b) p g cd
     unfolding t10Of
@@ -314,7 +294,7 @@ module _ (w : List ℤ) (a b : Input) (like : Alike w a b) where
 
   turn : (f : Float → Float) (x y : Float) → x ≡ y
       → cond (not ((eq (swAt w 7) 0·0 && eq (swAt w 8) 0·0) && eq (swAt w 14) 0·0)) (f (a .lst)) x ≡ cond (not ((eq (swAt w 7) 0·0 && eq (swAt w 8) 0·0) && eq (swAt w 14) 0·0)) (f (b .lst)) y
-  turn f x y q = branch (not ((eq (swAt w 7) 0·0 && eq (swAt w 8) 0·0) && eq (swAt w 14) 0·0)) (λ u. ap f (lst-any u)) (λ _. q)
+  turn f x y q = branch (not ((eq (swAt w 7) 0·0 && eq (swAt w 8) 0·0) && eq (swAt w 14) 0·0)) (λ _. ap f lst≡) (λ _. q)
 
   module _ (has : Has w a) where
     pub after-same : (p : List Float) (s t : State) → Same w s t → Same w (afterOf (plainView w a) p s) (afterOf (plainView w b) p t)

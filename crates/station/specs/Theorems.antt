@@ -29,7 +29,7 @@ use Rattle.stored.specs.Stored.{allParts, needOf, storedOf, rowStored}
 use Rattle.stored.specs.Rows.{partsAt, all-length}
 use Rattle.stored.specs.Eleven.{all-hold, stored-eleven}
 use Rattle.shutoff.specs.Shut.{Alike}
-use Rattle.shutoff.specs.Theorems.{has, has-history, written, alike-at, eleven≡}
+use Rattle.shutoff.specs.Theorems.{judged-first, known, written, alike-at, eleven≡}
 use Rattle.station.specs.Station.{markOf, historyIn, wholeOf, recordNumbers, numbersOf, recordIn, stationAnswer, wholeAfter, numbersAfter, altitudeAnswer, altitudeRow, withSecOf, withLstOf, withLongOf, withFluxesOf, Change, toSec, toLst, toLong, toFluxes, changeOf, changeAnswer, changedNumbers}
 
 -- ---- stations that were given: prepared, then any number of changes, refused ones among them
@@ -331,4 +331,4 @@ demand-3-station w a b z xs ys like ha hb ea eb =
     let tb = sym (q .0) ∙ eb in
     let ra = p .1 ∙ written w (withAltOf a z) xs ta in
     let rb = q .1 ∙ written w (withAltOf b z) ys tb in
-    (ra ∙ eleven≡ w (withAltOf a z) (withAltOf b z) (alike-at w a b z like) (has w (withAltOf a z) (has-history w (withAltOf a z) (length xs) ta)) ∙ sym rb, ra, rb)
+    (ra ∙ eleven≡ w (withAltOf a z) (withAltOf b z) (alike-at w a b z like) (known w (withAltOf a z) (judged-first w (withAltOf a z) (length xs) ta)) (known w (withAltOf b z) (judged-first w (withAltOf b z) (length ys) tb)) ∙ sym rb, ra, rb)
