@@ -2,15 +2,15 @@
 ghost use Prim.Native.Nat.{_<_};
 use mixing::ccor;
 use mixing::dnet;
-use profile::ProfileCall;
-use profile::densm;
-use profile::densu;
 use profile::unchecked::Profile;
-use spline::SplineValue;
-use spline::SplineWrite;
-use spline::spline;
-use spline::splini;
-use spline::splint;
+use profile_calls::ProfileCall;
+use profile_calls::densm;
+use profile_calls::densu;
+use spline_calls::SplineValue;
+use spline_calls::SplineWrite;
+use spline_calls::spline;
+use spline_calls::splini;
+use spline_calls::splint;
 
 fn digit(d: u64) -> u8
     requires { ⌜ d < 16 ⌝ }

@@ -1,5 +1,4 @@
--- The parts that the altitudes of a column read, and the rows out of the stored numbers.
-use mathlib.Core.Bool.{false, _||_}
+-- What is stored for the altitudes of a column, and the rows out of the stored numbers.
 use mathlib.Core.List.{List, [], _∷_, _++_}
 use lib.IntN.{ℤ}
 use lib.Ieee.{Float}
@@ -7,28 +6,8 @@ use Rattle.setting.specs.declared.Input.{Input}
 use Rattle.setting.specs.View.{viewOf}
 use Rattle.upper.specs.Upper.{siteOf}
 use Rattle.levels.specs.Levels.{levelsOf}
-use Rattle.stored.specs.declared.Parts.{Parts}
 use Rattle.stored.specs.Stored.{needOf, storedOf, rowStored}
-use Rattle.stored.specs.Rows.{partsAt}
-
-unfoldable pub noParts : Parts
-noParts = record { summit = false; below = false; tropo = false; low = false; mid = false; top = false }
-
-unfoldable pub eitherParts : Parts → Parts → Parts
-eitherParts a b =
-    record {
-      summit = a .summit || b .summit;
-      below = a .below || b .below;
-      tropo = a .tropo || b .tropo;
-      low = a .low || b .low;
-      mid = a .mid || b .mid;
-      top = a .top || b .top;
-    }
-
--- the parts that one of the altitudes reads, or that were read before
-unfoldable pub partsFrom : Parts → List Float → Parts
-partsFrom p [] = p
-partsFrom p (z ∷ zs) = partsFrom (eitherParts p (partsAt z)) zs
+use Rattle.stored_parts.specs.Parts.{noParts, partsFrom}
 
 -- what is stored of a record for its altitudes, behind the first 14 numbers
 unfoldable pub storedFor : List ℤ → Input → List Float → List Float

@@ -15,7 +15,8 @@ use Rattle.numbers.specs.Literals.{0·0}
 use Rattle.atmosphere.specs.Atmosphere.{elevenOf}
 use Rattle.shutoff.specs.Shut.{Alike}
 use Rattle.shutoff.specs.Theorems.{first-accepted, Known, known, known-at, alike-at, eleven≡}
-use Rattle.column.specs.Column.{judgedAllOf, columnAnswer, columnRows, columnAfter}
+use Rattle.altitudes.specs.Altitudes.{judgedAllOf, columnAnswer}
+use Rattle.column.specs.Column.{columnRows, columnAfter}
 
 -- an accepted answer comes from no refusal before it
 no-refusal : (c : Bool) (n k : ℕ) (x : Answer) → cond c (Refused n k) x ≡ Accepted → x ≡ Accepted

@@ -5,131 +5,20 @@ ghost use Prim.Native.Nat.{_*_, _≤_};
 ghost use lib.ListN.{length, take, drop};
 ghost use Rattle.setting.specs.View.{viewOf};
 ghost use Rattle.acceptance.specs.declared.Answer.the-variants.{Accepted};
-ghost use Rattle.column.specs.Column.{altitudesFrom, unmixedFrom, judgedAllOf, columnAnswer, columnAfter, columnRows};
-ghost use Rattle.column.specs.Parts.{noParts, eitherParts, partsFrom, storedFor, rowsStored};
+ghost use Rattle.altitudes.specs.Altitudes.{altitudesFrom, columnAnswer};
+ghost use Rattle.column.specs.Column.{columnAfter, columnRows};
+ghost use Rattle.column.specs.Parts.{storedFor, rowsStored};
 use acceptance::Answer;
 use acceptance::accepted;
-use acceptance::judge;
-use acceptance::mixing_on;
-use acceptance::unmixed;
-use acceptance::with_alt;
-use acceptance::within;
+use altitudes::column_answer;
 use levels::levels_of;
-use numbers::finite;
 use setting::Input;
 use setting::views::view_of;
-use stored::Parts;
 use stored::need_of;
-use stored::parts_at;
 use stored::row_on;
 use stored::store;
+use stored_parts::parts_of;
 use upper::site_of;
-
-// The first altitude that is refused, in order: 2, else 3.
-pub fn altitudes(alts: &[f64]) -> Answer
-    ensures { λ r. ⌜ r ≡ altitudesFrom 0 (now (alts .entry)) ⌝ }
-{
-    let mut k: usize = 0;
-    while k < alts.len() {
-        let z = alts[k];
-        if !finite(z) {
-            return Answer::Refused(2, 17 + k);
-        }
-        if !within(0.0, 2500.0, z) {
-            return Answer::Refused(3, 17 + k);
-        }
-        k += 1;
-    }
-    Answer::Accepted
-}
-
-// The first altitude below 72.5 km where N2 is not mixed; on says whether switch 15 is 1.
-pub fn unmixed_altitude(on: bool, alts: &[f64]) -> Answer
-    ensures { λ r. ⌜ r ≡ unmixedFrom on 0 (now (alts .entry)) ⌝ }
-{
-    let mut k: usize = 0;
-    while k < alts.len() {
-        let z = alts[k];
-        if unmixed(on, z) {
-            return Answer::Refused(10, 17 + k);
-        }
-        k += 1;
-    }
-    Answer::Accepted
-}
-
-// What a column's record and altitudes meet, its lengths apart.
-pub fn judge_all(w: [i32; 24], n: Input, alts: &[f64]) -> Answer
-    ensures { λ r. ⌜ r ≡ judgedAllOf w n (now (alts .entry)) ⌝ }
-{
-    let m = with_alt(n, 0.0);
-    let a = judge(w, m);
-    if !accepted(a) {
-        return a;
-    }
-    let b = altitudes(alts);
-    if !accepted(b) {
-        return b;
-    }
-    let on = mixing_on(w);
-    unmixed_altitude(on, alts)
-}
-
-// The answer to a record, its altitudes and a buffer of the length len.
-pub fn column_answer(w: [i32; 24], n: Input, alts: &[f64], len: usize) -> Answer
-    ensures { λ r. ⌜ r ≡ columnAnswer w n (now (alts .entry)) len ⌝ }
-{
-    let count = alts.len();
-    if 512 < count {
-        return Answer::Refused(5, 512);
-    }
-    let room = 11 * count;
-    if len < room {
-        return Answer::Refused(4, room);
-    }
-    judge_all(w, n, alts)
-}
-
-pub fn no_parts() -> Parts
-    ensures { λ r. ⌜ r ≡ noParts ⌝ }
-{
-    Parts {
-        summit: false,
-        below: false,
-        tropo: false,
-        low: false,
-        mid: false,
-        top: false,
-    }
-}
-
-// The parts that are in either.
-pub fn either_parts(a: Parts, b: Parts) -> Parts
-    ensures { λ r. ⌜ r ≡ eitherParts a b ⌝ }
-{
-    Parts {
-        summit: a.summit | b.summit,
-        below: a.below | b.below,
-        tropo: a.tropo | b.tropo,
-        low: a.low | b.low,
-        mid: a.mid | b.mid,
-        top: a.top | b.top,
-    }
-}
-
-// The parts that the altitudes read.
-pub fn parts(alts: &[f64]) -> Parts
-    ensures { λ r. ⌜ r ≡ partsFrom noParts (now (alts .entry)) ⌝ }
-{
-    let mut p = no_parts();
-    let mut k: usize = 0;
-    while k < alts.len() {
-        let a = parts_at(alts[k]);
-        p = either_parts(p, a);
-        k += 1;
-    }
-    p
-}
 
 // Each altitude's row into its own part of the buffer, out of the stored numbers; sw0 and sw15 are the main effects of switches 0 and 15.
 pub fn rows_at(sw0: f64, sw15: f64, numbers: &[f64], alts: &[f64], out: &mut [f64])
@@ -155,7 +44,7 @@ pub fn stored_for(w: [i32; 24], n: Input, alts: &[f64], numbers: &mut [f64]) -> 
     let v = view_of(w, n);
     let sw = v.sw;
     let x = site_of(sw, n.g_lat, v.doy, n.f107a);
-    let p = parts(alts);
+    let p = parts_of(alts);
     let a = need_of(p);
     let l = levels_of(v, a);
     store(p, sw, x, l, numbers);

@@ -19,9 +19,10 @@ use Rattle.acceptance.specs.declared.Answer.the-variants.{Accepted, Refused}
 use Rattle.acceptance.specs.Acceptance.{acceptedOf, withAltOf}
 use Rattle.atmosphere.specs.Atmosphere.{elevenOf}
 use Rattle.stored.specs.Stored.{rowStored}
-use Rattle.column.specs.Column.{altitudesFrom, columnAnswer}
+use Rattle.altitudes.specs.Altitudes.{altitudesFrom, columnAnswer}
 use Rattle.column.specs.Parts.{storedFor}
-use Rattle.column.proofs.Laws.{Each, each-row, accepted-altitudes}
+use Rattle.altitudes.proofs.Laws.{accepted-altitudes}
+use Rattle.column.proofs.Laws.{Each, each-row}
 use Rattle.crossings_list.specs.declared.Listing.{Listing}
 use Rattle.crossings_list.specs.declared.Listing.the-variants.{Listed}
 use Rattle.crossings_list.specs.CrossingsList.{crossingsOf, listAnswer, listAfter, risesOf}

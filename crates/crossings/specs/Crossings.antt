@@ -12,7 +12,7 @@ use Rattle.acceptance.specs.declared.Answer.{Answer}
 use Rattle.acceptance.specs.declared.Answer.the-variants.{Accepted, Refused}
 use Rattle.acceptance.specs.Acceptance.{acceptedOf, withAltOf}
 use Rattle.atmosphere.specs.Atmosphere.{elevenOf}
-use Rattle.column.specs.Column.{columnAnswer}
+use Rattle.altitudes.specs.Altitudes.{columnAnswer}
 use Rattle.crossings_list.specs.declared.Listing.{Listing}
 use Rattle.crossings_list.specs.declared.Listing.the-variants as listing
 use Rattle.crossings_list.specs.CrossingsList.{crossingsOf, listAnswer, listAfter, risesOf}

@@ -19,7 +19,7 @@ use Rattle.acceptance.specs.Acceptance.{acceptedOf, withAltOf}
 use Rattle.atmosphere.specs.Atmosphere.{elevenOf}
 use Rattle.shutoff.specs.Shut.{Alike}
 use Rattle.shutoff.specs.Theorems.{eleven≡}
-use Rattle.column.specs.Column.{columnAnswer}
+use Rattle.altitudes.specs.Altitudes.{columnAnswer}
 use Rattle.column.specs.Theorems.{column-known, at-altitude}
 use Rattle.crossings_list.specs.declared.Listing.{Listing}
 use Rattle.crossings_list.specs.declared.Listing.the-variants as listing

@@ -13,7 +13,7 @@ use Rattle.acceptance.specs.declared.Answer.{Answer}
 use Rattle.acceptance.specs.declared.Answer.the-variants.{Accepted, Refused}
 use Rattle.acceptance.specs.Acceptance.{acceptedOf}
 use Rattle.bands.specs.Bands.{bandedAnswer, bandedAfter}
-use Rattle.host.specs.Host.{codeOf, recordOf}
+use Rattle.host_record.specs.Record.{codeOf, recordOf}
 use Rattle.host.specs.Bands.{bandLengthsOf, hostBanded, hostBandedRow}
 use Rattle.host.proofs.Laws.{twice}
 

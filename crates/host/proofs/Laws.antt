@@ -13,13 +13,16 @@ use Rattle.acceptance.specs.declared.Answer.{Answer}
 use Rattle.acceptance.specs.declared.Answer.the-variants.{Accepted, Refused}
 use Rattle.acceptance.specs.Acceptance.{acceptedOf}
 use Rattle.atmosphere.specs.Atmosphere.{answerOf}
-use Rattle.column.specs.Column.{columnAnswer, columnAfter}
-use Rattle.station.specs.Station.{stationAnswer, wholeAfter, numbersAfter}
+use Rattle.altitudes.specs.Altitudes.{columnAnswer}
+use Rattle.column.specs.Column.{columnAfter}
+use Rattle.station_record.specs.Record.{stationAnswer}
+use Rattle.station.specs.Station.{wholeAfter, numbersAfter}
 use Rattle.crossings_list.specs.declared.Listing.{Listing}
 use Rattle.crossings.specs.Crossings.{refusedOr, crossingsAnswer, crossingsAfter}
 use Rattle.crossings.proofs.Laws.{goes-on}
 use Rattle.host.specs.Crossings.{listingCode, hostCrossings, hostList}
-use Rattle.host.specs.Host.{codeOf, recordOf, lengthsOf, hostAnswer, hostColumn, hostRows, hostStation, hostWhole, hostNumbers}
+use Rattle.host_record.specs.Record.{codeOf, recordOf, lengthsOf}
+use Rattle.host.specs.Host.{hostAnswer, hostColumn, hostRows, hostStation, hostWhole, hostNumbers}
 
 -- a refusal: its number and place, the lent memory as it was
 pub refused : (d r : Answer) (ys xs : List Float) (x : ℕ) → d ≡ r → acceptedOf r ≡ false → x ≡ codeOf r

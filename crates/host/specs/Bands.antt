@@ -10,7 +10,7 @@ use Rattle.acceptance.specs.declared.Answer.{Answer}
 use Rattle.acceptance.specs.declared.Answer.the-variants.{Refused}
 use Rattle.acceptance.specs.Acceptance.{acceptedOf}
 use Rattle.bands.specs.Bands.{bandedAnswer, bandedAfter}
-use Rattle.host.specs.Host.{recordOf}
+use Rattle.host_record.specs.Record.{recordOf}
 
 -- 4 for the row, the table, the fields, the array, in this order, each with the length needed; then the rest
 unfoldable pub bandLengthsOf : ℕ → List ℤ → List Float → List Float → Answer → Answer

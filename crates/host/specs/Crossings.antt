@@ -9,7 +9,7 @@ use Rattle.acceptance.specs.Acceptance.{acceptedOf}
 use Rattle.crossings_list.specs.declared.Listing.{Listing}
 use Rattle.crossings_list.specs.declared.Listing.the-variants.{Listed, Refused}
 use Rattle.crossings.specs.Crossings.{refusedOr, crossingsAnswer, crossingsAfter}
-use Rattle.host.specs.Host.{packedOf, recordOf, lengthsOf}
+use Rattle.host_record.specs.Record.{packedOf, recordOf, lengthsOf}
 
 -- an answer as one number: the list's length, or the refusal's number times 2^32 and its place
 abbrev pub listingCode : Listing → ℕ

@@ -3,14 +3,14 @@ ghost use mathlib.Core.Path.{_≡_};
 ghost use lib.ListN.{length};
 ghost use Rattle.acceptance.specs.declared.Answer.the-variants.{Accepted};
 ghost use Rattle.band_form.specs.Bands.{readAnswer, tableAfter};
-ghost use Rattle.host.specs.Host.{codeOf};
+ghost use Rattle.host_record.specs.Record.{codeOf};
 ghost use Rattle.host.specs.Bands.{bandLengthsOf, hostBanded, hostBandedRow};
-use super::record::code;
-use super::record::record_of;
 use acceptance::Answer;
 use acceptance::accepted;
 use band_form::bands;
 use bands::gtd7_in_bands;
+use host_record::code;
+use host_record::record_of;
 
 // Reads a text of bands into a table.
 #[no_mangle]

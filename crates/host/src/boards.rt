@@ -3,7 +3,7 @@ ghost use mathlib.Core.Path.{_≡_};
 ghost use lib.ListN.{length};
 ghost use Rattle.host.specs.Boards.{logCodeOf};
 ghost use Rattle.logs.specs.Lent.{lentAnswer, lentAfter};
-use super::record::packed;
+use host_record::packed;
 use logs::Answer;
 use logs::held_in;
 

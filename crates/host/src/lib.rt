@@ -3,7 +3,6 @@
 pub mod banded;
 pub mod boards;
 pub mod listing;
-pub mod record;
 pub mod stations;
 
 use acceptance::Answer;
@@ -11,12 +10,13 @@ use acceptance::accepted;
 use atmosphere::gtd7;
 use column::gtd7_column;
 use drag::gtd7d;
-use record::code;
-use record::lengths;
-use record::record_of;
-use record::switch_row;
+use host_record::code;
+use host_record::lengths;
+use host_record::record_of;
+use host_record::switch_row;
 ghost use lib.ListN.{length};
-ghost use Rattle.host.specs.Host.{hostAnswer, hostRow, hostDrag, hostColumn, hostRows, codeOf};
+ghost use Rattle.host_record.specs.Record.{codeOf};
+ghost use Rattle.host.specs.Host.{hostAnswer, hostRow, hostDrag, hostColumn, hostRows};
 use elementary::exponential::exp;
 use elementary::logarithm::log;
 use elementary::power::pow;

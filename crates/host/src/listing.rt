@@ -2,14 +2,14 @@
 ghost use mathlib.Core.Path.{_≡_};
 ghost use lib.ListN.{length};
 ghost use Rattle.host.specs.Crossings.{listingCode, hostCrossings, hostList};
-use super::record::code;
-use super::record::lengths;
-use super::record::packed;
-use super::record::record_of;
-use super::record::switch_row;
 use acceptance::accepted;
 use crossings::crossings;
 use crossings_list::Listing;
+use host_record::code;
+use host_record::lengths;
+use host_record::packed;
+use host_record::record_of;
+use host_record::switch_row;
 
 // How long the list is, or a refusal's number times 2^32 and its place.
 pub fn listing_code(a: Listing) -> u64

@@ -1,14 +1,16 @@
 // A prepared station on the host: 27 whole numbers and 234 numbers that the caller keeps.
 ghost use mathlib.Core.Path.{_≡_};
 ghost use lib.ListN.{length};
-ghost use Rattle.station.specs.Station.{toSec, toLst, toLong, toFluxes, altitudeAnswer, altitudeRow, altitudeDrag, changeAnswer, changedNumbers};
-ghost use Rattle.host.specs.Host.{codeOf, hostStation, hostWhole, hostNumbers};
-use super::record::code;
-use super::record::lengths;
-use super::record::record_of;
-use super::record::switch_row;
+ghost use Rattle.station_record.specs.Record.{toSec, toLst, toLong, toFluxes, altitudeAnswer, changeAnswer};
+ghost use Rattle.station.specs.Station.{altitudeRow, altitudeDrag, changedNumbers};
+ghost use Rattle.host_record.specs.Record.{codeOf};
+ghost use Rattle.host.specs.Host.{hostStation, hostWhole, hostNumbers};
 use acceptance::Answer;
 use acceptance::accepted;
+use host_record::code;
+use host_record::lengths;
+use host_record::record_of;
+use host_record::switch_row;
 use station::change_fluxes;
 use station::change_g_long;
 use station::change_lst;

@@ -6,7 +6,7 @@ use native.Mathlib.Nat.{add-zero, add-suc, suc-add, not-suc-le-zero, le-of-suc-l
 use borrow.Author.Tests.{eq-eqb, ne-eqb}
 use lib.ListN.{length, getD}
 use lib.Ieee.{Float, nan}
-use Rattle.host.specs.Host.{packedOf}
+use Rattle.host_record.specs.Record.{packedOf}
 use Rattle.calls.specs.declared.Expanded.{Expanded}
 use Rattle.host_expansion.specs.HostExpansion.{fittedOf, entryOf, entriesOf, numbersAfter, codeOf}
 

@@ -12,7 +12,7 @@ use Rattle.setting.specs.declared.State.{State}
 use Rattle.setting.specs.State.{freshOf}
 use Rattle.calls.specs.declared.Expanded.{Expanded}
 use Rattle.calls.specs.Calls.{refusedAt, globe7CallOf, glob7sCallOf}
-use Rattle.host.specs.Host.{packedOf, recordOf}
+use Rattle.host_record.specs.Record.{packedOf, recordOf}
 use Rattle.host_state.specs.HostState.{numberOf}
 
 -- the Legendre values, numbers 31 to 66

@@ -6,9 +6,9 @@ ghost use Rattle.host_expansion.specs.HostExpansion.{legendreOf, stateWi
 use calls::Expanded;
 use calls::glob7s;
 use calls::globe7;
-use host::record::packed;
-use host::record::record_of;
-use host::record::switch_row;
+use host_record::packed;
+use host_record::record_of;
+use host_record::switch_row;
 use host_state::number;
 use setting::State;
 

@@ -6,15 +6,15 @@ use native.Mathlib.Omega.{arith}
 use borrow.Author.Tests.{eq-eqb, ne-eqb}
 use lib.ListN.{length, set}
 use lib.Ieee.{Float}
-use Rattle.spline.specs.Outcome.{Outcome, after}
-use Rattle.spline.specs.Calls.{valueOutcome, writeOutcome}
-use Rattle.spline.specs.declared.SplineValue.{SplineValue}
-use Rattle.spline.specs.declared.SplineValue.the-variants as value
-use Rattle.spline.specs.declared.SplineWrite.{SplineWrite}
-use Rattle.spline.specs.declared.SplineWrite.the-variants as write
-use Rattle.profile.specs.Calls.{profileOutcome}
-use Rattle.profile.specs.declared.ProfileCall.{ProfileCall}
-use Rattle.profile.specs.declared.ProfileCall.the-variants as profile
+use Rattle.spline_calls.specs.Outcome.{Outcome, after}
+use Rattle.spline_calls.specs.Calls.{valueOutcome, writeOutcome}
+use Rattle.spline_calls.specs.declared.SplineValue.{SplineValue}
+use Rattle.spline_calls.specs.declared.SplineValue.the-variants as value
+use Rattle.spline_calls.specs.declared.SplineWrite.{SplineWrite}
+use Rattle.spline_calls.specs.declared.SplineWrite.the-variants as write
+use Rattle.profile_calls.specs.Calls.{profileOutcome}
+use Rattle.profile_calls.specs.declared.ProfileCall.{ProfileCall}
+use Rattle.profile_calls.specs.declared.ProfileCall.the-variants as profile
 use Rattle.host_parts.specs.Parts.{refusalOf, placeOf, packedOf, codeOf, valueIn, returnedIn, writtenIn, one, two, lent, kept}
 
 -- ---- lists of one and of two numbers

@@ -6,13 +6,13 @@ use lib.Dec.{eqb}
 use lib.ListN.{length}
 use lib.Ieee.{Float}
 use Rattle.numbers.specs.Literals.{0·0}
-use Rattle.spline.specs.Outcome.{Outcome, gives, refused}
-use Rattle.spline.specs.declared.SplineValue.{SplineValue}
-use Rattle.spline.specs.declared.SplineValue.the-variants as value
+use Rattle.spline_calls.specs.Outcome.{Outcome, gives, refused}
+use Rattle.spline_calls.specs.declared.SplineValue.{SplineValue}
+use Rattle.spline_calls.specs.declared.SplineValue.the-variants as value
 use Rattle.profile.specs.Profile.{densityIn, temperatureIn}
 use Rattle.profile.specs.declared.unchecked.Profile.{Profile}
-use Rattle.profile.specs.declared.ProfileCall.{ProfileCall}
-use Rattle.profile.specs.declared.ProfileCall.the-variants as profile
+use Rattle.profile_calls.specs.declared.ProfileCall.{ProfileCall}
+use Rattle.profile_calls.specs.declared.ProfileCall.the-variants as profile
 
 -- document 01's number of a refusal and its place, 0 and 0 where there is none
 abbrev pub refusalOf : {A : Type 0} → Outcome A → ℕ

@@ -23,7 +23,7 @@ use Rattle.lower.specs.declared.Whole.{Whole}
 use Rattle.plan.specs.Plan.{Ran, ends, run}
 use Rattle.acceptance.specs.declared.Answer.the-variants.{Accepted, Refused}
 use Rattle.atmosphere.specs.Atmosphere.{gtd7Plan, leftOf}
-use Rattle.host.specs.Host.{codeOf, recordOf, lengthsOf}
+use Rattle.host_record.specs.Record.{codeOf, recordOf, lengthsOf}
 use Rattle.host_state.specs.HostState.{nodesOf, lastOf, numberOf, numbersFrom, numbersOf, stateAnswer, stateNumbers}
 
 module _ (s : State) (k : ℕ) where

@@ -13,7 +13,7 @@ use Rattle.acceptance.specs.declared.Answer.{Answer}
 use Rattle.acceptance.specs.declared.Answer.the-variants.{Accepted, Refused}
 use Rattle.acceptance.specs.Acceptance.{acceptedOf}
 use Rattle.atmosphere.specs.Atmosphere.{leftOf}
-use Rattle.host.specs.Host.{recordOf, lengthsOf}
+use Rattle.host_record.specs.Record.{recordOf, lengthsOf}
 
 -- gsurf to dm14, then the nodes
 unfoldable pub nodesOf : State → List Float

@@ -1,15 +1,15 @@
 // For comparison on the host: the 79 numbers of the State that gtd7 leaves, the last of them 1 or 0 for the mark beside dm28.
 ghost use mathlib.Core.Path.{_≡_};
 ghost use lib.ListN.{length};
-ghost use Rattle.host.specs.Host.{codeOf};
+ghost use Rattle.host_record.specs.Record.{codeOf};
 ghost use Rattle.atmosphere.specs.Atmosphere.{leftOf};
 ghost use Rattle.host_state.specs.HostState.{nodesOf, lastOf, numberOf, numbersOf, stateAnswer, stateNumbers};
 use acceptance::Answer;
 use acceptance::accepted;
-use host::record::code;
-use host::record::lengths;
-use host::record::record_of;
-use host::record::switch_row;
+use host_record::code;
+use host_record::lengths;
+use host_record::record_of;
+use host_record::switch_row;
 use model_state::gtd7_from_fresh;
 use numbers::pick;
 use setting::Input;

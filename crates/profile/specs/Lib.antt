@@ -1,6 +1,5 @@
--- Gravity, scale height, the profiles of temperature and density, densu in two parts, and the calls with their refusals.
+-- Gravity, scale height, the profiles of temperature and density, and densu in two parts.
 pub mod Gravity
 pub mod Curve
 pub mod Profile
 pub mod Point
-pub mod Calls

@@ -2,5 +2,4 @@
 pub mod Walks
 pub mod Steps
 pub mod Laws
-pub mod Accept
 pub mod Theorems

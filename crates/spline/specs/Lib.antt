@@ -1,5 +1,3 @@
--- Cubic splines: interpolation, the integral, the second derivatives, and the calls with their refusals.
+-- Cubic splines: interpolation, the integral, the second derivatives.
 pub mod Nodes
 pub mod Sweep
-pub mod Outcome
-pub mod Calls

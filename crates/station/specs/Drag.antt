@@ -15,7 +15,8 @@ use Rattle.shutoff.specs.Theorems.{alike-at}
 use Rattle.drag_sum.specs.DragSum.{draggedOf}
 use Rattle.drag.specs.Drag.{dragOf, dragAfter}
 use Rattle.drag.specs.Theorems.{demand-3-drag}
-use Rattle.station.specs.Station.{wholeOf, numbersOf, altitudeAnswer, altitudeRow, altitudeDrag, Change}
+use Rattle.station_record.specs.Record.{wholeOf, altitudeAnswer, Change}
+use Rattle.station.specs.Station.{numbersOf, altitudeRow, altitudeDrag}
 use Rattle.station.specs.Theorems.{Held, recordAfter, stationAfter, kept, altitude-told}
 
 -- where the row is written, the sum sees what is written

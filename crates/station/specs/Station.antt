@@ -1,78 +1,26 @@
--- Document 02's W-201: a prepared station, its refusals in order, and what its slices hold after each call.
+-- Document 02's W-201: a prepared station, and what its slices and the lent row hold after each call.
 use Prim.Native.Nat.{ℕ}
-use mathlib.Core.Bool.{cond, not}
-use mathlib.Core.List.{List, [], _∷_, _++_}
-use lib.Dec.{eqb}
-use lib.IntN.{ℤ, pos}
-use lib.ListN.{length, drop, getD}
+use mathlib.Core.Bool.{cond}
+use mathlib.Core.List.{List, _++_}
+use lib.IntN.{ℤ}
+use lib.ListN.{length, drop}
 use lib.Ieee.{Float}
-use Rattle.numbers.specs.Arithmetic.{_‼_}
-use Rattle.numbers.specs.Literals.{0·0, 2500·0}
-use Rattle.numbers.specs.Tests.{finiteOf}
+use Rattle.numbers.specs.Literals.{0·0}
 use Rattle.setting.specs.declared.Input.{Input}
-use Rattle.setting.specs.declared.History.{History}
-use Rattle.setting.specs.declared.History.the-variants.{Absent, Present}
-use Rattle.setting.specs.ApHistory.{absentOf}
-use Rattle.setting.specs.Switches.{isOne, onOff}
 use Rattle.setting.specs.View.{viewOf}
-use Rattle.acceptance.specs.declared.Answer.{Answer}
-use Rattle.acceptance.specs.declared.Answer.the-variants.{Accepted, Refused}
-use Rattle.acceptance.specs.Acceptance.{withinOf, judgedOf, acceptedOf, unmixedOf, withAltOf}
+use Rattle.acceptance.specs.Acceptance.{judgedOf, acceptedOf, withAltOf}
 use Rattle.levels.specs.Levels.{levelsOf}
 use Rattle.upper.specs.Upper.{siteOf}
-use Rattle.stored.specs.Stored.{allParts, needOf, storedOf, rowStored}
+use Rattle.stored_parts.specs.Parts.{allParts}
+use Rattle.stored.specs.Stored.{needOf, storedOf, rowStored}
 use Rattle.drag_sum.specs.DragSum.{draggedOf}
-
--- ---- what the two slices hold: 27 whole numbers and 234 numbers
-
--- 1 where the history is there
-unfoldable pub markOf : History → ℤ
-markOf h = cond (absentOf h) (pos 0) (pos 1)
-
-unfoldable pub historyIn : ℤ → History
-historyIn m = cond (isOne m) Present Absent
-
--- year, doy, the mark of the history, the switches
-unfoldable pub wholeOf : List ℤ → Input → List ℤ
-wholeOf w n = n .year ∷ n .doy ∷ markOf (n .history) ∷ w
-
--- the record's numbers but its altitude
-unfoldable pub recordNumbers : Input → List Float
-recordNumbers n =
-    n .sec ∷ n .«g_lat» ∷ n .«g_long» ∷ n .lst ∷ n .f107a ∷ n .f107 ∷ n .ap ∷
-    (n .«ap_array» ‼ 0) ∷ (n .«ap_array» ‼ 1) ∷ (n .«ap_array» ‼ 2) ∷ (n .«ap_array» ‼ 3) ∷ (n .«ap_array» ‼ 4) ∷ (n .«ap_array» ‼ 5) ∷ (n .«ap_array» ‼ 6) ∷ []
+use Rattle.station_record.specs.Record.{wholeOf, recordNumbers, recordIn, unitsIn, mixingIn, Change, changeOf, stationAnswer, altitudeAnswer, changeAnswer}
 
 -- the record's numbers, and behind them what no altitude changes
 unfoldable pub numbersOf : List ℤ → Input → List Float
 numbersOf w n =
     let v = viewOf w n in
     recordNumbers n ++ storedOf allParts (v .sw) (siteOf (v .sw) (n .«g_lat») (v .doy) (n .f107a)) (levelsOf v (needOf allParts))
-
--- the record that the slices hold, at altitude 0
-unfoldable pub recordIn : List ℤ → List Float → Input
-recordIn whole xs =
-    record {
-      year = getD whole 0 (pos 0);
-      doy = getD whole 1 (pos 0);
-      sec = xs ‼ 0;
-      alt = 0·0;
-      «g_lat» = xs ‼ 1;
-      «g_long» = xs ‼ 2;
-      lst = xs ‼ 3;
-      f107a = xs ‼ 4;
-      f107 = xs ‼ 5;
-      ap = xs ‼ 6;
-      history = historyIn (getD whole 2 (pos 0));
-      «ap_array» = (xs ‼ 7) ∷ (xs ‼ 8) ∷ (xs ‼ 9) ∷ (xs ‼ 10) ∷ (xs ‼ 11) ∷ (xs ‼ 12) ∷ (xs ‼ 13) ∷ [];
-    }
-
--- ---- preparing: 4 for a slice that has not its length, then what the record meets, its altitude not looked at
-
-unfoldable pub stationAnswer : List ℤ → Input → ℕ → ℕ → Answer
-stationAnswer w n ints count =
-    cond (not (eqb ints 27)) (Refused 4 27)
-    (cond (not (eqb count 234)) (Refused 4 234)
-    (judgedOf w (withAltOf n 0·0)))
 
 -- the slices afterwards: refused, as they were
 unfoldable pub wholeAfter : List ℤ → Input → List ℤ → ℕ → List ℤ
@@ -81,65 +29,21 @@ wholeAfter w n ys count = cond (acceptedOf (stationAnswer w n (length ys) count)
 unfoldable pub numbersAfter : List ℤ → Input → ℕ → List Float → List Float
 numbersAfter w n ints xs = cond (acceptedOf (stationAnswer w n ints (length xs))) (numbersOf w (withAltOf n 0·0)) xs
 
--- ---- an altitude: 4 for the row, for the two slices; 2, then 3, then 10 at place 3; switch 0 stands at 3 and switch 15 at 18
-
-unfoldable pub altitudeAnswer : ℕ → List ℤ → ℕ → Float → Answer
-altitudeAnswer len whole count alt =
-    cond (not (eqb len 11)) (Refused 4 11)
-    (cond (not (eqb (length whole) 27)) (Refused 4 27)
-    (cond (not (eqb count 234)) (Refused 4 234)
-    (cond (not (finiteOf alt)) (Refused 2 3)
-    (cond (not (withinOf 0·0 2500·0 alt)) (Refused 3 3)
-    (cond (unmixedOf (isOne (getD whole 18 (pos 0))) alt) (Refused 10 3) Accepted)))))
-
 -- the lent row afterwards
 unfoldable pub altitudeRow : List ℤ → List Float → Float → List Float → List Float
 altitudeRow whole xs alt row =
     cond (acceptedOf (altitudeAnswer (length row) whole (length xs) alt))
-    (rowStored (onOff (isOne (getD whole 3 (pos 0)))) (onOff (isOne (getD whole 18 (pos 0)))) xs alt) row
+    (rowStored (unitsIn whole) (mixingIn whole) xs alt) row
 
 -- the lent row after gtd7d, whose answer is the same
 unfoldable pub altitudeDrag : List ℤ → List Float → Float → List Float → List Float
 altitudeDrag whole xs alt row =
     cond (acceptedOf (altitudeAnswer (length row) whole (length xs) alt))
-    (draggedOf (onOff (isOne (getD whole 3 (pos 0)))) (rowStored (onOff (isOne (getD whole 3 (pos 0)))) (onOff (isOne (getD whole 18 (pos 0)))) xs alt)) row
-
--- ---- changes of sec, of lst, of g_long, of the fluxes
-
-unfoldable pub withSecOf : Input → Float → Input
-withSecOf n y = record { year = n .year; doy = n .doy; sec = y; alt = n .alt; «g_lat» = n .«g_lat»; «g_long» = n .«g_long»; lst = n .lst; f107a = n .f107a; f107 = n .f107; ap = n .ap; history = n .history; «ap_array» = n .«ap_array» }
-
-unfoldable pub withLstOf : Input → Float → Input
-withLstOf n y = record { year = n .year; doy = n .doy; sec = n .sec; alt = n .alt; «g_lat» = n .«g_lat»; «g_long» = n .«g_long»; lst = y; f107a = n .f107a; f107 = n .f107; ap = n .ap; history = n .history; «ap_array» = n .«ap_array» }
-
-unfoldable pub withLongOf : Input → Float → Input
-withLongOf n y = record { year = n .year; doy = n .doy; sec = n .sec; alt = n .alt; «g_lat» = n .«g_lat»; «g_long» = y; lst = n .lst; f107a = n .f107a; f107 = n .f107; ap = n .ap; history = n .history; «ap_array» = n .«ap_array» }
-
-unfoldable pub withFluxesOf : Input → Float → Float → Input
-withFluxesOf n a f = record { year = n .year; doy = n .doy; sec = n .sec; alt = n .alt; «g_lat» = n .«g_lat»; «g_long» = n .«g_long»; lst = n .lst; f107a = a; f107 = f; ap = n .ap; history = n .history; «ap_array» = n .«ap_array» }
-
-pub data Change : Type 0 where
-  toSec : Float → Change
-  toLst : Float → Change
-  toLong : Float → Change
-  toFluxes : Float → Float → Change
-
-abbrev pub changeOf : Change → Input → Input
-changeOf (toSec y) n = withSecOf n y
-changeOf (toLst y) n = withLstOf n y
-changeOf (toLong y) n = withLongOf n y
-changeOf (toFluxes a f) n = withFluxesOf n a f
+    (draggedOf (unitsIn whole) (rowStored (unitsIn whole) (mixingIn whole) xs alt)) row
 
 -- a record in the place of the station's, where it is accepted
 unfoldable pub replacedOf : List ℤ → Input → List Float → List Float
 replacedOf w n xs = cond (acceptedOf (judgedOf w n)) (numbersOf w n) xs
-
--- 4 for the slices, then what the changed record meets
-unfoldable pub changeAnswer : Change → List ℤ → List Float → Answer
-changeAnswer c whole xs =
-    cond (not (eqb (length whole) 27)) (Refused 4 27)
-    (cond (not (eqb (length xs) 234)) (Refused 4 234)
-    (judgedOf (drop 3 whole) (changeOf c (recordIn whole xs))))
 
 -- the numbers afterwards: refused, as they were; the whole numbers stay
 unfoldable pub changedNumbers : Change → List ℤ → List Float → List Float

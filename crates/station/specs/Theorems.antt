@@ -1,11 +1,11 @@
 -- What holds of a station that its calls gave: an altitude of it is the one-altitude call's on the record as it then is, whatever the changes before.
-use Prim.Native.Nat.{ℕ, zero, suc, _+_}
-use mathlib.Core.Path.{_≡_, refl, sym, ap, ap₂, _∙_, subst}
+use Prim.Native.Nat.{ℕ, zero, suc}
+use mathlib.Core.Path.{_≡_, refl, sym, ap, ap₂, _∙_}
 use mathlib.Core.Bool.{Bool, true, false, cond, not, _&&_, false≢true}
-use mathlib.Core.List.{List, [], _∷_, _++_}
+use mathlib.Core.List.{List, [], _∷_}
 use native.Mathlib.Omega.{arith}
 use borrow.Author.Tests.{eq-eqb}
-use lib.Dec.{T, eqb}
+use lib.Dec.{eqb}
 use lib.IntN.{ℤ, pos}
 use lib.ListN.{length, drop, getD}
 use lib.Seq.{drop-cons, drop-length}
@@ -22,15 +22,16 @@ use Rattle.setting.specs.View.{viewOf}
 use Rattle.acceptance.specs.declared.Answer.{Answer}
 use Rattle.acceptance.specs.declared.Answer.the-variants.{Accepted, Refused}
 use Rattle.acceptance.specs.Acceptance.{withinOf, dayWithin, lowest, arrayUnfitOf, unfitOf, arrayOutsideOf, outsideOf, foundOf, judgedOf, acceptedOf, unmixedOf, recordAnswer, withAltOf}
-use Rattle.levels.specs.Levels.{levelsOf}
-use Rattle.upper.specs.Upper.{siteOf}
 use Rattle.atmosphere.specs.Atmosphere.{elevenOf, answerOf, rowAfter}
-use Rattle.stored.specs.Stored.{allParts, needOf, storedOf, rowStored}
-use Rattle.stored.specs.Rows.{partsAt, all-length}
-use Rattle.stored.specs.Eleven.{all-hold, stored-eleven}
+use Rattle.stored_parts.specs.Parts.{allParts, partsAt}
+use Rattle.stored.specs.Stored.{rowStored}
+use Rattle.stored.specs.Rows.{all-length}
+use Rattle.stored_parts.specs.Held.{all-hold}
+use Rattle.stored.specs.Eleven.{stored-eleven}
 use Rattle.shutoff.specs.Shut.{Alike}
 use Rattle.shutoff.specs.Theorems.{judged-first, known, written, alike-at, eleven≡}
-use Rattle.station.specs.Station.{markOf, historyIn, wholeOf, recordNumbers, numbersOf, recordIn, stationAnswer, wholeAfter, numbersAfter, altitudeAnswer, altitudeRow, withSecOf, withLstOf, withLongOf, withFluxesOf, Change, toSec, toLst, toLong, toFluxes, changeOf, changeAnswer, changedNumbers}
+use Rattle.station_record.specs.Record.{markOf, historyIn, wholeOf, recordNumbers, recordIn, stationAnswer, altitudeAnswer, withSecOf, withLstOf, withLongOf, withFluxesOf, Change, toSec, toLst, toLong, toFluxes, changeOf, changeAnswer}
+use Rattle.station.specs.Station.{numbersOf, wholeAfter, numbersAfter, altitudeRow, changedNumbers}
 
 -- ---- stations that were given: prepared, then any number of changes, refused ones among them
 

@@ -26,7 +26,7 @@ use Rattle.region.specs.declared.Roots.{Roots}
 use Rattle.region.specs.Region.{basesOf, rootsOf, rowOver, rowUnder}
 use Rattle.footing.specs.declared.Footing.{Footing}
 use Rattle.footing.specs.Footing.{footingOf}
-use Rattle.stored.specs.declared.Parts.{Parts}
+use Rattle.stored_parts.specs.declared.Parts.{Parts}
 use Rattle.stored.specs.Stored.{part, regionNumbers, spineNumbers, spanNumbers, groundNumbers, footingNumbers, shapeIn, rootsIn, spineIn, regionStored, lowStored, footingStored, summitStored, storedOf, lowRow}
 use Rattle.stored.specs.Rows.{grown, footing-length, low-length, region-length, numbers-36, numbers-24}
 

@@ -13,13 +13,14 @@ use Rattle.acceptance.specs.Acceptance.{withAltOf}
 use Rattle.levels.specs.declared.Need.{Need}
 use Rattle.levels.specs.Levels.{needAt, levelsOf}
 use Rattle.tables.specs.Tables.{pdlT1}
-use Rattle.upper.specs.declared.Site.{Site}
 use Rattle.upper.specs.Upper.{siteOf}
 use Rattle.atmosphere.specs.Atmosphere.{elevenFrom, elevenOf}
 use Rattle.atmosphere.specs.Answers.{Covers, eleven-covered}
-use Rattle.stored.specs.declared.Parts.{Parts}
-use Rattle.stored.specs.Stored.{allParts, needOf, storedOf, rowStored}
-use Rattle.stored.specs.Rows.{partsAt, Holds, stored-told}
+use Rattle.stored_parts.specs.declared.Parts.{Parts}
+use Rattle.stored_parts.specs.Parts.{partsAt}
+use Rattle.stored_parts.specs.Held.{Holds}
+use Rattle.stored.specs.Stored.{needOf, storedOf, rowStored}
+use Rattle.stored.specs.Rows.{stored-told}
 
 -- ---- the sets that the parts read hold those that an altitude needs
 
@@ -96,11 +97,6 @@ module _ (p : Parts) (z : Float) (h : Holds p (partsAt z)) where
         meso = h .below;
         tropo = h .tropo;
       }
-
--- all parts hold those of every altitude
-pub all-hold : (a : Parts) → Holds allParts a
-unfolding allParts
-all-hold a = record { summit = λ e. refl; below = λ e. refl; tropo = λ e. refl; low = λ e. refl; mid = λ e. refl; top = λ e. refl }
 
 -- nothing of the View and the Site depends on the record's own altitude
 eleven-at : (w : List ℤ) (n : Input) (m : Need) (z : Float) → Covers m (needAt z)

@@ -13,27 +13,26 @@ use lib.Seq.{take-at, take-length, drop-at, drop-drop}
 use lib.Ieee.Fits.{down-pos}
 use lib.Ieee.{Float, nan, inf, fin, up, down, neg, lt, le, eq, ofBits}
 use Rattle.numbers.specs.Arithmetic.{_⊖_, _⊗_, _⊘_, _‼_}
-use Rattle.numbers.specs.Literals.{0·0, 0·17, 0·38, 1·0, 4·0, 14·0, 16·0, 32·0, 32·5, 40·0, 72·5, 100·0, 200·0, 300·0, 2500·0}
+use Rattle.numbers.specs.Literals.{0·0, 0·17, 0·38, 1·0, 4·0, 14·0, 16·0, 32·0, 40·0, 72·5, 100·0, 200·0, 300·0, 2500·0}
 use Rattle.elementary.specs.Exp.{expOf}
 use Rattle.elementary.specs.Log.{logOf}
 use Rattle.elementary.specs.Root.{sqrtOf}
 use Rattle.mixing.specs.Limits.{heMixed, oMixed, o2Mixed, arMixed, hMixed, nMixed}
 use Rattle.layers.specs.Layers.{firstFive, spanOf, blankOf}
-use Rattle.places.specs.Place.{spineOf, underOf, placeOf, under-place}
+use Rattle.places.specs.Place.{spineOf, under-place}
 use Rattle.places.specs.Thinning.{place-warmth}
 use Rattle.places.specs.declared.place.Spine.{Spine}
 use Rattle.places.specs.declared.place.Place.{Place}
 use Rattle.places.specs.declared.thinning.Thinning.{Thinning}
 use Rattle.places.proofs.Order.{lt-asym}
 use Rattle.plan.specs.declared.Levels.{Levels}
-use Rattle.plan.specs.Plan.{Plan, Ask, either, _>>=_, told, given, then, last}
+use Rattle.plan.specs.Plan.{Plan, Ask, either, _>>=_, told, given}
 use Rattle.profile.specs.declared.unchecked.Shape.{Shape}
 use Rattle.species.specs.declared.Blend.{Blend}
-use Rattle.species.specs.declared.Mixture.{Mixture}
 use Rattle.species.specs.declared.Root.{Root}
 use Rattle.species.specs.Species.{nodes, densityOf, temperatureOf}
-use Rattle.species.specs.Places.{spineAt, placeAt, mixesAt, Mixes}
-use Rattle.species.specs.Rooted.{Rooted, mixingOf, rootOf, n2RootOf, heliumRootOf, oxygenRootOf, o2RootOf, argonRootOf, hydrogenRootOf, nitrogenRootOf, n2From, heliumFrom, oxygenFrom, o2From, argonFrom, hydrogenFrom, nitrogenFrom, hotFrom, root-is, oxygen-root-is, helium-is, oxygen-is, o2-is, argon-is, hydrogen-is, nitrogen-is}
+use Rattle.species.specs.Places.{spineAt, placeAt, Mixes}
+use Rattle.species.specs.Rooted.{Rooted, mixingOf, heliumRootOf, o2RootOf, argonRootOf, hydrogenRootOf, nitrogenRootOf, n2From, heliumFrom, oxygenFrom, o2From, argonFrom, hydrogenFrom, nitrogenFrom, hotFrom, root-is, oxygen-root-is, helium-is, oxygen-is, o2-is, argon-is, hydrogen-is, nitrogen-is}
 use Rattle.species.proofs.Laws.{mixes}
 use Rattle.species.proofs.Order.{mixes-200, mixes-240, mixes-250, mixes-300, mixes-320}
 use Rattle.tables.specs.Tables.{ptmT, pdT0, pdT1, pdT2, pdT4, pdT5, pdT6, pdT7, pdT8, pdmT0, pdmT1, pdmT2, pdmT3, pdmT4, pdmT5, pdmT6, pdmT7, pdlT0, pdlT1}
@@ -52,9 +51,11 @@ use Rattle.region.specs.declared.Roots.{Roots}
 use Rattle.region.specs.Region.{baseOf, thinBasesOf, denseBasesOf, basesOf, turbopausesOf, rootsFrom, rootsOf, sixAt, rowAt, rowOver, warmthAt, rowUnder}
 use Rattle.footing.specs.declared.Footing.{Footing}
 use Rattle.footing.specs.Footing.{curvesOf, standingOf, footingOf, rowBelowOf}
-use Rattle.atmosphere.specs.Atmosphere.{gtd7Plan, elevenFrom}
+use Rattle.atmosphere.specs.Atmosphere.{elevenFrom}
 use Rattle.atmosphere.specs.Rows.{eleven-above, eleven-below}
-use Rattle.stored.specs.declared.Parts.{Parts}
+use Rattle.stored_parts.specs.declared.Parts.{Parts}
+use Rattle.stored_parts.specs.Parts.{partsAt}
+use Rattle.stored_parts.specs.Held.{Holds}
 use Rattle.stored.specs.Stored.{part, regionNumbers, spineNumbers, spanNumbers, groundNumbers, footingNumbers, fiveIn, shapeIn, rootIn, rootsIn, spineIn, spanIn, footingIn, regionStored, lowStored, footingStored, summitStored, storedOf, lowRow, rowStored}
 
 -- ---- the shape of a region: gts7's plan asks three tests of the altitude
@@ -484,27 +485,6 @@ unfolding ofBits pdlT1
 below-300 z h e = fall z _ _ _ _ (omega arith) (λ a c p q. omega (arith, p, q)) h e
 
 -- ---- all ways together
-
--- the parts that an altitude reads
-unfoldable pub partsAt : Float → Parts
-partsAt alt =
-    record {
-      summit = le 72·5 alt && not (lt 72·5 alt);
-      below = not (le 72·5 alt);
-      tropo = lt alt 32·5;
-      low = lt 72·5 alt && not (lt (pdlT1 ‼ 15) alt);
-      mid = lt (pdlT1 ‼ 15) alt && lt alt 300·0;
-      top = lt (pdlT1 ‼ 15) alt && not (lt alt 300·0);
-    }
-
--- the parts that are stored hold those that an altitude reads
-pub record Holds (p a : Parts) : Type 0 where
-  pub summit : a .summit ≡ true → p .summit ≡ true
-  pub below : a .below ≡ true → p .below ≡ true
-  pub tropo : a .tropo ≡ true → p .tropo ≡ true
-  pub low : a .low ≡ true → p .low ≡ true
-  pub mid : a .mid ≡ true → p .mid ≡ true
-  pub top : a .top ≡ true → p .top ≡ true
 
 both : (a b : Bool) → a ≡ true → b ≡ true → (a && b) ≡ true
 both a b e f = rw (e, f)

@@ -1,9 +1,9 @@
 -- What a station stores of a record and a switch row, as a list of numbers, and the row of an altitude out of that list.
 use Prim.Native.Nat.{ℕ, _+_}
-use mathlib.Core.Bool.{Bool, true, cond, not, _||_}
+use mathlib.Core.Bool.{Bool, cond, not, _||_}
 use mathlib.Core.List.{List, [], _∷_, _++_}
 use lib.ListN.{take, drop, replicate}
-use lib.Ieee.{Float, lt, le}
+use lib.Ieee.{Float, lt}
 use Rattle.numbers.specs.Arithmetic.{_‼_}
 use Rattle.numbers.specs.Literals.{0·0, 72·5, 100·0, 200·0, 300·0}
 use Rattle.elementary.specs.Log.{logOf}
@@ -25,12 +25,10 @@ use Rattle.region.specs.Region.{basesOf, rootsOf, rowOver, rowUnder}
 use Rattle.footing.specs.declared.Footing.{Footing}
 use Rattle.footing.specs.Footing.{footingOf, rowBelowOf}
 use Rattle.atmosphere.specs.Atmosphere.{elevenFrom}
-use Rattle.stored.specs.declared.Parts.{Parts}
+use Rattle.stored_parts.specs.declared.Parts.{Parts}
+use Rattle.stored_parts.specs.Parts.{aboveSummit, fromSummit, aboveZa, below300}
 
 -- ---- the parts
-
-unfoldable pub allParts : Parts
-allParts = record { summit = true; below = true; tropo = true; low = true; mid = true; top = true }
 
 -- the coefficient sets that the parts read
 unfoldable pub needOf : Parts → Need
@@ -180,9 +178,9 @@ lowRow sw0 sw15 xs alt =
 -- xs has the record's fourteen numbers first
 unfoldable pub rowStored : Float → Float → List Float → Float → List Float
 rowStored sw0 sw15 xs alt =
-    cond (not (lt 72·5 alt))
-    (cond (le 72·5 alt) (part 223 11 xs) (rowBelowOf sw0 (footingIn (part 14 53 xs)) alt))
-    (cond (not (lt (pdlT1 ‼ 15) alt)) (lowRow sw0 sw15 (part 67 84 xs) alt)
-    (cond (lt alt 300·0)
+    cond (not (aboveSummit alt))
+    (cond (fromSummit alt) (part 223 11 xs) (rowBelowOf sw0 (footingIn (part 14 53 xs)) alt))
+    (cond (not (aboveZa alt)) (lowRow sw0 sw15 (part 67 84 xs) alt)
+    (cond (below300 alt)
     (rowOver sw0 sw15 (shapeIn (part 151 36 xs)) (rootsIn (part 151 36 xs)) alt)
     (rowOver sw0 sw15 (shapeIn (part 187 36 xs)) (rootsIn (part 187 36 xs)) alt)))

@@ -5,8 +5,7 @@ ghost use mathlib.Core.List.{_++_};
 ghost use Prim.Native.Nat.{_+_, _≤_};
 ghost use lib.ListN.{length, take, drop};
 ghost use Rattle.region.specs.Region.{rowOver};
-ghost use Rattle.stored.specs.Rows.{partsAt};
-ghost use Rattle.stored.specs.Stored.{allParts, needOf, regionNumbers, spineNumbers, spanNumbers, groundNumbers, fiveIn, shapeIn, rootIn, rootsIn, spineIn, spanIn, footingIn, regionStored, lowStored, footingStored, summitStored, storedOf, lowRow, rowStored};
+ghost use Rattle.stored.specs.Stored.{needOf, regionNumbers, spineNumbers, spanNumbers, groundNumbers, fiveIn, shapeIn, rootIn, rootsIn, spineIn, spanIn, footingIn, regionStored, lowStored, footingStored, summitStored, storedOf, lowRow, rowStored};
 use atmosphere::row_above;
 use elementary::logarithm::log;
 use footing::Curves;
@@ -27,49 +26,15 @@ use region::row_over;
 use region::row_under;
 use species::Root;
 use species::spine_at;
+use stored_parts::Parts;
+use stored_parts::above_summit;
+use stored_parts::above_za;
+use stored_parts::below_300;
+use stored_parts::from_summit;
 use tables::pdl1;
 use thermosphere::shape_stage;
 use upper::Site;
 use upper::anomalous;
-
-// Which of its parts are asked for: the row at 72.5 km; what lies below it, and below 32.5 km; the region up to za; from there to 300 km; from 300 km.
-pub struct Parts {
-    pub summit: bool,
-    pub below: bool,
-    pub tropo: bool,
-    pub low: bool,
-    pub mid: bool,
-    pub top: bool,
-}
-
-// The parts that an altitude reads.
-pub fn parts_at(alt: f64) -> Parts
-    ensures { λ r. ⌜ r ≡ partsAt alt ⌝ }
-{
-    let l = pdl1();
-    Parts {
-        summit: (alt >= 72.5) & !(alt > 72.5),
-        below: !(alt >= 72.5),
-        tropo: alt < 32.5,
-        low: (alt > 72.5) & !(alt > l[15]),
-        mid: (alt > l[15]) & (alt < 300.0),
-        top: (alt > l[15]) & !(alt < 300.0),
-    }
-}
-
-// All of them.
-pub fn all_parts() -> Parts
-    ensures { λ r. ⌜ r ≡ allParts ⌝ }
-{
-    Parts {
-        summit: true,
-        below: true,
-        tropo: true,
-        low: true,
-        mid: true,
-        top: true,
-    }
-}
 
 // The coefficient sets that the parts read.
 pub fn need_of(p: Parts) -> Need
@@ -507,18 +472,17 @@ pub fn row_stored(sw0: f64, sw15: f64, s: &[f64], alt: f64) -> [f64; 11]
     requires { ⌜ length (now s) ≡ 234 ⌝ }
     ensures { λ r. ⌜ r ≡ rowStored sw0 sw15 (now (s .entry)) alt ⌝ }
 {
-    let l = pdl1();
-    if !(alt > 72.5) {
-        if alt >= 72.5 {
+    if !above_summit(alt) {
+        if from_summit(alt) {
             return eleven_from(&s[223..234]);
         }
         let f = footing_from(&s[14..67]);
         return row_below(sw0, f, alt);
     }
-    if !(alt > l[15]) {
+    if !above_za(alt) {
         return low_from(sw0, sw15, &s[67..151], alt);
     }
-    if alt < 300.0 {
+    if below_300(alt) {
         return over_from(sw0, sw15, &s[151..187], alt);
     }
     over_from(sw0, sw15, &s[187..223], alt)

@@ -2,7 +2,8 @@
 use mathlib.Core.Path.{_∙_}
 use borrow.Author.Tests.{ltb-false, not-true, not-false}
 use Rattle.atmosphere.proofs.Laws.{verdict}
-use Rattle.column.proofs.Laws.{accepted-room, accepted-altitudes, kept, written}
+use Rattle.altitudes.proofs.Laws.{accepted-room, accepted-altitudes}
+use Rattle.column.proofs.Laws.{kept, written}
 use borrow.Author.Needs.{needs}
 use Rattle.column.proofs.gtd7_column.Statement.{statement}
 use Rattle.column.proofs.gtd7_column.Tie as tie

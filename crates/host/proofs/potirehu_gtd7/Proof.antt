@@ -6,7 +6,8 @@ use mir.Facts.{toZ-ofZ}
 use lib.ListN.{length}
 use Rattle.acceptance.specs.declared.Answer.the-variants.{Refused}
 use Rattle.atmosphere.specs.Atmosphere.{elevenOf, rowAfter}
-use Rattle.host.specs.Host.{recordOf, hostAnswer, hostRow}
+use Rattle.host_record.specs.Record.{recordOf}
+use Rattle.host.specs.Host.{hostAnswer, hostRow}
 use Rattle.host.proofs.Laws.{refused, stopped, fields-fit, switches-fit, passed, dated, no-row, a-row, rest, answered}
 use Rattle.host.proofs.potirehu_gtd7.Statement.{statement}
 use Rattle.host.proofs.potirehu_gtd7.Tie as tie

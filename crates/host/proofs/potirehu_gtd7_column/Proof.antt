@@ -4,8 +4,10 @@ use borrow.Author.Needs.{needs}
 use borrow.Author.Tests.{not-true, not-false}
 use mir.Facts.{toZ-ofZ}
 use lib.ListN.{length}
-use Rattle.column.specs.Column.{columnAnswer, columnAfter}
-use Rattle.host.specs.Host.{recordOf, hostColumn, hostRows}
+use Rattle.altitudes.specs.Altitudes.{columnAnswer}
+use Rattle.column.specs.Column.{columnAfter}
+use Rattle.host_record.specs.Record.{recordOf}
+use Rattle.host.specs.Host.{hostColumn, hostRows}
 use Rattle.host.proofs.Laws.{refused, stopped, fields-fit, switches-fit, passed, dated, answered-column}
 use Rattle.host.proofs.potirehu_gtd7_column.Statement.{statement}
 use Rattle.host.proofs.potirehu_gtd7_column.Tie as tie

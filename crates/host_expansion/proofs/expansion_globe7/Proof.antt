@@ -6,7 +6,7 @@ use lib.IntN.{ℤ}
 use Rattle.setting.specs.declared.Input.{Input}
 use Rattle.setting.specs.declared.State.{State}
 use Rattle.calls.specs.Calls.{globe7CallOf}
-use Rattle.host.specs.Host.{recordOf}
+use Rattle.host_record.specs.Record.{recordOf}
 use Rattle.host_expansion.specs.HostExpansion.{stateOf, globe7From}
 use Rattle.host_expansion.proofs.Laws.{misfit-told, fit-told}
 use borrow.Author.Needs.{needs}

@@ -4,7 +4,7 @@ use mir.Facts.{toZ-ofZ}
 use lib.ListN.{length}
 use borrow.Author.Tests.{not-true, not-false}
 use Rattle.acceptance.specs.declared.Answer.the-variants.{Accepted, Refused}
-use Rattle.host.specs.Host.{recordOf}
+use Rattle.host_record.specs.Record.{recordOf}
 use Rattle.host.proofs.Laws.{refused, fields-fit, switches-fit, passed, dated}
 use Rattle.host_state.specs.HostState.{numbersOf, stateAnswer, stateNumbers}
 use Rattle.atmosphere.specs.Atmosphere.{leftOf}

@@ -1,5 +1,5 @@
 -- `change_fluxes` meets its contract.
-use Rattle.station.specs.Station.{toFluxes}
+use Rattle.station_record.specs.Record.{toFluxes}
 use Rattle.station.proofs.Laws.{change-no-whole, change-no-numbers, change-met}
 use borrow.Author.Needs.{needs}
 use Rattle.station.proofs.change_fluxes.Statement.{statement}
@@ -12,10 +12,14 @@ returns-2 : tie.Need-returns-2
 returns-2 c = change-no-numbers (toFluxes (c .before .before .before .args .f107a) (c .before .before .before .args .f107)) _ _ (c .before .if1 .left) (c .if2 .taken)
 
 returns-3 : tie.Need-returns-3
-returns-3 c = change-met (toFluxes (c .before .before .before .before .before .before .before .before .before .before .before .args .f107a) (c .before .before .before .before .before .before .before .before .before .before .before .args .f107)) _ _ (c .before .before .before .before .before .before .before .before .before .if1 .left) (c .before .before .before .before .before .before .before .before .if2 .left) (c .before .before .before .before .before .before .before .row-in .result) (c .before .before .before .before .before .record-in .result) (c .before .before .before .before .with-fluxes .result) (c .before .before .changed .result) _ (c .before .before .before .before .before .before .before .row-in .ensures) (c .before .before .before .before .before .record-in .ensures) (c .before .before .before .before .with-fluxes .ensures) (c .before .before .changed .ensures .0) (c .before .before .changed .ensures .1)
+returns-3 c =
+    let met = c .before .before in
+    let changed = met .before .before in
+    let row = changed .before .before in
+    change-met (toFluxes (c .before .before .before .before .before .before .before .before .before .before .args .f107a) (c .before .before .before .before .before .before .before .before .before .before .args .f107)) _ _ (row .before .before .if1 .left) (row .before .if2 .left) (row .row-in .result) (changed .to-fluxes .result) (met .changed .result) _ (row .row-in .ensures) (changed .to-fluxes .ensures) (met .changed .ensures .0) (met .changed .ensures .1)
 
 pub change-fluxes-spec : {M : Type 1} → statement M
 change-fluxes-spec =
     tie.close
     (tie.spec returns returns-2 (λ c κs. c .before .if1 .left) (λ c κs. (c .before .before .before .if1 .left, c .before .before .if2 .left))
-    (λ c κs. search needs) (λ c κs. c .before .before .before .before .before .if2 .left) (λ c. search needs) returns-3)
+    (λ c κs. c .before .before .before .before .if2 .left) (λ c. search needs) returns-3)

@@ -1,5 +1,5 @@
 -- `change_lst` meets its contract.
-use Rattle.station.specs.Station.{toLst}
+use Rattle.station_record.specs.Record.{toLst}
 use Rattle.station.proofs.Laws.{change-no-whole, change-no-numbers, change-met}
 use borrow.Author.Needs.{needs}
 use Rattle.station.proofs.change_lst.Statement.{statement}
@@ -12,10 +12,14 @@ returns-2 : tie.Need-returns-2
 returns-2 c = change-no-numbers (toLst (c .before .before .before .args .lst)) _ _ (c .before .if1 .left) (c .if2 .taken)
 
 returns-3 : tie.Need-returns-3
-returns-3 c = change-met (toLst (c .before .before .before .before .before .before .before .before .before .before .before .args .lst)) _ _ (c .before .before .before .before .before .before .before .before .before .if1 .left) (c .before .before .before .before .before .before .before .before .if2 .left) (c .before .before .before .before .before .before .before .row-in .result) (c .before .before .before .before .before .record-in .result) (c .before .before .before .before .with-lst .result) (c .before .before .changed .result) _ (c .before .before .before .before .before .before .before .row-in .ensures) (c .before .before .before .before .before .record-in .ensures) (c .before .before .before .before .with-lst .ensures) (c .before .before .changed .ensures .0) (c .before .before .changed .ensures .1)
+returns-3 c =
+    let met = c .before .before in
+    let changed = met .before .before in
+    let row = changed .before .before in
+    change-met (toLst (c .before .before .before .before .before .before .before .before .before .before .args .lst)) _ _ (row .before .before .if1 .left) (row .before .if2 .left) (row .row-in .result) (changed .to-lst .result) (met .changed .result) _ (row .row-in .ensures) (changed .to-lst .ensures) (met .changed .ensures .0) (met .changed .ensures .1)
 
 pub change-lst-spec : {M : Type 1} → statement M
 change-lst-spec =
     tie.close
     (tie.spec returns returns-2 (λ c κs. c .before .if1 .left) (λ c κs. (c .before .before .before .if1 .left, c .before .before .if2 .left))
-    (λ c κs. search needs) (λ c κs. c .before .before .before .before .before .if2 .left) (λ c. search needs) returns-3)
+    (λ c κs. c .before .before .before .before .if2 .left) (λ c. search needs) returns-3)

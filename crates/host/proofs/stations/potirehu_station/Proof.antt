@@ -4,8 +4,8 @@ use borrow.Author.Tests.{not-true, not-false}
 use mir.Facts.{toZ-ofZ}
 use lib.ListN.{length}
 use Rattle.acceptance.specs.declared.Answer.the-variants.{Refused}
-use Rattle.station.specs.Station.{stationAnswer}
-use Rattle.host.specs.Host.{recordOf}
+use Rattle.station_record.specs.Record.{stationAnswer}
+use Rattle.host_record.specs.Record.{recordOf}
 use Rattle.host.proofs.Laws.{stopped, fields-fit, switches-fit, passed, dated, station-refused, no-whole, no-numbers, a-station, prepared}
 use borrow.Author.Needs.{needs}
 use Rattle.host.proofs.stations.potirehu_station.Statement.{statement}

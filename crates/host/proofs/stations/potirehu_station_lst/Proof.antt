@@ -1,7 +1,7 @@
 -- `potirehu_station_lst` meets its contract.
 use mathlib.Core.Path.{ap, _∙_}
 use borrow.Author.Needs.{needs}
-use Rattle.host.specs.Host.{codeOf}
+use Rattle.host_record.specs.Record.{codeOf}
 use Rattle.host.proofs.stations.potirehu_station_lst.Statement.{statement}
 use Rattle.host.proofs.stations.potirehu_station_lst.Tie as tie
 

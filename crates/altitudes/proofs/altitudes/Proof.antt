@@ -1,0 +1,87 @@
+-- `altitudes` meets its contract: the altitudes below k have passed.
+use mathlib.Core.Path.{_≡_, refl, _∙_}
+use Prim.Native.Nat.{_≤_, _-_}
+use native.Mathlib.Omega.{arith}
+use borrow.Author.Needs.{needs}
+use lib.ListN.{length, drop}
+use Rattle.altitudes.specs.Altitudes.{altitudesFrom}
+use Rattle.altitudes.proofs.Laws.{unfit-here, outside-here, passed-here, all-passed}
+use Rattle.altitudes.proofs.altitudes.Statement.{statement}
+use Rattle.altitudes.proofs.altitudes.Tie as tie
+
+abbrev Inv-loop : tie.InvT-loop
+Inv-loop alts k₀ k = (k ≤ length alts) × (altitudesFrom k (drop k alts) ≡ altitudesFrom 0 alts)
+
+abbrev μ-loop : tie.MeasureT-loop
+μ-loop alts k₀ k = length alts - k
+
+loop-holds : tie.Need-loop-holds Inv-loop μ-loop
+loop-holds c = (search needs, refl)
+
+mul-z : tie.Need-mul-z Inv-loop μ-loop
+mul-z c = search needs
+
+shared-slice-read-z : tie.Need-shared-slice-read-z Inv-loop μ-loop
+shared-slice-read-z c = search needs
+
+finite-requires : tie.Need-finite-requires Inv-loop μ-loop
+finite-requires c κs = search needs
+
+add-t9 : tie.Need-add-t9 Inv-loop μ-loop
+add-t9 c = search needs
+
+returns : tie.Need-returns Inv-loop μ-loop
+returns c =
+    let at = c .before .before .before .before .loop in
+    unfit-here _ (at .k) (c .before .before .before .loop-test .taken) _ (c .before .finite .ensures) (c .if1 .taken) ∙ at .inv .1
+
+within-requires : tie.Need-within-requires Inv-loop μ-loop
+within-requires c κs = search needs
+
+add-t10 : tie.Need-add-t10 Inv-loop μ-loop
+add-t10 c = search needs
+
+returns-2 : tie.Need-returns-2 Inv-loop μ-loop
+returns-2 c =
+    let at = c .before .before .before .before .before .before .loop in
+    outside-here _ (at .k) (c .before .before .before .before .before .loop-test .taken) _ _
+    (c .before .before .before .finite .ensures) (c .before .before .if1 .left) (c .before .within .ensures) (c .if2 .taken) ∙ at .inv .1
+
+add-k : tie.Need-add-k Inv-loop μ-loop
+add-k c = search needs
+
+loop-less : tie.Need-loop-less Inv-loop μ-loop
+loop-less c = search needs
+
+loop-again : tie.Need-loop-again Inv-loop μ-loop
+loop-again c =
+    let at = c .before .before .before .before .before .before .loop in (
+      search needs,
+      passed-here _ (at .k) (c .before .before .before .before .before .loop-test .taken) _ _
+          (c .before .before .before .finite .ensures) (c .before .before .if1 .left) (c .before .within .ensures) (c .if2 .left) ∙ at .inv .1,
+    )
+
+returns-3 : tie.Need-returns-3 Inv-loop μ-loop
+returns-3 c =
+    let at = c .before .loop in
+    all-passed _ (at .k) (omega arith) ∙ at .inv .1
+
+pub altitudes-spec : {M : Type 1} → statement M
+altitudes-spec =
+    tie.close
+    (tie.spec
+    Inv-loop
+    μ-loop
+    loop-holds
+    mul-z
+    shared-slice-read-z
+    finite-requires
+    add-t9
+    returns
+    within-requires
+    add-t10
+    returns-2
+    add-k
+    loop-less
+    loop-again
+    returns-3)

@@ -1,0 +1,52 @@
+-- Places in the whole numbers, and what an accepted answer says of the lengths.
+use Prim.Native.Nat.{ℕ, zero, suc, _+_, _-_}
+use mathlib.Core.Path.{_≡_, refl, sym, ap, _∙_}
+use mathlib.Core.Bool.{Bool, true, false, cond, not, false≢true}
+use mathlib.Core.List.{List, _∷_}
+use native.Mathlib.Omega.{arith}
+use borrow.Author.Tests.{eqb-true}
+use lib.Dec.{eqb}
+use lib.IntN.{ℤ, pos}
+use lib.ListN.{length, drop, getD}
+use lib.Seq.{getD-drop}
+use lib.Ieee.{Float}
+use Rattle.setting.specs.declared.Input.{Input}
+use Rattle.acceptance.specs.declared.Answer.{Answer}
+use Rattle.acceptance.specs.declared.Answer.the-variants.{Refused}
+use Rattle.acceptance.specs.Acceptance.{acceptedOf}
+use Rattle.station_record.specs.Record.{stationAnswer, altitudeAnswer}
+
+-- behind the first three of a list
+pub past-three : (a b c : ℤ) (w : List ℤ) (i : ℕ) → (i ≡ 0 → ⊥) → (i ≡ 1 → ⊥) → (i ≡ 2 → ⊥) → getD w (i - 3) (pos 0) ≡ getD (a ∷ b ∷ c ∷ w) i (pos 0)
+past-three a b c w zero e f g = absurd (e refl)
+past-three a b c w (suc zero) e f g = absurd (f refl)
+past-three a b c w (suc (suc zero)) e f g = absurd (g refl)
+past-three a b c w (suc (suc (suc i))) e f g =
+    let k : suc (suc (suc i)) - 3 ≡ i = omega arith in
+    ap (λ (j : ℕ). getD w j (pos 0)) k
+
+pub dropped-three : (s : List ℤ) (i : ℕ) → getD s (i + 3) (pos 0) ≡ getD (drop 3 s) i (pos 0)
+dropped-three s i =
+    let e : i + 3 ≡ 3 + i = omega arith in
+    ap (λ (k : ℕ). getD s k (pos 0)) e ∙ sym (getD-drop 3 s i (pos 0))
+
+-- an accepted answer passed each test
+passed : (b : Bool) (n k : ℕ) (a : Answer) → acceptedOf (cond (not b) (Refused n k) a) ≡ true → (b ≡ true) × (acceptedOf a ≡ true)
+passed true n k a h = (refl, h)
+passed false n k a h = absurd (false≢true h)
+
+module _ (len : ℕ) (whole : List ℤ) (count : ℕ) (alt : Float) where
+  pub altitude-fits : acceptedOf (altitudeAnswer len whole count alt) ≡ true → (len ≡ 11) × (length whole ≡ 27) × (count ≡ 234)
+  unfolding altitudeAnswer
+  altitude-fits h =
+      let a = passed (eqb len 11) 4 11 _ h in
+      let b = passed (eqb (length whole) 27) 4 27 _ (a .1) in
+      let c = passed (eqb count 234) 4 234 _ (b .1) in
+      (eqb-true len 11 (a .0), eqb-true (length whole) 27 (b .0), eqb-true count 234 (c .0))
+
+pub station-fits : (w : List ℤ) (n : Input) (ints count : ℕ) → acceptedOf (stationAnswer w n ints count) ≡ true → (ints ≡ 27) × (count ≡ 234)
+unfolding stationAnswer
+station-fits w n ints count h =
+    let a = passed (eqb ints 27) 4 27 _ h in
+    let b = passed (eqb count 234) 4 234 _ (a .1) in
+    (eqb-true ints 27 (a .0), eqb-true count 234 (b .0))

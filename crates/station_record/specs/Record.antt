@@ -1,0 +1,115 @@
+-- The record of a prepared station in its two slices, and document 02's refusals of its calls in order (W-201).
+use Prim.Native.Nat.{ℕ}
+use mathlib.Core.Bool.{cond, not}
+use mathlib.Core.List.{List, [], _∷_}
+use lib.Dec.{eqb}
+use lib.IntN.{ℤ, pos}
+use lib.ListN.{length, drop, getD}
+use lib.Ieee.{Float}
+use Rattle.numbers.specs.Arithmetic.{_‼_}
+use Rattle.numbers.specs.Literals.{0·0, 2500·0}
+use Rattle.numbers.specs.Tests.{finiteOf}
+use Rattle.setting.specs.declared.Input.{Input}
+use Rattle.setting.specs.declared.History.{History}
+use Rattle.setting.specs.declared.History.the-variants.{Absent, Present}
+use Rattle.setting.specs.ApHistory.{absentOf}
+use Rattle.setting.specs.Switches.{isOne, onOff}
+use Rattle.acceptance.specs.declared.Answer.{Answer}
+use Rattle.acceptance.specs.declared.Answer.the-variants.{Accepted, Refused}
+use Rattle.acceptance.specs.Acceptance.{withinOf, judgedOf, unmixedOf, withAltOf}
+
+-- ---- what the two slices hold: 27 whole numbers and 234 numbers
+
+-- 1 where the history is there
+unfoldable pub markOf : History → ℤ
+markOf h = cond (absentOf h) (pos 0) (pos 1)
+
+unfoldable pub historyIn : ℤ → History
+historyIn m = cond (isOne m) Present Absent
+
+-- year, doy, the mark of the history, the switches
+unfoldable pub wholeOf : List ℤ → Input → List ℤ
+wholeOf w n = n .year ∷ n .doy ∷ markOf (n .history) ∷ w
+
+-- the record's numbers but its altitude
+unfoldable pub recordNumbers : Input → List Float
+recordNumbers n =
+    n .sec ∷ n .«g_lat» ∷ n .«g_long» ∷ n .lst ∷ n .f107a ∷ n .f107 ∷ n .ap ∷
+    (n .«ap_array» ‼ 0) ∷ (n .«ap_array» ‼ 1) ∷ (n .«ap_array» ‼ 2) ∷ (n .«ap_array» ‼ 3) ∷ (n .«ap_array» ‼ 4) ∷ (n .«ap_array» ‼ 5) ∷ (n .«ap_array» ‼ 6) ∷ []
+
+-- the record that the slices hold, at altitude 0
+unfoldable pub recordIn : List ℤ → List Float → Input
+recordIn whole xs =
+    record {
+      year = getD whole 0 (pos 0);
+      doy = getD whole 1 (pos 0);
+      sec = xs ‼ 0;
+      alt = 0·0;
+      «g_lat» = xs ‼ 1;
+      «g_long» = xs ‼ 2;
+      lst = xs ‼ 3;
+      f107a = xs ‼ 4;
+      f107 = xs ‼ 5;
+      ap = xs ‼ 6;
+      history = historyIn (getD whole 2 (pos 0));
+      «ap_array» = (xs ‼ 7) ∷ (xs ‼ 8) ∷ (xs ‼ 9) ∷ (xs ‼ 10) ∷ (xs ‼ 11) ∷ (xs ‼ 12) ∷ (xs ‼ 13) ∷ [];
+    }
+
+-- the main effects of switches 0 and 15, which stand at 3 and at 18
+abbrev pub unitsIn : List ℤ → Float
+unitsIn whole = onOff (isOne (getD whole 3 (pos 0)))
+
+abbrev pub mixingIn : List ℤ → Float
+mixingIn whole = onOff (isOne (getD whole 18 (pos 0)))
+
+-- ---- preparing: 4 for a slice that has not its length, then what the record meets, its altitude not looked at
+
+unfoldable pub stationAnswer : List ℤ → Input → ℕ → ℕ → Answer
+stationAnswer w n ints count =
+    cond (not (eqb ints 27)) (Refused 4 27)
+    (cond (not (eqb count 234)) (Refused 4 234)
+    (judgedOf w (withAltOf n 0·0)))
+
+-- ---- an altitude: 4 for the row, for the two slices; 2, then 3, then 10 at place 3; switch 0 stands at 3 and switch 15 at 18
+
+unfoldable pub altitudeAnswer : ℕ → List ℤ → ℕ → Float → Answer
+altitudeAnswer len whole count alt =
+    cond (not (eqb len 11)) (Refused 4 11)
+    (cond (not (eqb (length whole) 27)) (Refused 4 27)
+    (cond (not (eqb count 234)) (Refused 4 234)
+    (cond (not (finiteOf alt)) (Refused 2 3)
+    (cond (not (withinOf 0·0 2500·0 alt)) (Refused 3 3)
+    (cond (unmixedOf (isOne (getD whole 18 (pos 0))) alt) (Refused 10 3) Accepted)))))
+
+-- ---- changes of sec, of lst, of g_long, of the fluxes
+
+unfoldable pub withSecOf : Input → Float → Input
+withSecOf n y = record { year = n .year; doy = n .doy; sec = y; alt = n .alt; «g_lat» = n .«g_lat»; «g_long» = n .«g_long»; lst = n .lst; f107a = n .f107a; f107 = n .f107; ap = n .ap; history = n .history; «ap_array» = n .«ap_array» }
+
+unfoldable pub withLstOf : Input → Float → Input
+withLstOf n y = record { year = n .year; doy = n .doy; sec = n .sec; alt = n .alt; «g_lat» = n .«g_lat»; «g_long» = n .«g_long»; lst = y; f107a = n .f107a; f107 = n .f107; ap = n .ap; history = n .history; «ap_array» = n .«ap_array» }
+
+unfoldable pub withLongOf : Input → Float → Input
+withLongOf n y = record { year = n .year; doy = n .doy; sec = n .sec; alt = n .alt; «g_lat» = n .«g_lat»; «g_long» = y; lst = n .lst; f107a = n .f107a; f107 = n .f107; ap = n .ap; history = n .history; «ap_array» = n .«ap_array» }
+
+unfoldable pub withFluxesOf : Input → Float → Float → Input
+withFluxesOf n a f = record { year = n .year; doy = n .doy; sec = n .sec; alt = n .alt; «g_lat» = n .«g_lat»; «g_long» = n .«g_long»; lst = n .lst; f107a = a; f107 = f; ap = n .ap; history = n .history; «ap_array» = n .«ap_array» }
+
+pub data Change : Type 0 where
+  toSec : Float → Change
+  toLst : Float → Change
+  toLong : Float → Change
+  toFluxes : Float → Float → Change
+
+abbrev pub changeOf : Change → Input → Input
+changeOf (toSec y) n = withSecOf n y
+changeOf (toLst y) n = withLstOf n y
+changeOf (toLong y) n = withLongOf n y
+changeOf (toFluxes a f) n = withFluxesOf n a f
+
+-- 4 for the slices, then what the changed record meets
+unfoldable pub changeAnswer : Change → List ℤ → List Float → Answer
+changeAnswer c whole xs =
+    cond (not (eqb (length whole) 27)) (Refused 4 27)
+    (cond (not (eqb (length xs) 234)) (Refused 4 234)
+    (judgedOf (drop 3 whole) (changeOf c (recordIn whole xs))))
