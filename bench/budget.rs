@@ -23,7 +23,8 @@ struct Case {
     column: [f64; COLUMN],
 }
 
-// The kinds of switch rows: all on with the daily ap, all on with the history, random entries from -2 to 3.
+// The kinds of switch rows: all on with the daily ap, all on with the history, random entries from -2 to 3, but 15 at 1 below 72.5 km, where any other
+// is refused.
 const KINDS: [&str; 3] = ["all on", "all on, 9 at -1", "random"];
 
 // One record with a row of a kind, and a column within 10 km of its altitude.
@@ -33,6 +34,9 @@ fn case(g: &mut Random, alt: f64, kind: usize) -> Case {
         0 => (),
         1 => row[9] = -1,
         _ => row.iter_mut().for_each(|x| *x = g.below(6) as i32 - 2),
+    }
+    if alt < 72.5 {
+        row[15] = 1;
     }
     let history = std::array::from_fn(|_| g.between(0.0, 200.0));
     let input = Input {
