@@ -29,7 +29,7 @@ extern "C" {
      3 at the lowest field that is out of range;
      10 at 3, an altitude below 72.5 km where switch 15 is not 1.
    A field that the switches shut off must still be finite and in range: write 0. An accepted row can hold NaN: at exactly 32.5 km, and with
-   extreme fluxes. */
+   extreme fluxes or an entry 9 of the switches far from -1, 0 and 1. */
 uint64_t potirehu_gtd7(int32_t year, int32_t doy, const double *fields, size_t n_fields, const double *ap_array, size_t n_ap,
                        const int32_t *switches, size_t n_switches, double *row, size_t n_row);
 
