@@ -1,8 +1,7 @@
 -- `row_of` meets its contract.
-use mathlib.Core.Path.{sym, subst}
-use lib.Ieee.{eq}
-use Rattle.numbers.specs.Literals.{0·0}
-use Rattle.atmosphere.specs.Atmosphere.{elevenOf}
+use mathlib.Core.Path.{ap, _∙_}
+use Rattle.parameters.specs.declared.Parameters.{Parameters}
+use Rattle.atmosphere.specs.Atmosphere.{elevenWith, elevenOf}
 use Rattle.atmosphere.proofs.Laws.{present-mass}
 use borrow.Author.Needs.{needs}
 use Rattle.atmosphere.proofs.row_of.Statement.{statement}
@@ -13,7 +12,9 @@ row-with-requires c κs = (search needs, (rw (← c .before .present .ensures) a
 
 returns : tie.Need-returns
 unfolding elevenOf
-returns c = (rw (c .before .before .before .before .present .ensures) at c .before .before .row-with .ensures)
+returns c =
+    let A = c .before .before .before .before .before .before .args in
+    c .before .before .row-with .ensures ∙ ap (λ (k : Parameters). elevenWith k (A .w) (A .n)) (c .before .before .before .before .present .ensures)
 
 pub row-of-spec : {M : Type 1} → statement M
 row-of-spec = tie.close (tie.spec (λ c κs. search needs) row-with-requires (λ c. search needs) returns)

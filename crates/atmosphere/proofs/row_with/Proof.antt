@@ -10,8 +10,8 @@ levels-of-requires c κs = shared _ _ _ (c .before .before .before .view-of .ens
 
 row-at-requires : tie.Need-row-at-requires
 row-at-requires c κs =
-    let at = c .before .before in
-    (search needs, site-mass _ _ _ _ _ _ (at .site-with .ensures) (at .before .before .before .pre .1))
+    let at = c .before .before .before in
+    (search needs, site-mass _ _ _ _ _ _ (at .site-with .ensures) (at .before .before .before .before .pre .1))
 
 returns : tie.Need-returns
 returns c =

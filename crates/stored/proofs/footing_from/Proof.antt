@@ -6,7 +6,7 @@ use Rattle.stored.proofs.footing_from.Tie as tie
 
 returns : tie.Need-returns
 unfolding footingIn
-returns c = simp (c .before .before .before .before .before .before .before .before .before .before .before .before .before .before .before .before .present .ensures, c .before .before .before .before .before .before .before .before .before .before .before .before .before .before .before .before .before .before .span-from2 .ensures, c .before .before .before .before .before .before .before .before .before .before .before .before .before .before .before .before .before .before .before .before .span-from .ensures)
+returns c = simp (c .before .before .before .before .before .before .before .before .before .before .before .before .before .before .before .before .before .present .ensures, c .before .before .before .before .before .before .before .before .before .before .before .before .before .before .before .before .before .before .span-from2 .ensures, c .before .before .before .before .before .before .before .before .before .before .before .before .before .before .before .before .before .before .before .before .span-from .ensures)
 
 pub footing-from-spec : {M : Type 1} → statement M
 footing-from-spec =

@@ -1,0 +1,54 @@
+-- The second one-altitude call's outcomes, and what an accepted one has.
+use Prim.Native.Nat.{ℕ, _*_, _<_}
+use mathlib.Core.Path.{_≡_, refl, sym, ap, _∙_, subst}
+use mathlib.Core.Bool.{Bool, true, false, cond, not, _&&_, false≢true}
+use mathlib.Core.List.{List}
+use native.Mathlib.Nat.{lt-irrefl}
+use borrow.Author.Tests.{eqb-true, ne-eqb, ltb-true}
+use lib.Dec.{eqb}
+use lib.IntN.{ℤ}
+use lib.ListN.{length}
+use lib.Ieee.{Float, nan, inf, fin, up, down, lt, eq, ofBits}
+use Rattle.numbers.specs.Literals.{0·0}
+use Rattle.parameters.specs.declared.Parameters.{Parameters}
+use Rattle.setting.specs.declared.Input.{Input}
+use Rattle.acceptance.specs.declared.Answer.{Answer}
+use Rattle.acceptance.specs.declared.Answer.the-variants.{Accepted, Refused}
+use Rattle.acceptance.specs.Acceptance.{judgedOf, acceptedOf}
+use Rattle.parameter_answer.specs.ParameterAnswer.{firstUnfit, oneOfNine, answerWith}
+use Rattle.parameter_answer.specs.Theorems.{accepted-fit}
+use Rattle.atmosphere.specs.Atmosphere.{elevenWith}
+use Rattle.varied_constants.specs.VariedConstants.{rowWith}
+
+length-passed : (a b : Bool) (k : ℕ) (r : Answer) → acceptedOf (cond a (Refused 16 k) (cond (not b) (Refused 4 11) r)) ≡ true → b ≡ true
+length-passed true b k r e = absurd (false≢true e)
+length-passed false true k r e = refl
+length-passed false false k r e = absurd (false≢true e)
+
+-- numbers of which one is less differ
+apart : (a b : ℕ) → a < b → (eqb b a && true) ≡ false
+apart a b h = ap (λ (t : Bool). t && true) (ne-eqb b a (λ e. lt-irrefl (subst (λ (k : ℕ). a < k) e h)))
+
+-- what lies above 0 is not 0
+above-zero : (x : Float) → lt 0·0 x ≡ true → eq x 0·0 ≡ false
+unfolding lt eq ofBits
+above-zero nan e = refl
+above-zero (inf s) e = refl
+above-zero (fin true m e) h = absurd (false≢true h)
+above-zero (fin false m e) h = apart _ _ (ltb-true _ _ h)
+
+module _ (c : Parameters) (w : List ℤ) (n : Input) where
+  pub length-with : (len : ℕ) → acceptedOf (answerWith c w n len) ≡ true → len ≡ 11
+  unfolding answerWith
+  length-with len h = eqb-true len 11 (length-passed (oneOfNine (firstUnfit c)) (eqb len 11) (firstUnfit c) _ h)
+
+  pub mass-with : (len : ℕ) → acceptedOf (answerWith c w n len) ≡ true → eq (c .xmm) 0·0 ≡ false
+  mass-with len h = above-zero (c .xmm) ((accepted-fit c w n len h) .xmm .1)
+
+  pub row-kept : (xs : List Float) → acceptedOf (answerWith c w n (length xs)) ≡ false → xs ≡ rowWith c w n xs
+  unfolding rowWith
+  row-kept xs h = simp h
+
+  pub row-written : (xs : List Float) → acceptedOf (answerWith c w n (length xs)) ≡ true → elevenWith c w n ≡ rowWith c w n xs
+  unfolding rowWith
+  row-written xs h = simp h
