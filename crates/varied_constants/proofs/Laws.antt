@@ -27,15 +27,19 @@ length-passed false false k r e = absurd (false≢true e)
 
 -- numbers of which one is less differ
 apart : (a b : ℕ) → a < b → (eqb b a && true) ≡ false
-apart a b h = ap (λ (t : Bool). t && true) (ne-eqb b a (λ e. lt-irrefl (subst (λ (k : ℕ). a < k) e h)))
+apart a b h = ap (λ (t : Bool). t && true) (ne-eqb b a (λ e. lt-irrefl a (subst (λ (k : ℕ). a < k) e h)))
 
--- what lies above 0 is not 0
+-- what lies above a number that is not negative is not that number
+above : (x : Float) (n : ℕ) (d : ℤ) → lt (fin false n d) x ≡ true → eq x (fin false n d) ≡ false
+unfolding lt eq
+above nan n d h = refl
+above (inf s) n d h = refl
+above (fin true m e) n d h = absurd (false≢true h)
+above (fin false m e) n d h = apart (n * up d * down e) (m * up e * down d) (ltb-true (n * up d * down e) (m * up e * down d) h)
+
 above-zero : (x : Float) → lt 0·0 x ≡ true → eq x 0·0 ≡ false
-unfolding lt eq ofBits
-above-zero nan e = refl
-above-zero (inf s) e = refl
-above-zero (fin true m e) h = absurd (false≢true h)
-above-zero (fin false m e) h = apart _ _ (ltb-true _ _ h)
+unfolding ofBits
+above-zero x h = above x _ _ h
 
 module _ (c : Parameters) (w : List ℤ) (n : Input) where
   pub length-with : (len : ℕ) → acceptedOf (answerWith c w n len) ≡ true → len ≡ 11

@@ -14,6 +14,7 @@ use Rattle.parameters.specs.declared.Parameters.{Parameters}
 use Rattle.tables.specs.Tables.{pdmT2}
 use Rattle.setting.specs.declared.Input.{Input}
 use Rattle.setting.specs.declared.State.{State}
+use Rattle.setting.specs.Switches.{given, isOne}
 use Rattle.acceptance.specs.declared.Answer.{Answer}
 use Rattle.acceptance.specs.declared.Answer.the-variants.{Accepted, Refused}
 use Rattle.acceptance.specs.Acceptance.{judgedOf, acceptedOf}
@@ -54,7 +55,7 @@ judged-with false false (Refused m p) u k e = absurd (false≢true (ap acceptedO
 
 judged : (c : Parameters) (w : List ℤ) (n : Input) (len : ℕ) → answerWith c w n len ≡ Accepted → judgedOf w n ≡ Accepted
 unfolding answerWith
-judged c w n len e = judged-with (oneOfNine (firstUnfit c)) (not (eqb len 11)) (judgedOf w n) _ (firstUnfit c) e
+judged c w n len e = judged-with (oneOfNine (firstUnfit c)) (not (eqb len 11)) (judgedOf w n) (unmixedWith c (isOne (given w 15)) (n .alt)) (firstUnfit c) e
 
 -- Demand 3, 'when both runs have the same nine'
 pub demand-3-with : (c : Parameters) (w : List ℤ) (a b : Input) (xs ys : List Float)
