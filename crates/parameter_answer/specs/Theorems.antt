@@ -1,10 +1,10 @@
 -- What the answer of the second one-altitude call means for its nine constants.
 use Prim.Native.Nat.{ℕ, _*_, _≤_}
-use mathlib.Core.Path.{_≡_, refl}
+use mathlib.Core.Path.{_≡_, refl, ap}
 use mathlib.Core.Bool.{Bool, true, false, cond, not, _&&_, _||_, true≢false, false≢true}
 use mathlib.Core.List.{List, [], _∷_}
 use native.Mathlib.Nat.{le-antisymm}
-use borrow.Author.Tests.{ltb-false, eq-eqb}
+use borrow.Author.Tests.{ltb-false, eqb-true, eq-eqb, not-false}
 use lib.Dec.{eqb, ltb}
 use lib.IntN.{ℤ}
 use lib.Ieee.{Float, nan, inf, fin, up, down, lt, le, eq, ofBits}
@@ -46,12 +46,12 @@ present-answer w n len = rw (present-fit, present-unmixed (isOne (given w 15)) (
 -- each test in turn, none of which fits
 passed : (a b : Bool) (j : Answer) (u : Bool) (k : ℕ)
     → acceptedOf (cond a (Refused 16 k) (cond b (Refused 4 11) (cond (not (acceptedOf j)) j (cond u (Refused 10 3) Accepted)))) ≡ true
-    → (a ≡ false) × (u ≡ false)
+    → (a ≡ false) × (b ≡ false) × (j ≡ Accepted) × (u ≡ false)
 passed true b j u k h = absurd (false≢true h)
 passed false true j u k h = absurd (false≢true h)
 passed false false (Refused m p) u k h = absurd (false≢true h)
 passed false false Accepted true k h = absurd (false≢true h)
-passed false false Accepted false k h = (refl, refl)
+passed false false Accepted false k h = (refl, refl, refl, refl)
 
 -- a constant is fit: finite and above 0
 abbrev pub Fit : Float → Type 0
@@ -72,6 +72,7 @@ pub record FitNine (c : Parameters) : Type 0 where
 
 nine : (a b c d e f g h i : Bool) → ltb (lowest 1 (a ∷ b ∷ c ∷ d ∷ e ∷ f ∷ g ∷ h ∷ i ∷ []) 10) 10 ≡ false
     → (a ≡ false) × (b ≡ false) × (c ≡ false) × (d ≡ false) × (e ≡ false) × (f ≡ false) × (g ≡ false) × (h ≡ false) × (i ≡ false)
+    × (lowest 1 (a ∷ b ∷ c ∷ d ∷ e ∷ f ∷ g ∷ h ∷ i ∷ []) 10 ≡ 10)
 nine true b c d e f g h i t = absurd (true≢false t)
 nine false true c d e f g h i t = absurd (true≢false t)
 nine false false true d e f g h i t = absurd (true≢false t)
@@ -81,7 +82,7 @@ nine false false false false false true g h i t = absurd (true≢false t)
 nine false false false false false false true h i t = absurd (true≢false t)
 nine false false false false false false false true i t = absurd (true≢false t)
 nine false false false false false false false false true t = absurd (true≢false t)
-nine false false false false false false false false false t = (refl, refl, refl, refl, refl, refl, refl, refl, refl)
+nine false false false false false false false false false t = (refl, refl, refl, refl, refl, refl, refl, refl, refl, refl)
 
 both : (p q : Bool) → (not p || not q) ≡ false → (p ≡ true) × (q ≡ true)
 both true true t = (refl, refl)
@@ -96,24 +97,30 @@ fit : (x : Float) → unfitValue x ≡ false → Fit x
 unfolding unfitValue
 fit x t = both (finiteOf x) (lt 0·0 x) t
 
-fit-nine : (c : Parameters) → oneOfNine (firstUnfit c) ≡ false → FitNine c
-unfolding oneOfNine firstUnfit
-fit-nine c t =
-    let k = nine (unfitValue (c .rgas)) (unfitValue (c .xmm) || ofSpecies (c .xmm)) (unfitValue (c .he)) (unfitValue (c .o)) (unfitValue (c .n2))
-    (unfitValue (c .o2)) (unfitValue (c .ar)) (unfitValue (c .h)) (unfitValue (c .n)) t in
-    let m = neither (unfitValue (c .xmm)) (ofSpecies (c .xmm)) (k .1) in
-    record {
-      rgas = fit (c .rgas) (k .0);
-      xmm = fit (c .xmm) (m .0);
-      own = m .1;
-      he = fit (c .he) (k .2);
-      o = fit (c .o) (k .3);
-      n2 = fit (c .n2) (k .4);
-      o2 = fit (c .o2) (k .5);
-      ar = fit (c .ar) (k .6);
-      h = fit (c .h) (k .7);
-      n = fit (c .n) (k .8);
-    }
+module _ (c : Parameters) (t : oneOfNine (firstUnfit c) ≡ false) where
+  tested : (unfitValue (c .rgas) ≡ false) × ((unfitValue (c .xmm) || ofSpecies (c .xmm)) ≡ false) × (unfitValue (c .he) ≡ false)
+      × (unfitValue (c .o) ≡ false) × (unfitValue (c .n2) ≡ false) × (unfitValue (c .o2) ≡ false) × (unfitValue (c .ar) ≡ false)
+      × (unfitValue (c .h) ≡ false) × (unfitValue (c .n) ≡ false) × (firstUnfit c ≡ 10)
+  unfolding oneOfNine firstUnfit
+  tested =
+      nine (unfitValue (c .rgas)) (unfitValue (c .xmm) || ofSpecies (c .xmm)) (unfitValue (c .he)) (unfitValue (c .o)) (unfitValue (c .n2))
+      (unfitValue (c .o2)) (unfitValue (c .ar)) (unfitValue (c .h)) (unfitValue (c .n)) t
+
+  fit-nine : FitNine c
+  fit-nine =
+      let m = neither (unfitValue (c .xmm)) (ofSpecies (c .xmm)) (tested .1) in
+      record {
+        rgas = fit (c .rgas) (tested .0);
+        xmm = fit (c .xmm) (m .0);
+        own = m .1;
+        he = fit (c .he) (tested .2);
+        o = fit (c .o) (tested .3);
+        n2 = fit (c .n2) (tested .4);
+        o2 = fit (c .o2) (tested .5);
+        ar = fit (c .ar) (tested .6);
+        h = fit (c .h) (tested .7);
+        n = fit (c .n) (tested .8);
+      }
 
 -- a positive number that is not below another is at or above it
 upto : (a b : ℕ) (t : Bool) → ltb b a ≡ t → b ≤ a → (t || (eqb b a && true)) ≡ true
@@ -136,17 +143,30 @@ mixed true true c e t = (refl, t)
 mixed true false c e t = absurd (true≢false t)
 mixed false b c e t = absurd (false≢true e)
 
-module _ (c : Parameters) (w : List ℤ) (n : Input) (len : ℕ) (h : acceptedOf (answerWith c w n len) ≡ true) where
-  -- the nine are fit
-  pub accepted-fit : FitNine c
+module _ (c : Parameters) (w : List ℤ) (n : Input) (len : ℕ) (e : answerWith c w n len ≡ Accepted) where
+  parts : (oneOfNine (firstUnfit c) ≡ false) × (not (eqb len 11) ≡ false) × (judgedOf w n ≡ Accepted) × (unmixedWith c (isOne (given w 15)) (n .alt) ≡ false)
   unfolding answerWith
-  accepted-fit =
-      fit-nine c (passed (oneOfNine (firstUnfit c)) (not (eqb len 11)) (judgedOf w n) (unmixedWith c (isOne (given w 15)) (n .alt)) (firstUnfit c) h .0)
+  parts =
+      passed (oneOfNine (firstUnfit c)) (not (eqb len 11)) (judgedOf w n) (unmixedWith c (isOne (given w 15)) (n .alt)) (firstUnfit c)
+      (ap acceptedOf e)
+
+  -- none of the nine is unfit: each is finite and above 0, and mixed air has no species' mass
+  pub accepted-ten : firstUnfit c ≡ 10
+  accepted-ten = tested c (parts .0) .9
+
+  pub accepted-fit : FitNine c
+  accepted-fit = fit-nine c (parts .0)
+
+  -- the row has eleven numbers, and the record meets none of 2, 1 and 3
+  pub accepted-length : len ≡ 11
+  accepted-length = eqb-true len 11 (not-false (eqb len 11) (parts .1))
+
+  pub accepted-judged : judgedOf w n ≡ Accepted
+  accepted-judged = parts .2
 
   -- below 72.5 km switch 15 is 1, and N2 is mixed as far as 72.5 km at least
   pub accepted-low : lt (n .alt) 72·5 ≡ true → (isOne (given w 15) ≡ true) × (le 72·5 (c .n2) ≡ true)
-  unfolding answerWith unmixedWith
+  unfolding unmixedWith
   accepted-low low =
-      let u = passed (oneOfNine (firstUnfit c)) (not (eqb len 11)) (judgedOf w n) (unmixedWith c (isOne (given w 15)) (n .alt)) (firstUnfit c) h .1 in
-      let k = mixed (lt (n .alt) 72·5) (isOne (given w 15)) (lt (c .n2) 72·5) low u in
+      let k = mixed (lt (n .alt) 72·5) (isOne (given w 15)) (lt (c .n2) 72·5) low (parts .3) in
       (k .0, at-72·5 (c .n2) (accepted-fit .n2) (k .1))
