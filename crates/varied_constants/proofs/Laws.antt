@@ -1,10 +1,10 @@
 -- The second one-altitude call's outcomes, and what an accepted one has.
 use Prim.Native.Nat.{ℕ, _*_, _<_}
-use mathlib.Core.Path.{_≡_, refl, sym, ap, _∙_, subst}
-use mathlib.Core.Bool.{Bool, true, false, cond, not, _&&_, false≢true}
+use mathlib.Core.Path.{_≡_, refl, ap, subst}
+use mathlib.Core.Bool.{Bool, true, false, _&&_, false≢true}
 use mathlib.Core.List.{List}
 use native.Mathlib.Nat.{lt-irrefl}
-use borrow.Author.Tests.{eqb-true, ne-eqb, ltb-true}
+use borrow.Author.Tests.{ne-eqb, ltb-true}
 use lib.Dec.{eqb}
 use lib.IntN.{ℤ}
 use lib.ListN.{length}
@@ -14,16 +14,15 @@ use Rattle.parameters.specs.declared.Parameters.{Parameters}
 use Rattle.setting.specs.declared.Input.{Input}
 use Rattle.acceptance.specs.declared.Answer.{Answer}
 use Rattle.acceptance.specs.declared.Answer.the-variants.{Accepted, Refused}
-use Rattle.acceptance.specs.Acceptance.{judgedOf, acceptedOf}
-use Rattle.parameter_answer.specs.ParameterAnswer.{firstUnfit, oneOfNine, answerWith}
-use Rattle.parameter_answer.specs.Theorems.{accepted-fit}
+use Rattle.acceptance.specs.Acceptance.{acceptedOf}
+use Rattle.parameter_answer.specs.ParameterAnswer.{answerWith}
+use Rattle.parameter_answer.specs.Theorems.{accepted-fit, accepted-length}
 use Rattle.atmosphere.specs.Atmosphere.{elevenWith}
 use Rattle.varied_constants.specs.VariedConstants.{rowWith}
 
-length-passed : (a b : Bool) (k : ℕ) (r : Answer) → acceptedOf (cond a (Refused 16 k) (cond (not b) (Refused 4 11) r)) ≡ true → b ≡ true
-length-passed true b k r e = absurd (false≢true e)
-length-passed false true k r e = refl
-length-passed false false k r e = absurd (false≢true e)
+is-accepted : (a : Answer) → acceptedOf a ≡ true → a ≡ Accepted
+is-accepted Accepted e = refl
+is-accepted (Refused n k) e = absurd (false≢true e)
 
 -- numbers of which one is less differ
 apart : (a b : ℕ) → a < b → (eqb b a && true) ≡ false
@@ -43,11 +42,10 @@ above-zero x h = above x _ _ h
 
 module _ (c : Parameters) (w : List ℤ) (n : Input) where
   pub length-with : (len : ℕ) → acceptedOf (answerWith c w n len) ≡ true → len ≡ 11
-  unfolding answerWith
-  length-with len h = eqb-true len 11 (length-passed (oneOfNine (firstUnfit c)) (eqb len 11) (firstUnfit c) _ h)
+  length-with len h = accepted-length c w n len (is-accepted _ h)
 
   pub mass-with : (len : ℕ) → acceptedOf (answerWith c w n len) ≡ true → eq (c .xmm) 0·0 ≡ false
-  mass-with len h = above-zero (c .xmm) ((accepted-fit c w n len h) .xmm .1)
+  mass-with len h = above-zero (c .xmm) ((accepted-fit c w n len (is-accepted _ h)) .xmm .1)
 
   pub row-kept : (xs : List Float) → acceptedOf (answerWith c w n (length xs)) ≡ false → xs ≡ rowWith c w n xs
   unfolding rowWith

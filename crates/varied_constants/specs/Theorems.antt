@@ -1,9 +1,8 @@
 -- What users of the second one-altitude call rely on.
 use Prim.Native.Nat.{ℕ}
 use mathlib.Core.Path.{_≡_, refl, sym, ap, _∙_}
-use mathlib.Core.Bool.{Bool, true, false, cond, not, false≢true}
+use mathlib.Core.Bool.{true, cond}
 use mathlib.Core.List.{List}
-use lib.Dec.{eqb}
 use lib.IntN.{ℤ}
 use lib.ListN.{length}
 use lib.Ieee.{Float, lt}
@@ -13,13 +12,11 @@ use Rattle.parameters.specs.Parameters.{presentOf}
 use Rattle.parameters.specs.declared.Parameters.{Parameters}
 use Rattle.tables.specs.Tables.{pdmT2}
 use Rattle.setting.specs.declared.Input.{Input}
-use Rattle.setting.specs.declared.State.{State}
-use Rattle.setting.specs.Switches.{given, isOne}
 use Rattle.acceptance.specs.declared.Answer.{Answer}
-use Rattle.acceptance.specs.declared.Answer.the-variants.{Accepted, Refused}
-use Rattle.acceptance.specs.Acceptance.{judgedOf, acceptedOf}
-use Rattle.parameter_answer.specs.ParameterAnswer.{firstUnfit, oneOfNine, unmixedWith, answerWith}
-use Rattle.parameter_answer.specs.Theorems.{present-answer, accepted-low}
+use Rattle.acceptance.specs.declared.Answer.the-variants.{Accepted}
+use Rattle.acceptance.specs.Acceptance.{acceptedOf}
+use Rattle.parameter_answer.specs.ParameterAnswer.{answerWith}
+use Rattle.parameter_answer.specs.Theorems.{present-answer, accepted-judged, accepted-low}
 use Rattle.atmosphere.specs.Atmosphere.{elevenWith, elevenOf, leftWith, answerOf, rowAfter}
 use Rattle.model_state.specs.Left.{marked-below}
 use Rattle.shutoff.specs.Shut.{Alike}
@@ -45,18 +42,6 @@ pub written-with : (c : Parameters) (w : List ℤ) (n : Input) (xs : List Float)
 unfolding rowWith
 written-with c w n xs e = ap (λ (a : Answer). cond (acceptedOf a) (elevenWith c w n) xs) e
 
--- the record of an accepted run passed its own checks
-judged-with : (a b : Bool) (j : Answer) (u : Bool) (k : ℕ)
-    → cond a (Refused 16 k) (cond b (Refused 4 11) (cond (not (acceptedOf j)) j (cond u (Refused 10 3) Accepted))) ≡ Accepted → j ≡ Accepted
-judged-with true b j u k e = absurd (false≢true (ap acceptedOf e))
-judged-with false true j u k e = absurd (false≢true (ap acceptedOf e))
-judged-with false false Accepted u k e = refl
-judged-with false false (Refused m p) u k e = absurd (false≢true (ap acceptedOf e))
-
-judged : (c : Parameters) (w : List ℤ) (n : Input) (len : ℕ) → answerWith c w n len ≡ Accepted → judgedOf w n ≡ Accepted
-unfolding answerWith
-judged c w n len e = judged-with (oneOfNine (firstUnfit c)) (not (eqb len 11)) (judgedOf w n) (unmixedWith c (isOne (given w 15)) (n .alt)) (firstUnfit c) e
-
 -- Demand 3, 'when both runs have the same nine'
 pub demand-3-with : (c : Parameters) (w : List ℤ) (a b : Input) (xs ys : List Float)
     → Alike w a b
@@ -66,8 +51,8 @@ pub demand-3-with : (c : Parameters) (w : List ℤ) (a b : Input) (xs ys : List 
 demand-3-with c w a b xs ys like e f =
     let p = written-with c w a xs e in
     let q = written-with c w b ys f in
-    (p ∙ eleven-with≡ c w a b like (known w a (judged c w a (length xs) e)) (known w b (judged c w b (length ys) f)) ∙ sym q, p, q)
+    (p ∙ eleven-with≡ c w a b like (known w a (accepted-judged c w a (length xs) e)) (known w b (accepted-judged c w b (length ys) f)) ∙ sym q, p, q)
 
 -- In every accepted run below 72.5 km the mark beside dm28 (W-207) is true at the end
 pub mixed-with : (c : Parameters) (w : List ℤ) (n : Input) (len : ℕ) → answerWith c w n len ≡ Accepted → lt (n .alt) 72·5 ≡ true → (leftWith c w n) .«dm28_set» ≡ true
-mixed-with c w n len e low = let k = accepted-low c w n len (ap acceptedOf e) low in marked-below c w n (k .0) (k .1) low
+mixed-with c w n len e low = let k = accepted-low c w n len e low in marked-below c w n (k .0) (k .1) low
