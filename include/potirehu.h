@@ -1,5 +1,5 @@
-/* What libhost.a offers: NRLMSISE-00 at one altitude, also for drag, at a column of altitudes, where its density passes a level, in bands of switch rows, and from a
-   prepared station, two boards' logs held against each other, and the elementary functions it is built on. Nothing is kept between calls; only memcpy and memset are needed from
+/* What libhost.a offers: NRLMSISE-00 at one altitude, also for drag and with constants of the caller's, at a column of altitudes, where its density passes a level, in bands of
+   switch rows, and from a prepared station, two boards' logs held against each other, and the elementary functions it is built on. Nothing is kept between calls; only memcpy and memset are needed from
    outside. docs/RULES.md has every rule. */
 #ifndef POTIREHU_H
 #define POTIREHU_H
@@ -55,6 +55,18 @@ uint64_t potirehu_crossings(int32_t year, int32_t doy, const double *fields, siz
    Answers, refusals and the other ten numbers are those of potirehu_gtd7. */
 uint64_t potirehu_gtd7d(int32_t year, int32_t doy, const double *fields, size_t n_fields, const double *ap_array, size_t n_ap,
                         const int32_t *switches, size_t n_switches, double *row, size_t n_row);
+
+/* potirehu_gtd7 with nine constants of the caller's in place of the model's own, for research: nine has the gas constant (831.4), the mass of mixed
+   air (28.95), and the altitudes in km as far as which gts7 mixes He (200), O (300), N2 (160), O2 (250), Ar (240), H (320) and N (450). With the
+   values in brackets, the present ones, answer and row are those of potirehu_gtd7. Refused:
+     4 at 9, nine of another length;
+     16 at its position from 1, the first of the nine that is NaN, infinite or not above 0, or a mass of mixed air of 1, 4, 14, 16, 28, 32 or 40,
+       a species' own; before every check that follows;
+     then as potirehu_gtd7, 4 for the row first; 10 at 3, for an altitude below 72.5 km, also where the N2 altitude is below 72.5.
+   Constants far from the present ones can give NaN and infinities where those give numbers. */
+#define POTIREHU_NINE 9
+uint64_t potirehu_gtd7_with(const double *nine, size_t n_nine, int32_t year, int32_t doy, const double *fields, size_t n_fields,
+                            const double *ap_array, size_t n_ap, const int32_t *switches, size_t n_switches, double *row, size_t n_row);
 
 /* A prepared station is a record and a switch row with the values stored that do not depend on the altitude: two arrays of the caller's, of these
    lengths. What they hold is the library's own; they may be copied and moved, and need not be given back. An altitude asked of it works out no

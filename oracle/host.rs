@@ -64,6 +64,24 @@ extern "C" {
 }
 
 extern "C" {
+    #[allow(dead_code)]
+    fn potirehu_gtd7_with(
+        nine: *const f64,
+        n_nine: usize,
+        year: i32,
+        doy: i32,
+        fields: *const f64,
+        n_fields: usize,
+        ap_array: *const f64,
+        n_ap: usize,
+        switches: *const i32,
+        n_switches: usize,
+        row: *mut f64,
+        n_row: usize,
+    ) -> u64;
+}
+
+extern "C" {
     fn potirehu_station_gtd7(whole: *const i32, n_whole: usize, numbers: *const f64, n_numbers: usize, alt: f64, row: *mut f64, n_row: usize) -> u64;
     #[allow(dead_code)]
     fn potirehu_station_gtd7d(whole: *const i32, n_whole: usize, numbers: *const f64, n_numbers: usize, alt: f64, row: *mut f64, n_row: usize) -> u64;
@@ -153,6 +171,27 @@ pub fn crossings(year: i32, doy: i32, fields: &[f64], ap: &[f64], w: &[i32], alt
             level,
             list.as_mut_ptr(),
             list.len(),
+        )
+    })
+}
+
+// The one-altitude call with nine constants; the slices as they are handed over, so that they may have any length.
+#[allow(dead_code)]
+pub fn gtd7_with(nine: &[f64], year: i32, doy: i32, fields: &[f64], ap: &[f64], w: &[i32], row: &mut [f64]) -> (u64, u64) {
+    parted(unsafe {
+        potirehu_gtd7_with(
+            nine.as_ptr(),
+            nine.len(),
+            year,
+            doy,
+            fields.as_ptr(),
+            fields.len(),
+            ap.as_ptr(),
+            ap.len(),
+            w.as_ptr(),
+            w.len(),
+            row.as_mut_ptr(),
+            row.len(),
         )
     })
 }

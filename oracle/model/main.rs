@@ -1,6 +1,6 @@
 // Our one-altitude calls, gtd7 and gtd7d, against the Rust: the eleven numbers to the bit, the refusals, pairs under the shut-off list, the 1E-6 rule,
 // the published samples, calls of each elementary function, and time per call. Bands of switch rows, the crossings, the expansions, the line program,
-// prepared stations and the boards' logs stand in files of their own.
+// the call with nine constants, prepared stations and the boards' logs stand in files of their own.
 mod bands;
 mod crossings;
 mod expansions;
@@ -8,6 +8,7 @@ mod expansions;
 mod host;
 mod lines;
 mod logs;
+mod parameters;
 #[path = "../random.rs"]
 mod random;
 mod stations;
@@ -32,6 +33,7 @@ macro_rules! to_copy {
 }
 to_copy!(to_routed, routed);
 to_copy!(to_counted, counted);
+to_copy!(to_varied, varied);
 
 const STATE: usize = routed::astro::atmosphere::shim::STATE;
 
@@ -716,6 +718,8 @@ fn main() {
         Some("bands") => bands::texts(&mut g, count),
         Some("banded") => bands::densities(&mut g, count),
         Some("logs") => logs::logs(&mut g, count),
+        Some("parameters") => parameters::parameters(&mut g, count),
+        Some("parameters-present") => parameters::present(&mut g, count),
         Some("near") => near(&GTD7, &mut g, count, false),
         Some("near-d") => near(&GTD7D, &mut g, count, false),
         Some("near-any") => near(&GTD7, &mut g, count, true),
@@ -736,7 +740,7 @@ fn main() {
             0
         }
         _ => {
-            eprintln!("model differential|gtd7d|lengths|pairs|pairs-fluxes|pairs-lst|pairs-d|states|expansions|raised|columns|crossings|stations|hostile-stations|bands|banded|logs|near|near-d|near-any [SEED] [COUNT], lines|hostile SEED COUNT PROGRAM, forms SEED COUNT INPUT OUTPUT, samples FILE, counts, time");
+            eprintln!("model differential|gtd7d|lengths|pairs|pairs-fluxes|pairs-lst|pairs-d|states|expansions|raised|columns|crossings|stations|hostile-stations|bands|banded|logs|parameters|parameters-present|near|near-d|near-any [SEED] [COUNT], lines|hostile SEED COUNT PROGRAM, forms SEED COUNT INPUT OUTPUT, samples FILE, counts, time");
             std::process::exit(2);
         }
     };

@@ -7,7 +7,8 @@ use borrow.Author.Tests.{eqb-true}
 use lib.Dec.{eqb}
 use lib.IntN.{ℤ}
 use lib.ListN.{length}
-use lib.Ieee.{Float}
+use lib.Ieee.{Float, eq, ofBits}
+use Rattle.numbers.specs.Literals.{0·0}
 use Rattle.setting.specs.declared.Input.{Input}
 use Rattle.setting.specs.declared.View.{View}
 use Rattle.setting.specs.View.{viewOf}
@@ -15,11 +16,13 @@ use Rattle.plan.specs.declared.Levels.{Levels}
 use Rattle.levels.specs.declared.Need.{Need}
 use Rattle.levels.specs.Levels.{needAt, levelsOf}
 use Rattle.upper.specs.declared.Site.{Site}
-use Rattle.upper.specs.Upper.{siteOf}
+use Rattle.parameters.specs.Parameters.{presentOf}
+use Rattle.parameters.specs.declared.Parameters.{Parameters}
+use Rattle.upper.specs.Upper.{HasMass, siteWith}
 use Rattle.acceptance.specs.declared.Answer.{Answer}
 use Rattle.acceptance.specs.declared.Answer.the-variants.{Refused}
 use Rattle.acceptance.specs.Acceptance.{acceptedOf}
-use Rattle.atmosphere.specs.Atmosphere.{elevenFrom, elevenOf, answerOf, rowAfter}
+use Rattle.atmosphere.specs.Atmosphere.{elevenFrom, elevenWith, elevenOf, answerOf, rowAfter}
 use Rattle.atmosphere.specs.Answers.{eleven-told}
 
 -- an accepted answer passed the first test
@@ -43,15 +46,24 @@ pub row-written : (w : List ℤ) (n : Input) (xs : List Float) → acceptedOf (a
 unfolding rowAfter
 row-written w n xs h = simp h
 
-pub row-of-law : (w : List ℤ) (n : Input) (row : List Float) (l : Levels) (a : Need) (x : Site) (v : View)
+pub present-mass : eq (presentOf .xmm) 0·0 ≡ false
+unfolding presentOf eq ofBits
+present-mass = refl
+
+pub site-mass : (c : Parameters) (sw : List Float) (lat doy f107a : Float) (x : Site) → x ≡ siteWith c sw lat doy f107a → eq (c .xmm) 0·0 ≡ false → HasMass x
+unfolding siteWith
+site-mass c sw lat doy f107a x e m = ap (λ (y : Site). eq (y .nine .xmm) 0·0) e ∙ m
+
+pub row-with-law : (c : Parameters) (w : List ℤ) (n : Input) (row : List Float) (l : Levels) (a : Need) (x : Site) (v : View)
     → row ≡ elevenFrom (v .sw) x l (n .alt)
     → l ≡ levelsOf v a
     → a ≡ needAt (n .alt)
-    → x ≡ siteOf (v .sw) (n .«g_lat») (v .doy) (n .f107a)
+    → x ≡ siteWith c (v .sw) (n .«g_lat») (v .doy) (n .f107a)
     → v ≡ viewOf w n
-    → row ≡ elevenOf w n
-unfolding elevenOf
-row-of-law w n row l a x v e0 e1 e2 e3 e4 =
+    → eq (c .xmm) 0·0 ≡ false
+    → row ≡ elevenWith c w n
+unfolding elevenWith
+row-with-law c w n row l a x v e0 e1 e2 e3 e4 m =
     rw (e1, e2) at e0
-    ∙ sym (eleven-told v x (n .alt))
+    ∙ sym (eleven-told v x (n .alt) (site-mass c (v .sw) (n .«g_lat») (v .doy) (n .f107a) x e3 m))
     ∙ rw (e3, e4)

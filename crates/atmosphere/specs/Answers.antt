@@ -21,9 +21,11 @@ use Rattle.plan.specs.Plan.{Plan, done, ask, keep, either, _>>=_, Ask, one-plus
 use Rattle.levels.specs.declared.Need.{Need}
 use Rattle.levels.specs.Levels.{legendreIn, quietOf, activeOf, wideOf, warmOf, lightOf, heavyOf, highIn, highOf, nodesIn, nodesOf, mesoIn, mesoOf, tropoIn, tropoOf, needAt, withHigh, levelsOf}
 use Rattle.levels.specs.Settled.{Settled, fresh-settled, after-settled, globe7-first, globe7-second, glob7s-first, glob7s-second, Kept, kept-done, kept-ask, kept-keep, kept-then, kept-either}
+use Rattle.mixing.specs.declared.limits.Mixed.{Mixed}
 use Rattle.profile.specs.declared.unchecked.Shape.{Shape}
 use Rattle.upper.specs.declared.Site.{Site}
 use Rattle.upper.specs.declared.Upper.{Upper}
+use Rattle.upper.specs.Upper.{HasMass}
 use Rattle.stages.specs.Stages.{tinfPlan, gradientPlan, tlbPlan, nodesPlan, shapePlan, n2Plan, heliumPlan, oxygenPlan, o2Plan, argonPlan, hydrogenPlan, nitrogenPlan, hotPlan, speciesPlan, gts7Plan}
 use Rattle.lower.specs.declared.Meso.{Meso}
 use Rattle.lower.specs.declared.Whole.{Whole}
@@ -199,50 +201,49 @@ module _ (v : View) (n : Need) (hi : n .high ≡ true) where
       (λ s3 h3. kept-then v (given (levelsOf v n)) After3 After3 (nodesPlan (v .sw) z) _ s3 (nodes-kept z e s3 h3)
       (λ s4 h4. kept-done v (given (levelsOf v n)) After3 _ s4 h4))))
 
-  n2-kept : (h : Shape) (z zhf : Float) (s : State) → Settled v s → Kept v (given (levelsOf v n)) (Settled v) (n2Plan (v .sw) h z zhf) s
+  n2-kept : (h : Shape) (on : Bool) (z zhf xmm : Float) (s : State) → Settled v s → Kept v (given (levelsOf v n)) (Settled v) (n2Plan (v .sw) h on z zhf xmm) s
   unfolding n2Plan _>>=_ levelsOf lightOf
-  n2-kept h z zhf s e = expo (Settled v) (v .sw ‼ 21) PD2 _ s e refl refl (sets (sets (sets (kept-done v (given (levelsOf v n)) (Settled v) _ _ (after-settled v pdT2 _ refl)))))
+  n2-kept h on z zhf xmm s e = expo (Settled v) (v .sw ‼ 21) PD2 _ s e refl refl (sets (sets (sets (kept-done v (given (levelsOf v n)) (Settled v) _ _ (after-settled v pdT2 _ refl)))))
 
   -- the State after PD[7]
   abbrev After7 : State → Type 0
   After7 t = t ≡ afterOf v pdT7 freshOf
 
-  module _ (h : Shape) (z b28 flux zhm xmm : Float) where
-    helium-kept : (s : State) → Settled v s → Kept v (given (levelsOf v n)) (Settled v) (heliumPlan (v .sw) h z b28 zhm xmm) s
+  module _ (h : Shape) (on : Bool) (z b28 flux zhm xmm : Float) where
+    helium-kept : (s : State) → Settled v s → Kept v (given (levelsOf v n)) (Settled v) (heliumPlan (v .sw) h on z b28 zhm xmm) s
     unfolding heliumPlan _>>=_ levelsOf lightOf
     helium-kept s e = expo (Settled v) (v .sw ‼ 21) PD0 _ s e refl refl (sets (sets (kept-done v (given (levelsOf v n)) (Settled v) _ _ (after-settled v pdT0 _ refl))))
 
-    oxygen-kept : (s : State) → Settled v s → Kept v (given (levelsOf v n)) (Settled v) (oxygenPlan (v .sw) h z zhm xmm flux) s
+    oxygen-kept : (s : State) → Settled v s → Kept v (given (levelsOf v n)) (Settled v) (oxygenPlan (v .sw) h on z zhm xmm flux) s
     unfolding oxygenPlan _>>=_ levelsOf highOf
     oxygen-kept s e = expo (Settled v) (v .sw ‼ 21) PD1 _ s e refl (needed (n .high) (replicate 4 0·0) highest 0 hi) (sets (sets (kept-done v (given (levelsOf v n)) (Settled v) _ _ (after-settled v pdT1 _ refl))))
 
-    o2-kept : (s : State) → Settled v s → Kept v (given (levelsOf v n)) (Settled v) (o2Plan (v .sw) h z b28 zhm xmm flux) s
+    o2-kept : (s : State) → Settled v s → Kept v (given (levelsOf v n)) (Settled v) (o2Plan (v .sw) h on z b28 zhm xmm flux) s
     unfolding o2Plan _>>=_ levelsOf heavyOf
     o2-kept s e = expo (Settled v) (v .sw ‼ 21) PD4 _ s e refl refl (sets (sets (kept-done v (given (levelsOf v n)) (Settled v) _ _ (after-settled v pdT4 _ refl))))
 
-    argon-kept : (s : State) → Settled v s → Kept v (given (levelsOf v n)) (Settled v) (argonPlan (v .sw) h z b28 zhm xmm) s
+    argon-kept : (s : State) → Settled v s → Kept v (given (levelsOf v n)) (Settled v) (argonPlan (v .sw) h on z b28 zhm xmm) s
     unfolding argonPlan _>>=_ levelsOf heavyOf
     argon-kept s e = expo (Settled v) (v .sw ‼ 21) PD5 _ s e refl refl (sets (sets (kept-done v (given (levelsOf v n)) (Settled v) _ _ (after-settled v pdT5 _ refl))))
 
-    hydrogen-kept : (s : State) → Settled v s → Kept v (given (levelsOf v n)) (Settled v) (hydrogenPlan (v .sw) h z b28 zhm xmm) s
+    hydrogen-kept : (s : State) → Settled v s → Kept v (given (levelsOf v n)) (Settled v) (hydrogenPlan (v .sw) h on z b28 zhm xmm) s
     unfolding hydrogenPlan _>>=_ levelsOf highOf
     hydrogen-kept s e = expo (Settled v) (v .sw ‼ 21) PD6 _ s e refl (needed (n .high) (replicate 4 0·0) highest 1 hi) (sets (sets (kept-done v (given (levelsOf v n)) (Settled v) _ _ (after-settled v pdT6 _ refl))))
 
-    nitrogen-kept : (s : State) → Settled v s → Kept v (given (levelsOf v n)) After7 (nitrogenPlan (v .sw) h z b28 zhm xmm) s
+    nitrogen-kept : (s : State) → Settled v s → Kept v (given (levelsOf v n)) After7 (nitrogenPlan (v .sw) h on z b28 zhm xmm) s
     unfolding nitrogenPlan _>>=_ levelsOf highOf wideOf
     nitrogen-kept s e = expo After7 (v .sw ‼ 21) PD7 _ s e refl (needed (n .high) (replicate 4 0·0) highest 2 hi) (sets (sets (kept-done v (given (levelsOf v n)) After7 _ _ refl)))
 
-  species-kept : (h : Shape) (z b28 flux : Float) (s : State) → Settled v s → Kept v (given (levelsOf v n)) After7 (speciesPlan (v .sw) h z b28 flux) s
+  species-kept : (h : Shape) (m : Mixed) (z b28 flux xmm : Float) (s : State) → Settled v s → Kept v (given (levelsOf v n)) After7 (speciesPlan (v .sw) h m z b28 flux xmm) s
   unfolding speciesPlan
-  species-kept h z b28 flux s e =
+  species-kept h m z b28 flux xmm s e =
       let zhm = pdmT2 ‼ 3 ⊗ pdlT1 ‼ 5 in
-      let xmm = pdmT2 ‼ 4 in
-      kept-then v (given (levelsOf v n)) (Settled v) After7 (heliumPlan (v .sw) h z b28 zhm xmm) _ s (helium-kept h z b28 flux zhm xmm s e)
-      (λ s1 e1. kept-then v (given (levelsOf v n)) (Settled v) After7 (oxygenPlan (v .sw) h z zhm xmm flux) _ s1 (oxygen-kept h z b28 flux zhm xmm s1 e1)
-      (λ s2 e2. kept-then v (given (levelsOf v n)) (Settled v) After7 (o2Plan (v .sw) h z b28 zhm xmm flux) _ s2 (o2-kept h z b28 flux zhm xmm s2 e2)
-      (λ s3 e3. kept-then v (given (levelsOf v n)) (Settled v) After7 (argonPlan (v .sw) h z b28 zhm xmm) _ s3 (argon-kept h z b28 flux zhm xmm s3 e3)
-      (λ s4 e4. kept-then v (given (levelsOf v n)) (Settled v) After7 (hydrogenPlan (v .sw) h z b28 zhm xmm) _ s4 (hydrogen-kept h z b28 flux zhm xmm s4 e4)
-      (λ s5 e5. kept-then v (given (levelsOf v n)) After7 After7 (nitrogenPlan (v .sw) h z b28 zhm xmm) _ s5 (nitrogen-kept h z b28 flux zhm xmm s5 e5)
+      kept-then v (given (levelsOf v n)) (Settled v) After7 (heliumPlan (v .sw) h (m .he) z b28 zhm xmm) _ s (helium-kept h (m .he) z b28 flux zhm xmm s e)
+      (λ s1 e1. kept-then v (given (levelsOf v n)) (Settled v) After7 (oxygenPlan (v .sw) h (m .o) z zhm xmm flux) _ s1 (oxygen-kept h (m .o) z b28 flux zhm xmm s1 e1)
+      (λ s2 e2. kept-then v (given (levelsOf v n)) (Settled v) After7 (o2Plan (v .sw) h (m .o2) z b28 zhm xmm flux) _ s2 (o2-kept h (m .o2) z b28 flux zhm xmm s2 e2)
+      (λ s3 e3. kept-then v (given (levelsOf v n)) (Settled v) After7 (argonPlan (v .sw) h (m .ar) z b28 zhm xmm) _ s3 (argon-kept h (m .ar) z b28 flux zhm xmm s3 e3)
+      (λ s4 e4. kept-then v (given (levelsOf v n)) (Settled v) After7 (hydrogenPlan (v .sw) h (m .h) z b28 zhm xmm) _ s4 (hydrogen-kept h (m .h) z b28 flux zhm xmm s4 e4)
+      (λ s5 e5. kept-then v (given (levelsOf v n)) After7 After7 (nitrogenPlan (v .sw) h (m .n) z b28 zhm xmm) _ s5 (nitrogen-kept h (m .n) z b28 flux zhm xmm s5 e5)
       (λ s6 e6. kept-done v (given (levelsOf v n)) After7 _ s6 e6))))))
 
   -- the State that gtd7 leaves: after PD[7] and PD[8]
@@ -262,8 +263,8 @@ module _ (v : View) (n : Need) (hi : n .high ≡ true) where
   unfolding gts7Plan
   gts7-kept x z c d e =
       kept-then v (given (levelsOf v n)) After3 After8 (shapePlan (v .sw) x z) _ freshOf (shape-kept x z c d e freshOf (fresh-settled v))
-      (λ s1 e1. kept-then v (given (levelsOf v n)) (Settled v) After8 (n2Plan (v .sw) _ z (x .zhf)) _ s1 (n2-kept _ z (x .zhf) s1 (after-settled v pdT3 s1 e1))
-      (λ s2 e2. kept-then v (given (levelsOf v n)) After7 After8 (speciesPlan (v .sw) _ z _ (x .flux)) _ s2 (species-kept _ z _ (x .flux) s2 e2)
+      (λ s1 e1. kept-then v (given (levelsOf v n)) (Settled v) After8 (n2Plan (v .sw) _ _ z (x .zhf) (x .nine .xmm)) _ s1 (n2-kept _ _ z (x .zhf) (x .nine .xmm) s1 (after-settled v pdT3 s1 e1))
+      (λ s2 e2. kept-then v (given (levelsOf v n)) After7 After8 (speciesPlan (v .sw) _ _ z _ (x .flux) (x .nine .xmm)) _ s2 (species-kept _ _ z _ (x .flux) (x .nine .xmm) s2 e2)
       (λ s3 e3. kept-then v (given (levelsOf v n)) After8 After8 (hotPlan (v .sw) _ z) _ s3 (hot-kept _ z s3 e3)
       (λ s4 e4. sets (kept-done v (given (levelsOf v n)) After8 _ s4 e4)))))
 
@@ -359,20 +360,20 @@ eleven-by : (v : View) (n : Need) (x : Site) (alt : Float) → n .high ≡ true 
 unfolding elevenAtOf elevenFrom stepped
 eleven-by v n x alt hi c = ap (λ (r : Ran Whole). r .result .row) (gtd7-runs v n x alt hi c)
 
-eleven-there : (v : View) (n : Need) (x : Site) (alt : Float) (b : Bool) → le 72·5 alt ≡ b → (b ≡ true → n .high ≡ true) → Covers n (needAt alt)
+eleven-there : (v : View) (n : Need) (x : Site) (alt : Float) (b : Bool) → HasMass x → le 72·5 alt ≡ b → (b ≡ true → n .high ≡ true) → Covers n (needAt alt)
     → elevenAtOf v x alt ≡ elevenFrom (v .sw) x (levelsOf v n) alt
 unfolding withHigh
-eleven-there v n x alt true t h c = eleven-by v n x alt (h refl) c
-eleven-there v n x alt false t h c =
+eleven-there v n x alt true gas t h c = eleven-by v n x alt (h refl) c
+eleven-there v n x alt false gas t h c =
     eleven-by v (withHigh n) x alt refl (highest-covers n (needAt alt) c)
-    ∙ sym (eleven-below (v .sw) x (levelsOf v (withHigh n)) alt true _ _ refl refl (λ e. refl) t)
+    ∙ sym (eleven-below (v .sw) x (levelsOf v (withHigh n)) alt true _ _ gas refl refl (λ e. refl) t)
     ∙ ap (λ (f : Footing). rowBelowOf (v .sw ‼ 0) f alt) (sym (footing-same (levelsOf v n) (levelsOf v (withHigh n)) (four-apart v n) (v .sw) x true))
-    ∙ eleven-below (v .sw) x (levelsOf v n) alt true _ _ refl refl (λ e. refl) t
+    ∙ eleven-below (v .sw) x (levelsOf v n) alt true _ _ gas refl refl (λ e. refl) t
 
--- From a fresh State gtd7 gives the eleven numbers that it makes of the Levels that hold what its altitude needs
-pub eleven-covered : (v : View) (n : Need) (x : Site) (alt : Float) → Covers n (needAt alt) → elevenAtOf v x alt ≡ elevenFrom (v .sw) x (levelsOf v n) alt
+-- From a fresh State, the mass of mixed air not being 0, gtd7 gives the eleven numbers that it makes of the Levels that hold what its altitude needs
+pub eleven-covered : (v : View) (n : Need) (x : Site) (alt : Float) → HasMass x → Covers n (needAt alt) → elevenAtOf v x alt ≡ elevenFrom (v .sw) x (levelsOf v n) alt
 unfolding needAt
-eleven-covered v n x alt c = eleven-there v n x alt (le 72·5 alt) refl (c .high) c
+eleven-covered v n x alt gas c = eleven-there v n x alt (le 72·5 alt) gas refl (c .high) c
 
-pub eleven-told : (v : View) (x : Site) (alt : Float) → elevenAtOf v x alt ≡ elevenFrom (v .sw) x (levelsOf v (needAt alt)) alt
-eleven-told v x alt = eleven-covered v (needAt alt) x alt (itself (needAt alt))
+pub eleven-told : (v : View) (x : Site) (alt : Float) → HasMass x → elevenAtOf v x alt ≡ elevenFrom (v .sw) x (levelsOf v (needAt alt)) alt
+eleven-told v x alt gas = eleven-covered v (needAt alt) x alt gas (itself (needAt alt))

@@ -8,6 +8,8 @@ use lib.ListN.{length}
 use lib.Ieee.{Float, lt, le}
 use Rattle.numbers.specs.Arithmetic.{_‼_}
 use Rattle.numbers.specs.Literals.{72·5}
+use Rattle.parameters.specs.Parameters.{presentOf}
+use Rattle.parameters.specs.declared.Parameters.{Parameters}
 use Rattle.setting.specs.declared.Input.{Input}
 use Rattle.setting.specs.declared.State.{State}
 use Rattle.setting.specs.declared.View.{View}
@@ -17,7 +19,7 @@ use Rattle.plan.specs.Fields.{setGravity, setDd}
 use Rattle.plan.specs.Plan.{Plan, done, ask, keep, either, _>>=_, _>>_, run, told, given}
 use Rattle.plan.specs.declared.Levels.{Levels}
 use Rattle.upper.specs.declared.Site.{Site}
-use Rattle.upper.specs.Upper.{siteOf}
+use Rattle.upper.specs.Upper.{siteWith}
 use Rattle.stages.specs.Stages.{gts7Plan}
 use Rattle.lower.specs.declared.Whole.{Whole}
 use Rattle.lower.specs.Lower.{mesoPlan, lowerPlan, aboveOf, belowOf}
@@ -47,17 +49,25 @@ elevenFrom sw x l alt = (told (given l) (gtd7Plan sw x alt)) .row
 unfoldable pub elevenAtOf : View → Site → Float → List Float
 elevenAtOf v x alt = (run v (gtd7Plan (v .sw) x alt) freshOf) .result .row
 
--- the eleven numbers of a record under a switch row
-unfoldable pub elevenOf : List ℤ → Input → List Float
-elevenOf w n =
+-- the eleven numbers of a record under a switch row, with nine constants
+unfoldable pub elevenWith : Parameters → List ℤ → Input → List Float
+elevenWith c w n =
     let v = viewOf w n in
-    elevenAtOf v (siteOf (v .sw) (n .«g_lat») (v .doy) (n .f107a)) (n .alt)
+    elevenAtOf v (siteWith c (v .sw) (n .«g_lat») (v .doy) (n .f107a)) (n .alt)
 
--- the State after gtd7 from a fresh one
-unfoldable pub leftOf : List ℤ → Input → State
-leftOf w n =
+-- the same with the present nine
+unfoldable pub elevenOf : List ℤ → Input → List Float
+elevenOf w n = elevenWith presentOf w n
+
+-- the State after gtd7 from a fresh one, with nine constants
+unfoldable pub leftWith : Parameters → List ℤ → Input → State
+leftWith c w n =
     let v = viewOf w n in
-    (run v (gtd7Plan (v .sw) (siteOf (v .sw) (n .«g_lat») (v .doy) (n .f107a)) (n .alt)) freshOf) .left
+    (run v (gtd7Plan (v .sw) (siteWith c (v .sw) (n .«g_lat») (v .doy) (n .f107a)) (n .alt)) freshOf) .left
+
+-- the same with the present nine
+unfoldable pub leftOf : List ℤ → Input → State
+leftOf w n = leftWith presentOf w n
 
 -- the one-altitude call: 4 for a row that is not of length 11, then what the record meets
 unfoldable pub answerOf : List ℤ → Input → ℕ → Answer

@@ -9,6 +9,7 @@ use Rattle.plan.specs.declared.Levels.{Levels}
 use Rattle.plan.specs.Plan.{Plan, either, told, given, then, last, told-keep}
 use Rattle.upper.specs.declared.Site.{Site}
 use Rattle.upper.specs.declared.Upper.{Upper}
+use Rattle.upper.specs.Upper.{HasMass}
 use Rattle.stages.specs.Stages.{gts7Plan}
 use Rattle.lower.specs.declared.Whole.{Whole}
 use Rattle.lower.specs.declared.Meso.{Meso}
@@ -79,22 +80,24 @@ not-above : (x y : Float) → le x y ≡ false → lt x y ≡ false
 unfolding le
 not-above x y e = neither (lt x y) (eq x y) e
 
--- f is the footing of an altitude, where it lies below 72.5 km; below 32.5 km with the nodes of the troposphere
+-- f is the footing of an altitude, where it lies below 72.5 km, and the mass of mixed air is not 0 there; below 32.5 km with the nodes of the
+-- troposphere
 abbrev pub Founded : List Float → Site → Levels → Footing → Float → Type 0
-Founded sw x l f alt = le 72·5 alt ≡ false → (tropo : Bool) × (f ≡ footingOf sw x l tropo) × (lt alt 32·5 ≡ true → tropo ≡ true)
+Founded sw x l f alt = le 72·5 alt ≡ false → HasMass x × (tropo : Bool) × (f ≡ footingOf sw x l tropo) × (lt alt 32·5 ≡ true → tropo ≡ true)
 
 pub eleven-below : (sw : List Float) (x : Site) (l : Levels) (alt : Float) (tropo : Bool) (f : Footing) (row : List Float)
+    → HasMass x
     → row ≡ rowBelowOf (sw ‼ 0) f alt
     → f ≡ footingOf sw x l tropo
     → (lt alt 32·5 ≡ true → tropo ≡ true)
     → le 72·5 alt ≡ false
     → row ≡ elevenFrom sw x l alt
 unfolding elevenFrom
-eleven-below sw x l alt tropo f row e0 e1 c t =
+eleven-below sw x l alt tropo f row gas e0 e1 c t =
     let u = told (given l) (gts7Plan sw x 72·5) in
     e0
     ∙ ap (λ (g : Footing). rowBelowOf (sw ‼ 0) g alt) e1
-    ∙ row-is sw x l tropo alt c (not-above 72·5 alt t)
+    ∙ row-is sw x l tropo alt gas c (not-above 72·5 alt t)
     ∙ ap (λ (r : Whole). r .row)
     (gtd7-below sw x alt l _ (told (given l) (lowerPlan sw alt (told (given l) (mesoPlan sw u)))) (told (given l) (mesoPlan sw u)) u 72·5 refl refl refl refl
     (sym (ap (λ (b : Bool). cond b alt 72·5) (not-above 72·5 alt t))) t)

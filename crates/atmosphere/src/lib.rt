@@ -1,10 +1,11 @@
 // gtd7 and the one-altitude call.
 ghost use mathlib.Core.Path.{_≡_};
 ghost use lib.ListN.{length};
-ghost use mathlib.Core.Bool.{true};
-ghost use lib.Ieee.{le};
-ghost use Rattle.numbers.specs.Literals.{72·5};
-ghost use Rattle.atmosphere.specs.Atmosphere.{elevenFrom, elevenOf, answerOf, rowAfter};
+ghost use mathlib.Core.Bool.{true, false};
+ghost use lib.Ieee.{le, eq};
+ghost use Rattle.numbers.specs.Literals.{0·0, 72·5};
+ghost use Rattle.upper.specs.Upper.{HasMass};
+ghost use Rattle.atmosphere.specs.Atmosphere.{elevenFrom, elevenWith, elevenOf, answerOf, rowAfter};
 ghost use Rattle.atmosphere.specs.Rows.{Founded};
 use acceptance::Answer;
 use acceptance::accepted;
@@ -15,23 +16,29 @@ use footing::row_below;
 use levels::levels_of;
 use levels::need_at;
 use lower::above;
+use mixing::limits::mixed_at;
+use mixing::limits::some_mixed;
 use numbers::pick;
+use parameters::Parameters;
+use parameters::present;
 use plan::Levels;
 use setting::Input;
 use setting::views::view_of;
 use thermosphere::gts7_stage;
 use unmixed::unmixed_row;
 use upper::Site;
-use upper::site_of;
+use upper::site_with;
 
-// The eleven numbers at or above 72.5 km: gts7's; above 450 km, or where switch 15 is off, nothing is mixed.
+// The eleven numbers at or above 72.5 km: gts7's, by a shorter way where nothing is mixed.
 pub fn row_above(sw: [f64; 24], x: Site, l: Levels, alt: f64) -> [f64; 11]
     requires { ⌜ le 72·5 alt ≡ true ⌝ }
     ensures { λ r. ⌜ r ≡ elevenFrom sw x l alt ⌝ }
 {
     let altt = pick(alt > 72.5, alt, 72.5);
-    if !((sw[15] != 0.0) & (altt <= 450.0)) {
-        return unmixed_row(sw, x, altt, l);
+    let c = x.nine;
+    let m = mixed_at(c, sw[15], altt);
+    if !some_mixed(m) {
+        return unmixed_row(sw, x, m, altt, l);
     }
     let u = gts7_stage(sw, x, altt, l);
     let b = above(u);
@@ -73,24 +80,33 @@ pub fn row_on(sw: [f64; 24], x: Site, l: Levels, f: Footing, alt: f64, out: &mut
 
 // The same for an altitude alone.
 pub fn row_at(sw: [f64; 24], x: Site, l: Levels, alt: f64, out: &mut [f64])
-    requires { ⌜ length (now out) ≡ 11 ⌝ }
+    requires { ⌜ (length (now out) ≡ 11) × HasMass x ⌝ }
     ensures { λ _. ⌜ now (out .exit) ≡ elevenFrom sw x l alt ⌝ }
 {
     let f = footing_where(!(alt >= 72.5), sw, x, l, alt < 32.5);
     row_on(sw, x, l, f, alt, out);
 }
 
-// The row of a record under a switch row.
+// The row of a record under a switch row, with nine constants.
+pub fn row_with(c: Parameters, w: [i32; 24], n: Input, out: &mut [f64])
+    requires { ⌜ (length (now out) ≡ 11) × (eq (c .xmm) 0·0 ≡ false) ⌝ }
+    ensures { λ _. ⌜ now (out .exit) ≡ elevenWith c w n ⌝ }
+{
+    let v = view_of(w, n);
+    let sw = v.sw;
+    let x = site_with(c, sw, n.g_lat, v.doy, n.f107a);
+    let a = need_at(n.alt);
+    let l = levels_of(v, a);
+    row_at(sw, x, l, n.alt, out);
+}
+
+// The same with the present nine.
 pub fn row_of(w: [i32; 24], n: Input, out: &mut [f64])
     requires { ⌜ length (now out) ≡ 11 ⌝ }
     ensures { λ _. ⌜ now (out .exit) ≡ elevenOf w n ⌝ }
 {
-    let v = view_of(w, n);
-    let sw = v.sw;
-    let x = site_of(sw, n.g_lat, v.doy, n.f107a);
-    let a = need_at(n.alt);
-    let l = levels_of(v, a);
-    row_at(sw, x, l, n.alt, out);
+    let c = present();
+    row_with(c, w, n, out);
 }
 
 // The answer to a record and a row of the length len.

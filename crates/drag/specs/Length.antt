@@ -20,7 +20,7 @@ use Rattle.upper.specs.Upper.{siteOf}
 use Rattle.stages.specs.Stages.{gts7Plan}
 use Rattle.lower.specs.declared.Whole.{Whole}
 use Rattle.lower.specs.Lower.{mesoPlan, lowerPlan, aboveOf, belowOf}
-use Rattle.atmosphere.specs.Atmosphere.{gtd7Plan, elevenAtOf, elevenOf}
+use Rattle.atmosphere.specs.Atmosphere.{gtd7Plan, elevenAtOf, elevenWith, elevenOf}
 
 -- a plan whose last part gives eleven numbers, whatever it is handed, gives eleven numbers
 abbrev Long : Ran Whole → Type 0
@@ -62,7 +62,7 @@ gtd7-long v sw x alt =
     (done-long v (belowOf (sw ‼ 0) x alt u w) (below-long (sw ‼ 0) x alt u w)))))))
 
 pub eleven-long : (w : List ℤ) (n : Input) → length (elevenOf w n) ≡ 11
-unfolding elevenOf elevenAtOf
+unfolding elevenOf elevenWith siteOf elevenAtOf
 eleven-long w n =
     let v = viewOf w n in
     gtd7-long v (v .sw) (siteOf (v .sw) (n .«g_lat») (v .doy) (n .f107a)) (n .alt) freshOf

@@ -5,6 +5,8 @@ use mathlib.Core.List.{List, [], _∷_}
 use lib.Ieee.{Float, lt}
 use Rattle.numbers.specs.Arithmetic.{_⊕_, _⊖_, _⊗_, _⊘_, _‼_}
 use Rattle.numbers.specs.Literals.{0·0, 1·0, 32·5, 72·5}
+use Rattle.mixing.specs.Limits.{mixedAt}
+use Rattle.mixing.specs.declared.limits.Mixed.{Mixed}
 use Rattle.profile.specs.declared.unchecked.Shape.{Shape}
 use Rattle.profile.specs.declared.unchecked.Profile.{Profile}
 use Rattle.profile.specs.Profile.{densityIn, temperatureIn}
@@ -29,27 +31,28 @@ use Rattle.footing.specs.Footing.{threeOf, curvesOf, standingOf, footing
 pub third : (m row : List Float) → m ≡ row → m ‼ 2 ≡ row ‼ 2
 third m row e = ap (λ (x : List Float). x ‼ 2) e
 
-pub three-law : (sw : List Float) (h : Shape) (b28 flux : Float) (l : Levels) (ar o2 he : Mixture) (d m : List Float)
-    → ar ≡ told (given l) (argonPlan sw h 72·5 b28 (m ‼ 3 ⊗ d ‼ 5) (m ‼ 4))
-    → o2 ≡ told (given l) (o2Plan sw h 72·5 b28 (m ‼ 3 ⊗ d ‼ 5) (m ‼ 4) flux)
-    → he ≡ told (given l) (heliumPlan sw h 72·5 b28 (m ‼ 3 ⊗ d ‼ 5) (m ‼ 4))
+pub three-law : (sw : List Float) (h : Shape) (k : Mixed) (b28 flux xmm : Float) (l : Levels) (ar o2 he : Mixture) (d m : List Float)
+    → ar ≡ told (given l) (argonPlan sw h (k .ar) 72·5 b28 (m ‼ 3 ⊗ d ‼ 5) xmm)
+    → o2 ≡ told (given l) (o2Plan sw h (k .o2) 72·5 b28 (m ‼ 3 ⊗ d ‼ 5) xmm flux)
+    → he ≡ told (given l) (heliumPlan sw h (k .he) 72·5 b28 (m ‼ 3 ⊗ d ‼ 5) xmm)
     → d ≡ pdlT1
     → m ≡ pdmT2
-    → _≡_ {A = Three} (record { he = he; o2 = o2; ar = ar }) (threeOf sw h b28 flux l)
+    → _≡_ {A = Three} (record { he = he; o2 = o2; ar = ar }) (threeOf sw h k b28 flux xmm l)
 unfolding threeOf
-three-law sw h b28 flux l ar o2 he d m e0 e1 e2 e3 e4 = rw (e0, e1, e2, e3, e4)
+three-law sw h k b28 flux xmm l ar o2 he d m e0 e1 e2 e3 e4 = rw (e0, e1, e2, e3, e4)
 
-pub footing-law : (sw : List Float) (x : Site) (l : Levels) (tropo : Bool) (f : Footing) (k : Curves) (d : Float) (e : Meso) (y : Three) (b : Blend) (h : Shape)
+pub footing-law : (sw : List Float) (x : Site) (l : Levels) (tropo : Bool) (f : Footing) (k : Curves) (d : Float) (e : Meso) (y : Three) (b : Blend) (m : Mixed) (h : Shape)
     → f ≡ standingOf (sw ‼ 0) x h b y d e k
     → k ≡ curvesOf sw x d e l tropo
     → d ≡ dm28mOf (sw ‼ 0) (b .dm)
     → e ≡ told (given l) (mesoNodesPlan sw h)
-    → y ≡ threeOf sw h (b .b) (x .flux) l
-    → b ≡ told (given l) (n2Plan sw h 72·5 (x .zhf))
+    → y ≡ threeOf sw h m (b .b) (x .flux) (x .nine .xmm) l
+    → b ≡ told (given l) (n2Plan sw h (m .n2) 72·5 (x .zhf) (x .nine .xmm))
+    → m ≡ mixedAt (x .nine) (sw ‼ 15) 72·5
     → h ≡ told (given l) (shapePlan sw x 72·5)
     → f ≡ footingOf sw x l tropo
 unfolding footingOf
-footing-law sw x l tropo f k d e y b h e0 e1 e2 e3 e4 e5 e6 = rw (e0, e1, e2, e3, e4, e5, e6)
+footing-law sw x l tropo f k d e y b m h e0 e1 e2 e3 e4 e5 e6 e7 = rw (e0, e1, e2, e3, e4, e5, e6, e7)
 
 -- densm for N2, by the side of 32.5 km on which the altitude lies
 module _ (x : Site) (d : Float) (m : Meso) (k : Curves) (alt : Float) (r : Profile) where

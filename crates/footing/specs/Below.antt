@@ -6,6 +6,8 @@ use mathlib.Core.List.{List}
 use lib.Ieee.{Float, lt, eq, ne, ofBits}
 use Rattle.numbers.specs.Arithmetic.{_⊗_, _‼_}
 use Rattle.numbers.specs.Literals.{0·0, 1·0, 32·5, 72·5}
+use Rattle.mixing.specs.Limits.{mixedAt}
+use Rattle.mixing.specs.declared.limits.Mixed.{Mixed}
 use Rattle.profile.specs.Curve.{layerOf, flooredOf}
 use Rattle.profile.specs.Profile.{densmOf, answerOf, temperatureIn}
 use Rattle.layers.specs.Layers.{spanOf, densm-upper, densm-lower}
@@ -19,7 +21,7 @@ use Rattle.tables.specs.Tables.{pdmT2, pdlT1}
 use Rattle.upper.specs.declared.Site.{Site}
 use Rattle.upper.specs.declared.Six.{Six}
 use Rattle.upper.specs.declared.Upper.{Upper}
-use Rattle.upper.specs.Upper.{anomalousOf, unitsOf, gatherOf}
+use Rattle.upper.specs.Upper.{HasMass, anomalousOf, unitsOf, gatherOf}
 use Rattle.stages.specs.Stages.{shapePlan, n2Plan, heliumPlan, oxygenPlan, o2Plan, argonPlan, hydrogenPlan, nitrogenPlan, hotPlan, speciesPlan, gts7Plan}
 use Rattle.lower.specs.declared.Meso.{Meso}
 use Rattle.lower.specs.declared.Nodes.{Nodes}
@@ -42,11 +44,11 @@ one-of : (b : Bool) (x y : Profile) (s t : Float) → temperatureIn x ≡ s → 
 one-of true x y s t e f = e
 one-of false x y s t e f = f
 
-densm-warmth : (gsurf re alt d0 xm tz : Float) (mn3 : ℕ) (zn3 tn3 tgn3 : List Float) (mn2 : ℕ) (zn2 tn2 tgn2 : List Float)
-    → temperatureIn (densmOf gsurf re alt d0 xm tz mn3 zn3 tn3 tgn3 mn2 zn2 tn2 tgn2)
+densm-warmth : (rgas gsurf re alt d0 xm tz : Float) (mn3 : ℕ) (zn3 tn3 tgn3 : List Float) (mn2 : ℕ) (zn2 tn2 tgn2 : List Float)
+    → temperatureIn (densmOf rgas gsurf re alt d0 xm tz mn3 zn3 tn3 tgn3 mn2 zn2 tn2 tgn2)
     ≡ cond (lt (zn2 ‼ 0) alt) tz (cond (lt (zn3 ‼ 0) alt) ((flooredOf re zn2 tn2 mn2 tgn2 alt) .tz) ((layerOf re zn3 tn3 mn3 tgn3 alt) .tz))
 unfolding densmOf
-densm-warmth gsurf re alt d0 xm tz mn3 zn3 tn3 tgn3 mn2 zn2 tn2 tgn2 =
+densm-warmth rgas gsurf re alt d0 xm tz mn3 zn3 tn3 tgn3 mn2 zn2 tn2 tgn2 =
     one-of (lt (zn2 ‼ 0) alt) _ _ _ _ (answer-warmth xm d0 tz)
     (one-of (lt (zn3 ‼ 0) alt) _ _ _ _ (answer-warmth xm _ _) (answer-warmth xm _ _))
 
@@ -58,8 +60,8 @@ warmth-is : (x : Site) (alt d : Float) (w : Nodes) → temperatureIn (warmthOf x
 unfolding n2Of warmthOf
 warmth-is x alt d w =
     let in-layers = cond (lt (zn3 ‼ 0) alt) ((flooredOf (x .re) zn2 (w .tn2) 4 (w .tgn2) alt) .tz) ((layerOf (x .re) zn3 (w .tn3) 5 (w .tgn3) alt) .tz) in
-    let of-n2 = densm-warmth (x .gsurf) (x .re) alt d (pdmT2 ‼ 4) 0·0 5 zn3 (w .tn3) (w .tgn3) 4 zn2 (w .tn2) (w .tgn2) in
-    densm-warmth (x .gsurf) (x .re) alt 1·0 0·0 _ 5 zn3 (w .tn3) (w .tgn3) 4 zn2 (w .tn2) (w .tgn2)
+    let of-n2 = densm-warmth (x .nine .rgas) (x .gsurf) (x .re) alt d (x .nine .xmm) 0·0 5 zn3 (w .tn3) (w .tgn3) 4 zn2 (w .tn2) (w .tgn2) in
+    densm-warmth (x .nine .rgas) (x .gsurf) (x .re) alt 1·0 0·0 _ 5 zn3 (w .tn3) (w .tgn3) 4 zn2 (w .tn2) (w .tgn2)
     ∙ ap (λ (t : Float). cond (lt (zn2 ‼ 0) alt) t in-layers) of-n2
     ∙ twice (lt (zn2 ‼ 0) alt) 0·0 in-layers
     ∙ sym of-n2
@@ -102,49 +104,43 @@ module _ (sw0 he o n2 o2 ar all h n oh : Float) where
   unfolding inUnitsOf unitsOf
   units-ar = scaled (ne sw0 0·0) _ _ 4
 
-six-is : (sw : List Float) (h : Shape) (z b28 flux : Float) (l : Levels)
+six-is : (sw : List Float) (h : Shape) (m : Mixed) (z b28 flux xmm : Float) (l : Levels)
     → let zhm = pdmT2 ‼ 3 ⊗ pdlT1 ‼ 5 in
-    let xmm = pdmT2 ‼ 4 in
-    told (given l) (speciesPlan sw h z b28 flux)
+    told (given l) (speciesPlan sw h m z b28 flux xmm)
     ≡ record {
-      he = told (given l) (heliumPlan sw h z b28 zhm xmm);
-      o = told (given l) (oxygenPlan sw h z zhm xmm flux);
-      o2 = told (given l) (o2Plan sw h z b28 zhm xmm flux);
-      ar = told (given l) (argonPlan sw h z b28 zhm xmm);
-      h = told (given l) (hydrogenPlan sw h z b28 zhm xmm);
-      n = told (given l) (nitrogenPlan sw h z b28 zhm xmm);
+      he = told (given l) (heliumPlan sw h (m .he) z b28 zhm xmm);
+      o = told (given l) (oxygenPlan sw h (m .o) z zhm xmm flux);
+      o2 = told (given l) (o2Plan sw h (m .o2) z b28 zhm xmm flux);
+      ar = told (given l) (argonPlan sw h (m .ar) z b28 zhm xmm);
+      h = told (given l) (hydrogenPlan sw h (m .h) z b28 zhm xmm);
+      n = told (given l) (nitrogenPlan sw h (m .n) z b28 zhm xmm);
     }
 unfolding speciesPlan
-six-is sw h z b28 flux l =
+six-is sw h m z b28 flux xmm l =
     let zhm = pdmT2 ‼ 3 ⊗ pdlT1 ‼ 5 in
-    let xmm = pdmT2 ‼ 4 in
-    then (given l) (heliumPlan sw h z b28 zhm xmm) _ _ refl
-    ∙ then (given l) (oxygenPlan sw h z zhm xmm flux) _ _ refl
-    ∙ then (given l) (o2Plan sw h z b28 zhm xmm flux) _ _ refl
-    ∙ then (given l) (argonPlan sw h z b28 zhm xmm) _ _ refl
-    ∙ then (given l) (hydrogenPlan sw h z b28 zhm xmm) _ _ refl
-    ∙ then (given l) (nitrogenPlan sw h z b28 zhm xmm) _ _ refl
+    then (given l) (heliumPlan sw h (m .he) z b28 zhm xmm) _ _ refl
+    ∙ then (given l) (oxygenPlan sw h (m .o) z zhm xmm flux) _ _ refl
+    ∙ then (given l) (o2Plan sw h (m .o2) z b28 zhm xmm flux) _ _ refl
+    ∙ then (given l) (argonPlan sw h (m .ar) z b28 zhm xmm) _ _ refl
+    ∙ then (given l) (hydrogenPlan sw h (m .h) z b28 zhm xmm) _ _ refl
+    ∙ then (given l) (nitrogenPlan sw h (m .n) z b28 zhm xmm) _ _ refl
     ∙ last (given l) _
 
 gts7-is : (sw : List Float) (x : Site) (z : Float) (l : Levels) (h : Shape) (b : Blend)
     → h ≡ told (given l) (shapePlan sw x z)
-    → b ≡ told (given l) (n2Plan sw h z (x .zhf))
+    → b ≡ told (given l) (n2Plan sw h ((mixedAt (x .nine) (sw ‼ 15) z) .n2) z (x .zhf) (x .nine .xmm))
     → told (given l) (gts7Plan sw x z)
-    ≡ gatherOf (sw ‼ 0) h z b (told (given l) (speciesPlan sw h z (b .b) (x .flux))) (told (given l) (hotPlan sw (anomalousOf h) z))
+    ≡ gatherOf (sw ‼ 0) h z b (told (given l) (speciesPlan sw h (mixedAt (x .nine) (sw ‼ 15) z) z (b .b) (x .flux) (x .nine .xmm))) (told (given l) (hotPlan sw (anomalousOf h) z))
 unfolding gts7Plan
 gts7-is sw x z l h b e f =
     then (given l) (shapePlan sw x z) _ h e
-    ∙ then (given l) (n2Plan sw h z (x .zhf)) _ b f
-    ∙ then (given l) (speciesPlan sw h z (b .b) (x .flux)) _ _ refl
+    ∙ then (given l) (n2Plan sw h ((mixedAt (x .nine) (sw ‼ 15) z) .n2) z (x .zhf) (x .nine .xmm)) _ b f
+    ∙ then (given l) (speciesPlan sw h (mixedAt (x .nine) (sw ‼ 15) z) z (b .b) (x .flux) (x .nine .xmm)) _ _ refl
     ∙ then (given l) (hotPlan sw (anomalousOf h) z) _ _ refl
     ∙ told-keep (given l) _ _
     ∙ last (given l) _
 
 -- ---- the layers
-
-gas : eq (pdmT2 ‼ 4) 0·0 ≡ false
-unfolding pdmT2 eq ofBits
-gas = refl
 
 under-32 : lt 0·0 32·5 ≡ true
 unfolding lt ofBits
@@ -168,19 +164,19 @@ module _ (sw : List Float) (l : Levels) (m : Meso) where
   topmost z false e = (rw e, rw e)
 
   upper-span : (x : Site) (d : Float) (tropo : Bool)
-      → (curvesOf sw x d m l tropo) .upper ≡ spanOf (x .gsurf) (x .re) (pdmT2 ‼ 4) (layerOf (x .re) zn2 (m .tn2) 4 (m .tgn2) 32·5)
+      → (curvesOf sw x d m l tropo) .upper ≡ spanOf (x .nine .rgas) (x .gsurf) (x .re) (x .nine .xmm) (layerOf (x .re) zn2 (m .tn2) 4 (m .tgn2) 32·5)
   unfolding curvesOf
   upper-span x d true = refl
   upper-span x d false = refl
 
-  module _ (x : Site) (d alt : Float) (inside : lt 72·5 alt ≡ false) where
+  module _ (x : Site) (gas : HasMass x) (d alt : Float) (inside : lt 72·5 alt ≡ false) where
     in-upper : (tropo : Bool) → lt 32·5 alt ≡ true → reachedOf x d m (curvesOf sw x d m l tropo) alt ≡ n2Of x alt d (told (given l) (lowerPlan sw alt m))
     unfolding reachedOf n2Of
     in-upper tropo t =
         let w = told (given l) (lowerPlan sw alt m) in
         let same = topmost alt (lt alt 32·5) refl in
         rw (t, upper-span x d tropo, same .0, same .1)
-        (densm-upper (x .gsurf) (x .re) alt d (pdmT2 ‼ 4) 0·0 zn3 (w .tn3) (w .tgn3) zn2 (m .tn2) (m .tgn2) 32·5 gas inside t t)
+        (densm-upper (x .nine .rgas) (x .gsurf) (x .re) alt d (x .nine .xmm) 0·0 zn3 (w .tn3) (w .tgn3) zn2 (m .tn2) (m .tgn2) 32·5 gas inside t t)
 
     in-lower : lt 32·5 alt ≡ false → lt alt 32·5 ≡ true → reachedOf x d m (curvesOf sw x d m l true) alt ≡ n2Of x alt d (told (given l) (lowerPlan sw alt m))
     unfolding reachedOf n2Of curvesOf
@@ -188,7 +184,7 @@ module _ (sw : List Float) (l : Levels) (m : Meso) where
         let w = told (given l) (lowerPlan sw alt m) in
         let same = topmost alt true t in
         rw (f, t, same-nodes 0·0 alt (under-32 ∙ sym t), same .0, same .1)
-        (densm-lower (x .gsurf) (x .re) alt d (pdmT2 ‼ 4) 0·0 zn3 (w .tn3) (w .tgn3) zn2 (m .tn2) (m .tgn2) 0·0 gas inside f f)
+        (densm-lower (x .nine .rgas) (x .gsurf) (x .re) alt d (x .nine .xmm) 0·0 zn3 (w .tn3) (w .tgn3) zn2 (m .tn2) (m .tgn2) 0·0 gas inside f f)
 
     at-32 : (k : Curves) → lt 32·5 alt ≡ false → lt alt 32·5 ≡ false → reachedOf x d m k alt ≡ n2Of x alt d (told (given l) (lowerPlan sw alt m))
     unfolding reachedOf
@@ -200,20 +196,21 @@ module _ (sw : List Float) (l : Levels) (m : Meso) where
     reached-is tropo false true e f c = ap (λ (t : Bool). reachedOf x d m (curvesOf sw x d m l t) alt) (c refl) ∙ in-lower e f
     reached-is tropo false false e f c = at-32 (curvesOf sw x d m l tropo) e f
 
--- From the footing at 72.5 km the row of an altitude not above it is that of gtd7; the footing has the troposphere where the altitude asks for it
-pub row-is : (sw : List Float) (x : Site) (l : Levels) (tropo : Bool) (alt : Float) → (lt alt 32·5 ≡ true → tropo ≡ true) → lt 72·5 alt ≡ false
+-- From the footing at 72.5 km, the mass of mixed air not being 0, the row of an altitude not above it is that of gtd7; the footing has the troposphere where the altitude asks for it
+pub row-is : (sw : List Float) (x : Site) (l : Levels) (tropo : Bool) (alt : Float) → HasMass x → (lt alt 32·5 ≡ true → tropo ≡ true) → lt 72·5 alt ≡ false
     → let u = told (given l) (gts7Plan sw x 72·5) in
     rowBelowOf (sw ‼ 0) (footingOf sw x l tropo) alt
     ≡ (belowOf (sw ‼ 0) x alt u (told (given l) (lowerPlan sw alt (told (given l) (mesoPlan sw u))))) .row
 unfolding footingOf standingOf threeOf mesoPlan gatherOf
-row-is sw x l tropo alt c inside =
+row-is sw x l tropo alt gas c inside =
     let h = told (given l) (shapePlan sw x 72·5) in
-    let b = told (given l) (n2Plan sw h 72·5 (x .zhf)) in
-    let y = told (given l) (speciesPlan sw h 72·5 (b .b) (x .flux)) in
+    let k = mixedAt (x .nine) (sw ‼ 15) 72·5 in
+    let b = told (given l) (n2Plan sw h (k .n2) 72·5 (x .zhf) (x .nine .xmm)) in
+    let y = told (given l) (speciesPlan sw h k 72·5 (b .b) (x .flux) (x .nine .xmm)) in
     let o = told (given l) (hotPlan sw (anomalousOf h) 72·5) in
     let u = gatherOf (sw ‼ 0) h 72·5 b y o in
     let m = told (given l) (mesoNodesPlan sw h) in
-    let s = six-is sw h 72·5 (b .b) (x .flux) l in
+    let s = six-is sw h k 72·5 (b .b) (x .flux) (x .nine .xmm) l in
     below-is (sw ‼ 0) x alt u (told (given l) (lowerPlan sw alt m)) (footingOf sw x l tropo)
     refl
     refl
@@ -221,6 +218,6 @@ row-is sw x l tropo alt c inside =
     (units-n2 (sw ‼ 0) _ _ _ _ _ _ _ _ _)
     (ap (λ (k : Six). inUnitsOf (sw ‼ 0) (k .o2 .dens)) (sym s) ∙ units-o2 (sw ‼ 0) _ _ _ _ _ _ _ _ _)
     (ap (λ (k : Six). inUnitsOf (sw ‼ 0) (k .ar .dens)) (sym s) ∙ units-ar (sw ‼ 0) _ _ _ _ _ _ _ _ _)
-    (reached-is sw l m x (dm28mOf (sw ‼ 0) (b .dm)) alt inside tropo (lt 32·5 alt) (lt alt 32·5) refl refl c)
+    (reached-is sw l m x gas (dm28mOf (sw ‼ 0) (b .dm)) alt inside tropo (lt 32·5 alt) (lt alt 32·5) refl refl c)
     ∙ ap (λ (g : Upper). (belowOf (sw ‼ 0) x alt g (told (given l) (lowerPlan sw alt (told (given l) (mesoNodesPlan sw (g .shape)))))) .row)
     (sym (gts7-is sw x 72·5 l h b refl refl))

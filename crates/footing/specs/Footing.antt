@@ -4,6 +4,8 @@ use mathlib.Core.List.{List, [], _∷_}
 use lib.Ieee.{Float, lt, ne}
 use Rattle.numbers.specs.Arithmetic.{_⊕_, _⊖_, _⊗_, _⊘_, _‼_}
 use Rattle.numbers.specs.Literals.{0·0, 1·0, 32·5, 72·5, 1·0E6}
+use Rattle.mixing.specs.Limits.{mixedAt}
+use Rattle.mixing.specs.declared.limits.Mixed.{Mixed}
 use Rattle.profile.specs.Curve.{layerOf}
 use Rattle.profile.specs.Profile.{loweredOf, densityIn, temperatureIn}
 use Rattle.profile.specs.declared.unchecked.Profile.{Profile}
@@ -22,15 +24,14 @@ use Rattle.footing.specs.declared.Curves.{Curves}
 use Rattle.footing.specs.declared.Footing.{Footing}
 use Rattle.footing.specs.declared.Three.{Three}
 
--- helium, O2 and argon at 72.5 km
-unfoldable pub threeOf : List Float → Shape → Float → Float → Levels → Three
-threeOf sw h b28 flux l =
+-- helium, O2 and argon at 72.5 km; m says which are mixed there
+unfoldable pub threeOf : List Float → Shape → Mixed → Float → Float → Float → Levels → Three
+threeOf sw h m b28 flux xmm l =
     let zhm = pdmT2 ‼ 3 ⊗ pdlT1 ‼ 5 in
-    let xmm = pdmT2 ‼ 4 in
     record {
-      he = told (given l) (heliumPlan sw h 72·5 b28 zhm xmm);
-      o2 = told (given l) (o2Plan sw h 72·5 b28 zhm xmm flux);
-      ar = told (given l) (argonPlan sw h 72·5 b28 zhm xmm);
+      he = told (given l) (heliumPlan sw h (m .he) 72·5 b28 zhm xmm);
+      o2 = told (given l) (o2Plan sw h (m .o2) 72·5 b28 zhm xmm flux);
+      ar = told (given l) (argonPlan sw h (m .ar) 72·5 b28 zhm xmm);
     }
 
 -- a density in the units asked for
@@ -41,15 +42,15 @@ inUnitsOf sw0 d = cond (ne sw0 0·0) (d ⊗ 1·0E6) d
 -- down, whose nodes are those of 0 km
 unfoldable pub curvesOf : List Float → Site → Float → Meso → Levels → Bool → Curves
 curvesOf sw x d m l tropo =
-    let xm = pdmT2 ‼ 4 in
+    let xm = x .nine .xmm in
     let a = layerOf (x .re) zn2 (m .tn2) 4 (m .tgn2) 32·5 in
-    let u = spanOf (x .gsurf) (x .re) xm a in
+    let u = spanOf (x .nine .rgas) (x .gsurf) (x .re) xm a in
     cond (not tropo) (record { upper = u; d32 = 0·0; lower = blankOf })
     (let w = told (given l) (lowerPlan sw 0·0 m) in
     record {
       upper = u;
-      d32 = loweredOf (x .gsurf) (x .re) xm d a 4;
-      lower = spanOf (x .gsurf) (x .re) xm (layerOf (x .re) zn3 (w .tn3) 5 (w .tgn3) 0·0);
+      d32 = loweredOf (x .nine .rgas) (x .gsurf) (x .re) xm d a 4;
+      lower = spanOf (x .nine .rgas) (x .gsurf) (x .re) xm (layerOf (x .re) zn3 (w .tn3) 5 (w .tgn3) 0·0);
     })
 
 unfoldable pub standingOf : Float → Site → Shape → Blend → Three → Float → Meso → Curves → Footing
@@ -69,11 +70,12 @@ standingOf sw0 x h b y d m k =
 unfoldable pub footingOf : List Float → Site → Levels → Bool → Footing
 footingOf sw x l tropo =
     let h = told (given l) (shapePlan sw x 72·5) in
-    let b = told (given l) (n2Plan sw h 72·5 (x .zhf)) in
-    let y = threeOf sw h (b .b) (x .flux) l in
-    let m = told (given l) (mesoNodesPlan sw h) in
+    let m = mixedAt (x .nine) (sw ‼ 15) 72·5 in
+    let b = told (given l) (n2Plan sw h (m .n2) 72·5 (x .zhf) (x .nine .xmm)) in
+    let y = threeOf sw h m (b .b) (x .flux) (x .nine .xmm) l in
+    let e = told (given l) (mesoNodesPlan sw h) in
     let d = dm28mOf (sw ‼ 0) (b .dm) in
-    standingOf (sw ‼ 0) x h b y d m (curvesOf sw x d m l tropo)
+    standingOf (sw ‼ 0) x h b y d e (curvesOf sw x d e l tropo)
 
 -- densm for N2: above 32.5 km the upper layer, below it the lower; else, at 32.5 km, over the nodes, of which those of the troposphere are not set
 unfoldable pub reachedOf : Site → Float → Meso → Curves → Float → Profile

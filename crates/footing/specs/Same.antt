@@ -5,6 +5,7 @@ use mathlib.Core.List.{List}
 use lib.Ieee.{Float, lt}
 use Rattle.numbers.specs.Arithmetic.{_⊗_, _‼_}
 use Rattle.numbers.specs.Literals.{32·5, 72·5, 300·0}
+use Rattle.mixing.specs.declared.limits.Mixed.{Mixed}
 use Rattle.profile.specs.declared.unchecked.Shape.{Shape}
 use Rattle.plan.specs.declared.Levels.{Levels}
 use Rattle.plan.specs.Plan.{Plan, Ask, either, _>>=_, told, given, then, last}
@@ -78,21 +79,21 @@ module _ (l m : Levels) (s : Same l m) (sw : List Float) where
       ∙ then (given m) (nodesPlan sw z) _ _ refl
       ∙ last (given m) _)
 
-  n2-same : (h : Shape) (z zhf : Float) → told (given l) (n2Plan sw h z zhf) ≡ told (given m) (n2Plan sw h z zhf)
+  n2-same : (h : Shape) (on : Bool) (z zhf xmm : Float) → told (given l) (n2Plan sw h on z zhf xmm) ≡ told (given m) (n2Plan sw h on z zhf xmm)
   unfolding told n2Plan _>>=_
-  n2-same h z zhf = rw (s .pd2)
+  n2-same h on z zhf xmm = rw (s .pd2)
 
-  helium-same : (h : Shape) (z b28 zhm xmm : Float) → told (given l) (heliumPlan sw h z b28 zhm xmm) ≡ told (given m) (heliumPlan sw h z b28 zhm xmm)
+  helium-same : (h : Shape) (on : Bool) (z b28 zhm xmm : Float) → told (given l) (heliumPlan sw h on z b28 zhm xmm) ≡ told (given m) (heliumPlan sw h on z b28 zhm xmm)
   unfolding told heliumPlan _>>=_
-  helium-same h z b28 zhm xmm = rw (s .pd0)
+  helium-same h on z b28 zhm xmm = rw (s .pd0)
 
-  o2-same : (h : Shape) (z b28 zhm xmm flux : Float) → told (given l) (o2Plan sw h z b28 zhm xmm flux) ≡ told (given m) (o2Plan sw h z b28 zhm xmm flux)
+  o2-same : (h : Shape) (on : Bool) (z b28 zhm xmm flux : Float) → told (given l) (o2Plan sw h on z b28 zhm xmm flux) ≡ told (given m) (o2Plan sw h on z b28 zhm xmm flux)
   unfolding told o2Plan _>>=_
-  o2-same h z b28 zhm xmm flux = rw (s .pd4)
+  o2-same h on z b28 zhm xmm flux = rw (s .pd4)
 
-  argon-same : (h : Shape) (z b28 zhm xmm : Float) → told (given l) (argonPlan sw h z b28 zhm xmm) ≡ told (given m) (argonPlan sw h z b28 zhm xmm)
+  argon-same : (h : Shape) (on : Bool) (z b28 zhm xmm : Float) → told (given l) (argonPlan sw h on z b28 zhm xmm) ≡ told (given m) (argonPlan sw h on z b28 zhm xmm)
   unfolding told argonPlan _>>=_
-  argon-same h z b28 zhm xmm = rw (s .pd5)
+  argon-same h on z b28 zhm xmm = rw (s .pd5)
 
   meso-same : (h : Shape) → told (given l) (mesoNodesPlan sw h) ≡ told (given m) (mesoNodesPlan sw h)
   unfolding told mesoNodesPlan _>>=_
@@ -102,9 +103,9 @@ module _ (l m : Levels) (s : Same l m) (sw : List Float) where
   unfolding told lowerPlan _>>=_
   lower-same z w = one-of (given l) (given m) (not (lt z 32·5)) _ _ refl (rw (s .pma3, s .pma4, s .pma5, s .pma6, s .pma7))
 
-  three-same : (h : Shape) (b28 flux : Float) → threeOf sw h b28 flux l ≡ threeOf sw h b28 flux m
+  three-same : (h : Shape) (k : Mixed) (b28 flux xmm : Float) → threeOf sw h k b28 flux xmm l ≡ threeOf sw h k b28 flux xmm m
   unfolding threeOf
-  three-same h b28 flux = rw (helium-same h 72·5 b28, o2-same h 72·5 b28, argon-same h 72·5 b28)
+  three-same h k b28 flux xmm = rw (helium-same h (k .he) 72·5 b28, o2-same h (k .o2) 72·5 b28, argon-same h (k .ar) 72·5 b28)
 
   curves-same : (x : Site) (d : Float) (w : Meso) (tropo : Bool) → curvesOf sw x d w l tropo ≡ curvesOf sw x d w m tropo
   unfolding curvesOf

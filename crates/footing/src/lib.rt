@@ -1,10 +1,9 @@
 // gtd7 below 72.5 km: what gts7 at 72.5 km gives to every altitude there, worked out once, and the row of an altitude.
 ghost use mathlib.Core.Path.{_≡_};
 ghost use mathlib.Core.Bool.{true};
-ghost use Rattle.numbers.specs.Arithmetic.{_‼_};
 ghost use Rattle.numbers.specs.Literals.{72·5};
-ghost use Rattle.species.specs.Places.{spineAt, placeAt, mixesAt, Mixes};
-ghost use Rattle.tables.specs.Tables.{pdmT2};
+ghost use Rattle.mixing.specs.Limits.{someMixed};
+ghost use Rattle.species.specs.Places.{spineAt, placeAt, Mixes};
 ghost use Rattle.footing.specs.Footing.{inUnitsOf, threeOf, curvesOf, standingOf, footingOf, reachedOf, rowBelowOf};
 use layers::Span;
 use layers::blank;
@@ -20,6 +19,10 @@ use lower::lower_stage;
 use lower::meso_nodes;
 use lower::n2;
 use lower::unset;
+use mixing::limits::Mixed;
+use mixing::limits::mixed_at;
+use mixing::limits::oxygens_mixed;
+use mixing::limits::some_mixed;
 use numbers::pick;
 use places::place::Place;
 use places::place::Spine;
@@ -79,32 +82,33 @@ pub struct Three {
     pub ar: Mixture,
 }
 
-// s is the spine of h, p the place of 72.5 km, t thins out what is mixed there.
+// s is the spine of h, p the place of 72.5 km, m says which species are mixed there, t thins them out.
 pub fn three_of(
     sw: [f64; 24],
     h: Shape,
     s: Spine,
+    m: Mixed,
     p: Place,
     t: Thinning,
     b28: f64,
     flux: f64,
+    xmm: f64,
     l: Levels,
 ) -> Three
-    requires { ⌜ (s ≡ spineAt h) × (p ≡ placeAt h 72·5) × Mixes (mixesAt (sw ‼ 15) 72·5) p (pdmT2 ‼ 4) t ⌝ }
-    ensures { λ r. ⌜ r ≡ threeOf sw h b28 flux l ⌝ }
+    requires { ⌜ (s ≡ spineAt h) × (p ≡ placeAt h 72·5) × Mixes (someMixed m) p xmm t ⌝ }
+    ensures { λ r. ⌜ r ≡ threeOf sw h m b28 flux xmm l ⌝ }
 {
-    let m = pdm2();
+    let a = pdm2();
     let d = pdl1();
     let m0 = pdm0();
     let m1 = pdm1();
-    let zhm = m[3] * d[5];
-    let xmm = m[4];
-    let on = sw[15] != 0.0;
-    let w = turbopause(h, s, on & (72.5 < 200.0), m0[2], p);
-    let he = helium_stage(sw, h, 72.5, p, w, t, b28, zhm, xmm, l);
-    let y = turbopause(h, s, on & (72.5 <= 450.0), m1[2], p);
-    let o2 = o2_stage(sw, h, 72.5, p, y, t, b28, zhm, xmm, flux, l);
-    let ar = argon_stage(sw, h, 72.5, p, y, t, b28, zhm, xmm, l);
+    let zhm = a[3] * d[5];
+    let w = turbopause(h, s, m.he, m0[2], p);
+    let he = helium_stage(sw, h, m.he, 72.5, p, w, t, b28, zhm, xmm, l);
+    let four = oxygens_mixed(m);
+    let y = turbopause(h, s, four, m1[2], p);
+    let o2 = o2_stage(sw, h, m.o2, 72.5, p, y, t, b28, zhm, xmm, flux, l);
+    let ar = argon_stage(sw, h, m.ar, 72.5, p, y, t, b28, zhm, xmm, l);
     Three {
         he: he,
         o2: o2,
@@ -123,11 +127,11 @@ pub fn in_units(sw0: f64, d: f64) -> f64
 pub fn curves_of(sw: [f64; 24], x: Site, d: f64, m: Meso, l: Levels, tropo: bool) -> Curves
     ensures { λ r. ⌜ r ≡ curvesOf sw x d m l tropo ⌝ }
 {
-    let p = pdm2();
+    let c = x.nine;
     let tn2 = m.tn2;
     let tgn2 = m.tgn2;
     let a = layer4(x.re, [72.5, 55.0, 45.0, 32.5], tn2, tgn2, 32.5);
-    let u = span_of(x.gsurf, x.re, p[4], a);
+    let u = span_of(c.rgas, x.gsurf, x.re, c.xmm, a);
     if !tropo {
         let v = blank();
         return Curves {
@@ -136,12 +140,12 @@ pub fn curves_of(sw: [f64; 24], x: Site, d: f64, m: Meso, l: Levels, tropo: bool
             lower: v,
         };
     }
-    let d32 = lowered(x.gsurf, x.re, p[4], d, a, 4);
+    let d32 = lowered(c.rgas, x.gsurf, x.re, c.xmm, d, a, 4);
     let w = lower_stage(sw, 0.0, m, l);
     let tn3 = w.tn3;
     let tgn3 = w.tgn3;
     let b = layer5(x.re, [32.5, 20.0, 15.0, 10.0, 0.0], tn3, tgn3, 0.0);
-    let v = span_of(x.gsurf, x.re, p[4], b);
+    let v = span_of(c.rgas, x.gsurf, x.re, c.xmm, b);
     Curves {
         upper: u,
         d32: d32,
@@ -190,9 +194,12 @@ pub fn footing_of(sw: [f64; 24], x: Site, l: Levels, tropo: bool) -> Footing
     let p = place_at(h, s, 72.5);
     let m = pdm2();
     let v = place_at(h, s, m[2] * x.zhf);
-    let t = mixing((sw[15] != 0.0) & (72.5 <= 450.0), p, m[4]);
-    let b = n2_stage(sw, h, 72.5, p, v, t, x.zhf, l);
-    let y = three_of(sw, h, s, p, t, b.b, x.flux, l);
+    let c = x.nine;
+    let g = mixed_at(c, sw[15], 72.5);
+    let on = some_mixed(g);
+    let t = mixing(on, p, c.xmm);
+    let b = n2_stage(sw, h, g.n2, 72.5, p, v, t, x.zhf, c.xmm, l);
+    let y = three_of(sw, h, s, g, p, t, b.b, x.flux, c.xmm, l);
     let e = meso_nodes(sw, h, l);
     let d = dm28m(sw[0], b.dm);
     let k = curves_of(sw, x, d, e, l, tropo);

@@ -12,6 +12,7 @@ ghost use Rattle.elementary.specs.Pow.{powOf};
 ghost use Rattle.mixing.specs.Mixing.{ccorOf, ccor2Of, dnetOf};
 ghost use Rattle.spline_calls.specs.Outcome.{after};
 ghost use Rattle.spline_calls.specs.Calls.{valueOutcome, writeOutcome, spliniCall, splintCall, splineCall};
+ghost use Rattle.numbers.specs.Constants.{rgas};
 ghost use Rattle.profile.specs.Gravity.{glatfOf, zetaOf, scalhOf};
 ghost use Rattle.profile_calls.specs.Calls.{profileOutcome, densmCall, densuCall, densuTn1, densuTgn1};
 ghost use Rattle.host_parts.specs.Parts.{refusalOf, placeOf, packedOf, codeOf, valueIn, returnedIn, writtenIn, one, two, lent, kept};
@@ -24,6 +25,7 @@ use elementary::trigonometry::sin;
 use mixing::ccor;
 use mixing::ccor2;
 use mixing::dnet;
+use numbers::RGAS;
 use profile::gravity::glatf;
 use profile::gravity::scalh;
 use profile::gravity::zeta;
@@ -221,9 +223,9 @@ pub extern "C" fn parts_zeta(re: f64, zz: f64, zl: f64) -> f64
 // scalh.
 #[no_mangle]
 pub extern "C" fn parts_scalh(gsurf: f64, re: f64, alt: f64, xm: f64, temp: f64) -> f64
-    ensures { λ v. ⌜ v ≡ scalhOf gsurf re alt xm temp ⌝ }
+    ensures { λ v. ⌜ v ≡ scalhOf rgas gsurf re alt xm temp ⌝ }
 {
-    scalh(gsurf, re, alt, xm, temp)
+    scalh(RGAS, gsurf, re, alt, xm, temp)
 }
 
 // splini; out gets the value.

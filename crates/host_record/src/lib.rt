@@ -1,4 +1,6 @@
-// A record and a switch row out of the host's numbers and slices, and an answer as one number.
+// A record, a switch row and nine constants out of the host's numbers and slices, and an answer as one number.
+pub mod nine;
+
 ghost use mathlib.Core.Path.{_≡_};
 ghost use lib.ListN.{length};
 ghost use Rattle.acceptance.specs.declared.Answer.the-variants.{Accepted};

@@ -22,7 +22,7 @@ use Rattle.upper.specs.Upper.{siteOf}
 use Rattle.lower.specs.declared.Whole.{Whole}
 use Rattle.plan.specs.Plan.{Ran, ends, run}
 use Rattle.acceptance.specs.declared.Answer.the-variants.{Accepted, Refused}
-use Rattle.atmosphere.specs.Atmosphere.{gtd7Plan, leftOf}
+use Rattle.atmosphere.specs.Atmosphere.{gtd7Plan, leftWith, leftOf}
 use Rattle.host_record.specs.Record.{codeOf, recordOf, lengthsOf}
 use Rattle.host_state.specs.HostState.{nodesOf, lastOf, numberOf, numbersFrom, numbersOf, stateAnswer, stateNumbers}
 
@@ -78,7 +78,7 @@ pub left-law : (w : List ℤ) (n : Input) (b : Whole) (t : State) (x : Site) (v 
     → x ≡ siteOf (v .sw) (n .«g_lat») (v .doy) (n .f107a)
     → v ≡ viewOf w n
     → t ≡ leftOf w n
-unfolding leftOf
+unfolding leftOf leftWith siteOf
 left-law w n b t x v e0 e1 e2 = sym (ap (λ (r : Ran Whole). r .left) e0) ∙ rw (e1, e2)
 
 -- ---- the call

@@ -7,7 +7,6 @@ use lib.ListN.{replicate}
 use lib.Ieee.{Float, neg, lt, eq}
 use Rattle.numbers.specs.Arithmetic.{_⊕_, _⊗_, _⊘_, _‼_}
 use Rattle.numbers.specs.Literals.{0·0, 1·0, 2·0}
-use Rattle.numbers.specs.Constants.{rgas}
 use Rattle.elementary.specs.Exp.{expOf}
 use Rattle.elementary.specs.Pow.{powOf}
 use Rattle.spline.specs.Nodes.{segmentOf, integral, spliniOf, searched, splintOf}
@@ -24,8 +23,8 @@ unfoldable pub firstFive : List Float → List Float
 firstFive a = (a ‼ 0) ∷ (a ‼ 1) ∷ (a ‼ 2) ∷ (a ‼ 3) ∷ (a ‼ 4) ∷ []
 
 -- what the nodes of a curve fix; gamm is exponentOf's
-unfoldable pub spanOf : Float → Float → Float → Curve → Span
-spanOf gsurf re xm l =
+unfoldable pub spanOf : Float → Float → Float → Float → Curve → Span
+spanOf rgas gsurf re xm l =
     let glb = gsurf ⊘ powOf (1·0 ⊕ l .z1 ⊘ re) 2·0 in
     record {
       t1 = l .t1;
@@ -73,31 +72,31 @@ module _ (xs ys y2 : List Float) (x : Float) where
 -- ---- a layer of densm, whatever the altitude w at which its nodes were worked out
 
 -- densm's answer behind a layer
-abbrev pub answerOn : Float → Float → Float → Float → Curve → ℕ → Profile
-answerOn gsurf re xm d l n = answerOf xm (loweredOf gsurf re xm d l n) (l .tz)
+abbrev pub answerOn : Float → Float → Float → Float → Float → Curve → ℕ → Profile
+answerOn rgas gsurf re xm d l n = answerOf xm (loweredOf rgas gsurf re xm d l n) (l .tz)
 
-module _ (gsurf re xm d : Float) (zn tn tgn : List Float) (w z : Float) (gas : eq xm 0·0 ≡ false) where
-  pub down-four : downOf re (zn ‼ 0) (spanOf gsurf re xm (layerOf re zn tn 4 tgn w)) 4 d z ≡ answerOn gsurf re xm d (layerOf re zn tn 4 tgn z) 4
+module _ (rgas gsurf re xm d : Float) (zn tn tgn : List Float) (w z : Float) (gas : eq xm 0·0 ≡ false) where
+  pub down-four : downOf re (zn ‼ 0) (spanOf rgas gsurf re xm (layerOf re zn tn 4 tgn w)) 4 d z ≡ answerOn rgas gsurf re xm d (layerOf re zn tn 4 tgn z) 4
   unfolding downOf readOf spanOf layerOf answerOf loweredOf exponentOf
   down-four = rw (gas, splint-four, splini-four)
 
-  pub down-five : downOf re (zn ‼ 0) (spanOf gsurf re xm (layerOf re zn tn 5 tgn w)) 5 d z ≡ answerOn gsurf re xm d (layerOf re zn tn 5 tgn z) 5
+  pub down-five : downOf re (zn ‼ 0) (spanOf rgas gsurf re xm (layerOf re zn tn 5 tgn w)) 5 d z ≡ answerOn rgas gsurf re xm d (layerOf re zn tn 5 tgn z) 5
   unfolding downOf readOf spanOf layerOf answerOf loweredOf exponentOf
   down-five = rw (gas, splint-five, splini-five)
 
 -- ---- densm over two layers of four nodes and five
 
-module _ (gsurf re alt d xm tz : Float) (zn3 tn3 tgn3 zn2 tn2 tgn2 : List Float) (w : Float) (gas : eq xm 0·0 ≡ false) (inside : lt (zn2 ‼ 0) alt ≡ false) where
+module _ (rgas gsurf re alt d xm tz : Float) (zn3 tn3 tgn3 zn2 tn2 tgn2 : List Float) (w : Float) (gas : eq xm 0·0 ≡ false) (inside : lt (zn2 ‼ 0) alt ≡ false) where
   -- In the upper one, down to where its nodes end
   pub densm-upper : lt (zn2 ‼ 3) alt ≡ true → lt (zn3 ‼ 0) alt ≡ true
-      → downOf re (zn2 ‼ 0) (spanOf gsurf re xm (layerOf re zn2 tn2 4 tgn2 w)) 4 d alt ≡ densmOf gsurf re alt d xm tz 5 zn3 tn3 tgn3 4 zn2 tn2 tgn2
+      → downOf re (zn2 ‼ 0) (spanOf rgas gsurf re xm (layerOf re zn2 tn2 4 tgn2 w)) 4 d alt ≡ densmOf rgas gsurf re alt d xm tz 5 zn3 tn3 tgn3 4 zn2 tn2 tgn2
   unfolding densmOf flooredOf
-  densm-upper over above = rw (inside, over, above) (down-four gsurf re xm d zn2 tn2 tgn2 w alt gas)
+  densm-upper over above = rw (inside, over, above) (down-four rgas gsurf re xm d zn2 tn2 tgn2 w alt gas)
 
   -- In the lower one, from the density where the upper one's nodes end
   pub densm-lower : lt (zn2 ‼ 3) alt ≡ false → lt (zn3 ‼ 0) alt ≡ false
-      → downOf re (zn3 ‼ 0) (spanOf gsurf re xm (layerOf re zn3 tn3 5 tgn3 w)) 5 (loweredOf gsurf re xm d (layerOf re zn2 tn2 4 tgn2 (zn2 ‼ 3)) 4) alt
-      ≡ densmOf gsurf re alt d xm tz 5 zn3 tn3 tgn3 4 zn2 tn2 tgn2
+      → downOf re (zn3 ‼ 0) (spanOf rgas gsurf re xm (layerOf re zn3 tn3 5 tgn3 w)) 5 (loweredOf rgas gsurf re xm d (layerOf re zn2 tn2 4 tgn2 (zn2 ‼ 3)) 4) alt
+      ≡ densmOf rgas gsurf re alt d xm tz 5 zn3 tn3 tgn3 4 zn2 tn2 tgn2
   unfolding densmOf flooredOf
   densm-lower not-over not-above =
-      rw (inside, not-over, not-above) (down-five gsurf re xm (loweredOf gsurf re xm d (layerOf re zn2 tn2 4 tgn2 (zn2 ‼ 3)) 4) zn3 tn3 tgn3 w alt gas)
+      rw (inside, not-over, not-above) (down-five rgas gsurf re xm (loweredOf rgas gsurf re xm d (layerOf re zn2 tn2 4 tgn2 (zn2 ‼ 3)) 4) zn3 tn3 tgn3 w alt gas)

@@ -5,7 +5,6 @@ ghost use Rattle.profile.specs.Curve.{layerOf};
 ghost use Rattle.layers.specs.Layers.{firstFive, spanOf, blankOf, readOf, downOf};
 use elementary::exponential::exp;
 use elementary::power::pow;
-use numbers::RGAS;
 use profile::curve::Curve;
 use profile::curve::capped;
 use profile::curve::layer;
@@ -45,8 +44,8 @@ pub fn first_five(a: [f64; 10]) -> [f64; 5]
 }
 
 // What the nodes of a curve fix for a gas of mass xm.
-pub fn span_of(gsurf: f64, re: f64, xm: f64, l: Curve) -> Span
-    ensures { λ r. ⌜ r ≡ spanOf gsurf re xm l ⌝ }
+pub fn span_of(rgas: f64, gsurf: f64, re: f64, xm: f64, l: Curve) -> Span
+    ensures { λ r. ⌜ r ≡ spanOf rgas gsurf re xm l ⌝ }
 {
     let q = pow(1.0 + l.z1 / re, 2.0);
     let glb = gsurf / q;
@@ -59,7 +58,7 @@ pub fn span_of(gsurf: f64, re: f64, xm: f64, l: Curve) -> Span
     Span {
         t1: l.t1,
         zgdif: l.zgdif,
-        gamm: xm * glb * l.zgdif / RGAS,
+        gamm: xm * glb * l.zgdif / rgas,
         xs: xs,
         ys: ys,
         y2: y2,

@@ -11,7 +11,7 @@ use Rattle.profile.specs.Profile.{densmOf, densityIn, temperatureIn}
 use Rattle.plan.specs.Fields.{setTn2, setTn3, setTop3}
 use Rattle.plan.specs.Plan.{Plan, done, ask, keep, get, either, _>>=_, _>>_, one-plus-glob7s, one-minus-glob7s}
 use Rattle.tables.specs.Names.{PMA0, PMA1, PMA2, PMA3, PMA4, PMA5, PMA6, PMA7, PMA9}
-use Rattle.tables.specs.Tables.{pavgmT, pdmT0, pdmT2, pdmT3, pdmT4, pmaT0, pmaT1, pmaT2, pmaT3, pmaT4, pmaT5, pmaT6, pmaT7, pmaT9}
+use Rattle.tables.specs.Tables.{pavgmT, pdmT0, pdmT3, pdmT4, pmaT0, pmaT1, pmaT2, pmaT3, pmaT4, pmaT5, pmaT6, pmaT7, pmaT9}
 use Rattle.upper.specs.declared.Site.{Site}
 use Rattle.upper.specs.declared.Upper.{Upper}
 use Rattle.upper.specs.Upper.{massOf}
@@ -91,11 +91,11 @@ zn3 = 32·5 ∷ 20·0 ∷ 15·0 ∷ 10·0 ∷ 0·0 ∷ []
 
 -- densm for N2
 unfoldable pub n2Of : Site → Float → Float → Nodes → Profile
-n2Of x alt d w = densmOf (x .gsurf) (x .re) alt d (pdmT2 ‼ 4) 0·0 5 zn3 (w .tn3) (w .tgn3) 4 zn2 (w .tn2) (w .tgn2)
+n2Of x alt d w = densmOf (x .nine .rgas) (x .gsurf) (x .re) alt d (x .nine .xmm) 0·0 5 zn3 (w .tn3) (w .tgn3) 4 zn2 (w .tn2) (w .tgn2)
 
 -- densm for the temperature
 unfoldable pub warmthOf : Site → Float → Float → Nodes → Profile
-warmthOf x alt tz w = densmOf (x .gsurf) (x .re) alt 1·0 0·0 tz 5 zn3 (w .tn3) (w .tgn3) 4 zn2 (w .tn2) (w .tgn2)
+warmthOf x alt tz w = densmOf (x .nine .rgas) (x .gsurf) (x .re) alt 1·0 0·0 tz 5 zn3 (w .tn3) (w .tgn3) 4 zn2 (w .tn2) (w .tgn2)
 
 -- helium, O2 or argon: its share k of N2, its density y at 72.5 km over N2's there
 unfoldable pub fullOf : Float → Float → Float → Float → Float → Float

@@ -12,7 +12,6 @@ use profile::unchecked::densm54;
 use profile::unchecked::temperature_in;
 use tables::pavgm;
 use tables::pdm0;
-use tables::pdm2;
 use tables::pdm3;
 use tables::pdm4;
 use tables::pma0;
@@ -177,17 +176,18 @@ pub fn dm28m(sw0: f64, dm28: f64) -> f64
 pub fn n2(x: Site, alt: f64, d: f64, w: Nodes) -> Profile
     ensures { λ r. ⌜ r ≡ n2Of x alt d w ⌝ }
 {
-    let m = pdm2();
+    let c = x.nine;
     let tn3 = w.tn3;
     let tgn3 = w.tgn3;
     let tn2 = w.tn2;
     let tgn2 = w.tgn2;
     densm54(
+        c.rgas,
         x.gsurf,
         x.re,
         alt,
         d,
-        m[4],
+        c.xmm,
         0.0,
         [32.5, 20.0, 15.0, 10.0, 0.0],
         tn3,
@@ -202,11 +202,13 @@ pub fn n2(x: Site, alt: f64, d: f64, w: Nodes) -> Profile
 pub fn warmth(x: Site, alt: f64, tz: f64, w: Nodes) -> Profile
     ensures { λ r. ⌜ r ≡ warmthOf x alt tz w ⌝ }
 {
+    let c = x.nine;
     let tn3 = w.tn3;
     let tgn3 = w.tgn3;
     let tn2 = w.tn2;
     let tgn2 = w.tgn2;
     densm54(
+        c.rgas,
         x.gsurf,
         x.re,
         alt,

@@ -1,32 +1,27 @@
--- Where each species is mixed: switch 15 is on, and z lies below the altitude at which its mixing ends (altl of gts7).
-use mathlib.Core.Bool.{Bool, _&&_}
+-- Which species are mixed at z: switch 15 is on, and z does not lie above the altitude at which the species' mixing ends (altl of gts7).
+use mathlib.Core.Bool.{Bool, _&&_, _||_}
 use lib.Ieee.{Float, lt, le, ne}
-use Rattle.numbers.specs.Literals.{0·0, 160·0, 200·0, 240·0, 250·0, 300·0, 320·0, 450·0}
+use Rattle.numbers.specs.Literals.{0·0}
+use Rattle.parameters.specs.declared.Parameters.{Parameters}
+use Rattle.mixing.specs.declared.limits.Mixed.{Mixed}
 
--- N2: at or below 160 km
-abbrev pub n2Mixed : Float → Float → Bool
-n2Mixed sw15 z = ne sw15 0·0 && le z 160·0
+-- helium strictly below its altitude, the others at or below theirs
+unfoldable pub mixedAt : Parameters → Float → Float → Mixed
+mixedAt c sw15 z =
+    record {
+      he = ne sw15 0·0 && lt z (c .he);
+      o = ne sw15 0·0 && le z (c .o);
+      n2 = ne sw15 0·0 && le z (c .n2);
+      o2 = ne sw15 0·0 && le z (c .o2);
+      ar = ne sw15 0·0 && le z (c .ar);
+      h = ne sw15 0·0 && le z (c .h);
+      n = ne sw15 0·0 && le z (c .n);
+    }
 
--- helium: strictly below 200 km
-abbrev pub heMixed : Float → Float → Bool
-heMixed sw15 z = ne sw15 0·0 && lt z 200·0
+-- O, O2, argon or N, whose turbopauses are one altitude
+unfoldable pub oxygensMixed : Mixed → Bool
+oxygensMixed m = m .o || (m .o2 || (m .ar || m .n))
 
--- O: at or below 300 km
-abbrev pub oMixed : Float → Float → Bool
-oMixed sw15 z = ne sw15 0·0 && le z 300·0
-
--- O2: at or below 250 km
-abbrev pub o2Mixed : Float → Float → Bool
-o2Mixed sw15 z = ne sw15 0·0 && le z 250·0
-
--- argon: at or below 240 km
-abbrev pub arMixed : Float → Float → Bool
-arMixed sw15 z = ne sw15 0·0 && le z 240·0
-
--- hydrogen: at or below 320 km
-abbrev pub hMixed : Float → Float → Bool
-hMixed sw15 z = ne sw15 0·0 && le z 320·0
-
--- N: at or below 450 km
-abbrev pub nMixed : Float → Float → Bool
-nMixed sw15 z = ne sw15 0·0 && le z 450·0
+-- any of the seven
+unfoldable pub someMixed : Mixed → Bool
+someMixed m = m .he || (m .n2 || (m .h || oxygensMixed m))

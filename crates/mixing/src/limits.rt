@@ -1,52 +1,46 @@
-// Where each species is mixed: switch 15 is on, and z lies below the altitude at which its mixing ends (altl of gts7).
+// Which species are mixed at an altitude: switch 15 is on, and the altitude does not lie above the one at which the species' mixing ends (altl of gts7).
 ghost use mathlib.Core.Path.{_≡_};
-ghost use Rattle.mixing.specs.Limits.{n2Mixed, heMixed, oMixed, o2Mixed, arMixed, hMixed, nMixed};
+ghost use Rattle.mixing.specs.Limits.{mixedAt, oxygensMixed, someMixed};
+use parameters::Parameters;
 
-// N2: at or below 160 km.
-pub fn n2_mixes(sw15: f64, z: f64) -> bool
-    ensures { λ r. ⌜ r ≡ n2Mixed sw15 z ⌝ }
-{
-    (sw15 != 0.0) & (z <= 160.0)
+// The species that are mixed.
+pub struct Mixed {
+    pub he: bool,
+    pub o: bool,
+    pub n2: bool,
+    pub o2: bool,
+    pub ar: bool,
+    pub h: bool,
+    pub n: bool,
 }
 
-// helium: strictly below 200 km.
-pub fn he_mixes(sw15: f64, z: f64) -> bool
-    ensures { λ r. ⌜ r ≡ heMixed sw15 z ⌝ }
+// Helium strictly below its altitude, the others at or below theirs.
+pub fn mixed_at(c: Parameters, sw15: f64, z: f64) -> Mixed
+    ensures { λ r. ⌜ r ≡ mixedAt c sw15 z ⌝ }
 {
-    (sw15 != 0.0) & (z < 200.0)
+    let on = sw15 != 0.0;
+    Mixed {
+        he: on & (z < c.he),
+        o: on & (z <= c.o),
+        n2: on & (z <= c.n2),
+        o2: on & (z <= c.o2),
+        ar: on & (z <= c.ar),
+        h: on & (z <= c.h),
+        n: on & (z <= c.n),
+    }
 }
 
-// O: at or below 300 km.
-pub fn o_mixes(sw15: f64, z: f64) -> bool
-    ensures { λ r. ⌜ r ≡ oMixed sw15 z ⌝ }
+// Whether O, O2, argon or N is mixed, whose turbopauses are one altitude.
+pub fn oxygens_mixed(m: Mixed) -> bool
+    ensures { λ r. ⌜ r ≡ oxygensMixed m ⌝ }
 {
-    (sw15 != 0.0) & (z <= 300.0)
+    m.o | (m.o2 | (m.ar | m.n))
 }
 
-// O2: at or below 250 km.
-pub fn o2_mixes(sw15: f64, z: f64) -> bool
-    ensures { λ r. ⌜ r ≡ o2Mixed sw15 z ⌝ }
+// Whether any of the seven is.
+pub fn some_mixed(m: Mixed) -> bool
+    ensures { λ r. ⌜ r ≡ someMixed m ⌝ }
 {
-    (sw15 != 0.0) & (z <= 250.0)
-}
-
-// argon: at or below 240 km.
-pub fn ar_mixes(sw15: f64, z: f64) -> bool
-    ensures { λ r. ⌜ r ≡ arMixed sw15 z ⌝ }
-{
-    (sw15 != 0.0) & (z <= 240.0)
-}
-
-// hydrogen: at or below 320 km.
-pub fn h_mixes(sw15: f64, z: f64) -> bool
-    ensures { λ r. ⌜ r ≡ hMixed sw15 z ⌝ }
-{
-    (sw15 != 0.0) & (z <= 320.0)
-}
-
-// N: at or below 450 km.
-pub fn n_mixes(sw15: f64, z: f64) -> bool
-    ensures { λ r. ⌜ r ≡ nMixed sw15 z ⌝ }
-{
-    (sw15 != 0.0) & (z <= 450.0)
+    let four = oxygens_mixed(m);
+    m.he | (m.n2 | (m.h | four))
 }

@@ -15,6 +15,8 @@ use Rattle.plan.specs.Fields.{Fields, fieldsOf, withFields, setGravity, setDd, 
 use Rattle.plan.specs.Plan.{Plan, Ask, either, _>>=_, Ran, ends, told, kept, given, run, stepped, stepped-done, stepped-keep, stepped-then}
 use Rattle.levels.specs.declared.Need.{Need}
 use Rattle.levels.specs.Levels.{needAt, withHigh, levelsOf}
+use Rattle.mixing.specs.Limits.{mixedAt}
+use Rattle.mixing.specs.declared.limits.Mixed.{Mixed}
 use Rattle.profile.specs.declared.unchecked.Shape.{Shape}
 use Rattle.species.specs.declared.Blend.{Blend}
 use Rattle.species.specs.declared.Mixture.{Mixture}
@@ -107,40 +109,41 @@ shape-step sw x z l s s1 h n tlb g tinf e0 e1 e2 e3 e4 =
     ∙ stepped-done (given l) _ s1
     ∙ ap (λ (k : Shape). ends k s1) (sym e0)
 
-pub species-steps : (sw : List Float) (h : Shape) (z b28 flux : Float) (l : Levels) (s s1 s2 s3 s4 s5 s6 : State) (he o o2 ar hy n : Mixture) (d m : List Float)
-    → stepped (given l) (nitrogenPlan sw h z b28 (m ‼ 3 ⊗ d ‼ 5) (m ‼ 4)) s5 ≡ ends n s6
-    → stepped (given l) (hydrogenPlan sw h z b28 (m ‼ 3 ⊗ d ‼ 5) (m ‼ 4)) s4 ≡ ends hy s5
-    → stepped (given l) (argonPlan sw h z b28 (m ‼ 3 ⊗ d ‼ 5) (m ‼ 4)) s3 ≡ ends ar s4
-    → stepped (given l) (o2Plan sw h z b28 (m ‼ 3 ⊗ d ‼ 5) (m ‼ 4) flux) s2 ≡ ends o2 s3
-    → stepped (given l) (oxygenPlan sw h z (m ‼ 3 ⊗ d ‼ 5) (m ‼ 4) flux) s1 ≡ ends o s2
-    → stepped (given l) (heliumPlan sw h z b28 (m ‼ 3 ⊗ d ‼ 5) (m ‼ 4)) s ≡ ends he s1
+pub species-steps : (sw : List Float) (h : Shape) (k : Mixed) (z b28 flux xmm : Float) (l : Levels) (s s1 s2 s3 s4 s5 s6 : State) (he o o2 ar hy n : Mixture) (d m : List Float)
+    → stepped (given l) (nitrogenPlan sw h (k .n) z b28 (m ‼ 3 ⊗ d ‼ 5) xmm) s5 ≡ ends n s6
+    → stepped (given l) (hydrogenPlan sw h (k .h) z b28 (m ‼ 3 ⊗ d ‼ 5) xmm) s4 ≡ ends hy s5
+    → stepped (given l) (argonPlan sw h (k .ar) z b28 (m ‼ 3 ⊗ d ‼ 5) xmm) s3 ≡ ends ar s4
+    → stepped (given l) (o2Plan sw h (k .o2) z b28 (m ‼ 3 ⊗ d ‼ 5) xmm flux) s2 ≡ ends o2 s3
+    → stepped (given l) (oxygenPlan sw h (k .o) z (m ‼ 3 ⊗ d ‼ 5) xmm flux) s1 ≡ ends o s2
+    → stepped (given l) (heliumPlan sw h (k .he) z b28 (m ‼ 3 ⊗ d ‼ 5) xmm) s ≡ ends he s1
     → d ≡ pdlT1
     → m ≡ pdmT2
-    → stepped (given l) (speciesPlan sw h z b28 flux) s ≡ ends (record { he = he; o = o; o2 = o2; ar = ar; h = hy; n = n }) s6
+    → stepped (given l) (speciesPlan sw h k z b28 flux xmm) s ≡ ends (record { he = he; o = o; o2 = o2; ar = ar; h = hy; n = n }) s6
 unfolding speciesPlan
-species-steps sw h z b28 flux l s s1 s2 s3 s4 s5 s6 he o o2 ar hy n d m e1 e2 e3 e4 e5 e6 e7 e8 =
-    stepped-then (given l) (heliumPlan sw h z b28 (pdmT2 ‼ 3 ⊗ pdlT1 ‼ 5) (pdmT2 ‼ 4)) _ s he s1 (rw (e8, e7) at e6)
-    ∙ stepped-then (given l) (oxygenPlan sw h z (pdmT2 ‼ 3 ⊗ pdlT1 ‼ 5) (pdmT2 ‼ 4) flux) _ s1 o s2 (rw (e8, e7) at e5)
-    ∙ stepped-then (given l) (o2Plan sw h z b28 (pdmT2 ‼ 3 ⊗ pdlT1 ‼ 5) (pdmT2 ‼ 4) flux) _ s2 o2 s3 (rw (e8, e7) at e4)
-    ∙ stepped-then (given l) (argonPlan sw h z b28 (pdmT2 ‼ 3 ⊗ pdlT1 ‼ 5) (pdmT2 ‼ 4)) _ s3 ar s4 (rw (e8, e7) at e3)
-    ∙ stepped-then (given l) (hydrogenPlan sw h z b28 (pdmT2 ‼ 3 ⊗ pdlT1 ‼ 5) (pdmT2 ‼ 4)) _ s4 hy s5 (rw (e8, e7) at e2)
-    ∙ stepped-then (given l) (nitrogenPlan sw h z b28 (pdmT2 ‼ 3 ⊗ pdlT1 ‼ 5) (pdmT2 ‼ 4)) _ s5 n s6 (rw (e8, e7) at e1)
+species-steps sw h k z b28 flux xmm l s s1 s2 s3 s4 s5 s6 he o o2 ar hy n d m e1 e2 e3 e4 e5 e6 e7 e8 =
+    stepped-then (given l) (heliumPlan sw h (k .he) z b28 (pdmT2 ‼ 3 ⊗ pdlT1 ‼ 5) xmm) _ s he s1 (rw (e8, e7) at e6)
+    ∙ stepped-then (given l) (oxygenPlan sw h (k .o) z (pdmT2 ‼ 3 ⊗ pdlT1 ‼ 5) xmm flux) _ s1 o s2 (rw (e8, e7) at e5)
+    ∙ stepped-then (given l) (o2Plan sw h (k .o2) z b28 (pdmT2 ‼ 3 ⊗ pdlT1 ‼ 5) xmm flux) _ s2 o2 s3 (rw (e8, e7) at e4)
+    ∙ stepped-then (given l) (argonPlan sw h (k .ar) z b28 (pdmT2 ‼ 3 ⊗ pdlT1 ‼ 5) xmm) _ s3 ar s4 (rw (e8, e7) at e3)
+    ∙ stepped-then (given l) (hydrogenPlan sw h (k .h) z b28 (pdmT2 ‼ 3 ⊗ pdlT1 ‼ 5) xmm) _ s4 hy s5 (rw (e8, e7) at e2)
+    ∙ stepped-then (given l) (nitrogenPlan sw h (k .n) z b28 (pdmT2 ‼ 3 ⊗ pdlT1 ‼ 5) xmm) _ s5 n s6 (rw (e8, e7) at e1)
     ∙ stepped-done (given l) _ s6
 
-pub gts7-steps : (sw : List Float) (x : Site) (z : Float) (l : Levels) (s s1 s2 s3 s4 s5 : State) (u : Upper) (o : Float) (k : Shape) (y : Six) (b : Blend) (h : Shape)
+pub gts7-steps : (sw : List Float) (x : Site) (z : Float) (l : Levels) (s s1 s2 s3 s4 s5 : State) (u : Upper) (o : Float) (k : Shape) (y : Six) (b : Blend) (m : Mixed) (h : Shape)
     → u ≡ gatherOf (sw ‼ 0) h z b y o
     → s5 ≡ withFields s4 (densuSets h (sqrtOf (z ⊗ z)) (fieldsOf s4))
     → stepped (given l) (hotPlan sw k z) s3 ≡ ends o s4
     → k ≡ anomalousOf h
-    → stepped (given l) (speciesPlan sw h z (b .b) (x .flux)) s2 ≡ ends y s3
-    → stepped (given l) (n2Plan sw h z (x .zhf)) s1 ≡ ends b s2
+    → stepped (given l) (speciesPlan sw h m z (b .b) (x .flux) (x .nine .xmm)) s2 ≡ ends y s3
+    → stepped (given l) (n2Plan sw h (m .n2) z (x .zhf) (x .nine .xmm)) s1 ≡ ends b s2
+    → m ≡ mixedAt (x .nine) (sw ‼ 15) z
     → stepped (given l) (shapePlan sw x z) s ≡ ends h s1
     → stepped (given l) (gts7Plan sw x z) s ≡ ends u s5
 unfolding gts7Plan
-gts7-steps sw x z l s s1 s2 s3 s4 s5 u o k y b h e0 e1 e2 e3 e4 e5 e6 =
+gts7-steps sw x z l s s1 s2 s3 s4 s5 u o k y b m h e0 e1 e2 e3 e4 e5 em e6 =
     stepped-then (given l) (shapePlan sw x z) _ s h s1 e6
-    ∙ stepped-then (given l) (n2Plan sw h z (x .zhf)) _ s1 b s2 e5
-    ∙ stepped-then (given l) (speciesPlan sw h z (b .b) (x .flux)) _ s2 y s3 e4
+    ∙ stepped-then (given l) (n2Plan sw h ((mixedAt (x .nine) (sw ‼ 15) z) .n2) z (x .zhf) (x .nine .xmm)) _ s1 b s2 (rw em at e5)
+    ∙ stepped-then (given l) (speciesPlan sw h (mixedAt (x .nine) (sw ‼ 15) z) z (b .b) (x .flux) (x .nine .xmm)) _ s2 y s3 (rw em at e4)
     ∙ stepped-then (given l) (hotPlan sw (anomalousOf h) z) _ s3 o s4 (rw e3 at e2)
     ∙ stepped-keep (given l) _ _ s4
     ∙ stepped-done (given l) _ _

@@ -14,16 +14,19 @@ use Rattle.setting.specs.declared.View.{View}
 use Rattle.setting.specs.Switches.{given, isOne, onOff, filled, swOf}
 use Rattle.setting.specs.State.{freshOf}
 use Rattle.setting.specs.View.{viewOf}
-use Rattle.mixing.specs.Limits.{n2Mixed}
+use Rattle.parameters.specs.Parameters.{presentOf}
+use Rattle.parameters.specs.declared.Parameters.{Parameters}
+use Rattle.mixing.specs.Limits.{mixedAt}
 use Rattle.places.proofs.Order.{lt-asym}
 use Rattle.expansion.specs.Expansion.{afterOf}
 use Rattle.plan.specs.Plan.{Ran, run, stepped}
 use Rattle.upper.specs.declared.Site.{Site}
+use Rattle.upper.specs.Upper.{siteWith}
 use Rattle.lower.specs.declared.Whole.{Whole}
 use Rattle.acceptance.specs.declared.Answer.{Answer}
 use Rattle.acceptance.specs.declared.Answer.the-variants.{Accepted, Refused}
 use Rattle.acceptance.specs.Acceptance.{judgedOf, acceptedOf, unmixedOf, recordAnswer}
-use Rattle.atmosphere.specs.Atmosphere.{gtd7Plan, leftOf, answerOf}
+use Rattle.atmosphere.specs.Atmosphere.{gtd7Plan, leftWith, leftOf, answerOf}
 use Rattle.atmosphere.specs.Answers.{gtd7-left}
 use Rattle.model_state.specs.Mark.{gtd7-marks}
 
@@ -35,12 +38,12 @@ itself false = refl
 
 -- From a fresh State gtd7 leaves the mark true exactly where N2 is mixed at gts7's altitude, whatever the number that is then in dm28
 pub left-marked : (v : View) (x : Site) (alt : Float)
-    → (run v (gtd7Plan (v .sw) x alt) freshOf) .left .«dm28_set» ≡ n2Mixed (v .sw ‼ 15) (cond (lt 72·5 alt) alt 72·5)
+    → (run v (gtd7Plan (v .sw) x alt) freshOf) .left .«dm28_set» ≡ (mixedAt (x .nine) (v .sw ‼ 15) (cond (lt 72·5 alt) alt 72·5)) .n2
 unfolding stepped afterOf freshOf
 left-marked v x alt =
     ap (λ (r : Ran Whole). r .left .«dm28_set») (gtd7-left v x alt)
     ∙ gtd7-marks (v .sw) x alt _ _
-    ∙ itself (n2Mixed (v .sw ‼ 15) (cond (lt 72·5 alt) alt 72·5))
+    ∙ itself ((mixedAt (x .nine) (v .sw ‼ 15) (cond (lt 72·5 alt) alt 72·5)) .n2)
 
 -- ---- after accepted runs below 72.5 km
 
@@ -67,13 +70,23 @@ main-15 : (w : List ℤ) (n : Input) → (viewOf w n) .sw ‼ 15 ≡ onOff (isOn
 unfolding viewOf swOf filled
 main-15 w n = refl
 
-on-at-72 : n2Mixed 1·0 72·5 ≡ true
-unfolding ne eq le lt ofBits
-on-at-72 = refl
+on-at-72 : (c : Parameters) → le 72·5 (c .n2) ≡ true → (mixedAt c 1·0 72·5) .n2 ≡ true
+unfolding mixedAt ne eq ofBits
+on-at-72 c e = e
+
+-- Where switch 15 is 1 and N2's mixing does not end below 72.5 km, the mark is true after a run below 72.5 km
+pub marked-below : (c : Parameters) (w : List ℤ) (n : Input) → isOne (given w 15) ≡ true → le 72·5 (c .n2) ≡ true → lt (n .alt) 72·5 ≡ true
+    → (leftWith c w n) .«dm28_set» ≡ true
+unfolding leftWith siteWith
+marked-below c w n one high low =
+    left-marked (viewOf w n) _ (n .alt)
+    ∙ rw (main-15 w n, one, lt-asym (n .alt) 72·5 low) (on-at-72 c high)
+
+present-high : le 72·5 (presentOf .n2) ≡ true
+unfolding presentOf le lt eq ofBits
+present-high = refl
 
 -- In every accepted run below 72.5 km the mark is true at the end.
 pub mixed-below : (w : List ℤ) (n : Input) (len : ℕ) → answerOf w n len ≡ Accepted → lt (n .alt) 72·5 ≡ true → (leftOf w n) .«dm28_set» ≡ true
 unfolding leftOf
-mixed-below w n len e low =
-    left-marked (viewOf w n) _ (n .alt)
-    ∙ rw (main-15 w n, mixing-given w n len e low, lt-asym (n .alt) 72·5 low) on-at-72
+mixed-below w n len e low = marked-below presentOf w n (mixing-given w n len e low) present-high low

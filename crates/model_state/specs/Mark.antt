@@ -6,7 +6,8 @@ use lib.Ieee.{Float, lt, le}
 use Rattle.numbers.specs.Arithmetic.{_⊗_, _‼_}
 use Rattle.numbers.specs.Literals.{32·5, 72·5, 300·0}
 use Rattle.profile.specs.declared.unchecked.Shape.{Shape}
-use Rattle.mixing.specs.Limits.{n2Mixed, heMixed, oMixed, o2Mixed, arMixed, hMixed, nMixed}
+use Rattle.mixing.specs.Limits.{mixedAt}
+use Rattle.mixing.specs.declared.limits.Mixed.{Mixed}
 use Rattle.species.specs.Species.{heliumOf, oxygenOf, o2Of, argonOf, hydrogenOf, nitrogenOf}
 use Rattle.plan.specs.Fields.{Fields, when, setDm04, setDm16, setDm32, setDm40, setDm01, setDm14}
 use Rattle.plan.specs.Plan.{Plan, done, ask, keep, either, _>>=_}
@@ -63,68 +64,67 @@ shape-leaves sw x z =
     (λ b. then-leaves false (nodesPlan sw z) _ (nodes-leaves sw z)
     (λ n. done-leaves _))))
 
-n2-marks : (sw : List Float) (h : Shape) (z zhf : Float) → Marks (n2Mixed (sw ‼ 15) z) (n2Plan sw h z zhf)
+n2-marks : (sw : List Float) (h : Shape) (b : Bool) (z zhf xmm : Float) → Marks b (n2Plan sw h b z zhf xmm)
 unfolding n2Plan _>>=_
-n2-marks sw h z zhf =
-    let b = n2Mixed (sw ‼ 15) z in
+n2-marks sw h b z zhf xmm =
     ask-marks b _ _
     (λ g. keep-marks b _ _ (densu-leaves h z)
     (keep-marks b _ _ (densu-leaves h _)
     (when-marks b _ _ (λ f. (dm28-marks _ _) .0) (done-leaves _))))
 
-helium-leaves : (sw : List Float) (h : Shape) (z b28 zhm xmm : Float) → Unmarking (heliumPlan sw h z b28 zhm xmm)
+helium-leaves : (sw : List Float) (h : Shape) (on : Bool) (z b28 zhm xmm : Float) → Unmarking (heliumPlan sw h on z b28 zhm xmm)
 unfolding heliumPlan _>>=_
-helium-leaves sw h z b28 zhm xmm =
-    ask-marks false _ _ (λ g. let x = heliumOf h (sw ‼ 15) z b28 (pdmT0 ‼ 0 ⊗ g ⊗ pdT0 ‼ 0) zhm xmm in species-leaves (heMixed (sw ‼ 15) z) h z (pdmT0 ‼ 2) (setDm04 (x .dm)) (dm04-leaves (x .dm)) x)
+helium-leaves sw h on z b28 zhm xmm =
+    ask-marks false _ _ (λ g. let x = heliumOf h on z b28 (pdmT0 ‼ 0 ⊗ g ⊗ pdT0 ‼ 0) zhm xmm in species-leaves on h z (pdmT0 ‼ 2) (setDm04 (x .dm)) (dm04-leaves (x .dm)) x)
 
-oxygen-leaves : (sw : List Float) (h : Shape) (z zhm xmm flux : Float) → Unmarking (oxygenPlan sw h z zhm xmm flux)
+oxygen-leaves : (sw : List Float) (h : Shape) (on : Bool) (z zhm xmm flux : Float) → Unmarking (oxygenPlan sw h on z zhm xmm flux)
 unfolding oxygenPlan _>>=_
-oxygen-leaves sw h z zhm xmm flux =
-    ask-marks false _ _ (λ g. let x = oxygenOf h (sw ‼ 15) z (pdmT1 ‼ 0 ⊗ g ⊗ pdT1 ‼ 0) zhm xmm flux in species-leaves (oMixed (sw ‼ 15) z) h z (pdmT1 ‼ 2) (setDm16 (x .dm)) (dm16-leaves (x .dm)) x)
+oxygen-leaves sw h on z zhm xmm flux =
+    ask-marks false _ _ (λ g. let x = oxygenOf h on z (pdmT1 ‼ 0 ⊗ g ⊗ pdT1 ‼ 0) zhm xmm flux in species-leaves on h z (pdmT1 ‼ 2) (setDm16 (x .dm)) (dm16-leaves (x .dm)) x)
 
-o2-leaves : (sw : List Float) (h : Shape) (z b28 zhm xmm flux : Float) → Unmarking (o2Plan sw h z b28 zhm xmm flux)
+o2-leaves : (sw : List Float) (h : Shape) (on : Bool) (z b28 zhm xmm flux : Float) → Unmarking (o2Plan sw h on z b28 zhm xmm flux)
 unfolding o2Plan _>>=_
-o2-leaves sw h z b28 zhm xmm flux =
-    ask-marks false _ _ (λ g. let x = o2Of h (sw ‼ 15) z b28 (pdmT3 ‼ 0 ⊗ g ⊗ pdT4 ‼ 0) zhm xmm flux in species-leaves (o2Mixed (sw ‼ 15) z) h z (pdmT3 ‼ 2) (setDm32 (x .dm)) (dm32-leaves (x .dm)) x)
+o2-leaves sw h on z b28 zhm xmm flux =
+    ask-marks false _ _ (λ g. let x = o2Of h (sw ‼ 15) on z b28 (pdmT3 ‼ 0 ⊗ g ⊗ pdT4 ‼ 0) zhm xmm flux in species-leaves on h z (pdmT3 ‼ 2) (setDm32 (x .dm)) (dm32-leaves (x .dm)) x)
 
-argon-leaves : (sw : List Float) (h : Shape) (z b28 zhm xmm : Float) → Unmarking (argonPlan sw h z b28 zhm xmm)
+argon-leaves : (sw : List Float) (h : Shape) (on : Bool) (z b28 zhm xmm : Float) → Unmarking (argonPlan sw h on z b28 zhm xmm)
 unfolding argonPlan _>>=_
-argon-leaves sw h z b28 zhm xmm =
-    ask-marks false _ _ (λ g. let x = argonOf h (sw ‼ 15) z b28 (pdmT4 ‼ 0 ⊗ g ⊗ pdT5 ‼ 0) zhm xmm in species-leaves (arMixed (sw ‼ 15) z) h z (pdmT4 ‼ 2) (setDm40 (x .dm)) (dm40-leaves (x .dm)) x)
+argon-leaves sw h on z b28 zhm xmm =
+    ask-marks false _ _ (λ g. let x = argonOf h on z b28 (pdmT4 ‼ 0 ⊗ g ⊗ pdT5 ‼ 0) zhm xmm in species-leaves on h z (pdmT4 ‼ 2) (setDm40 (x .dm)) (dm40-leaves (x .dm)) x)
 
-hydrogen-leaves : (sw : List Float) (h : Shape) (z b28 zhm xmm : Float) → Unmarking (hydrogenPlan sw h z b28 zhm xmm)
+hydrogen-leaves : (sw : List Float) (h : Shape) (on : Bool) (z b28 zhm xmm : Float) → Unmarking (hydrogenPlan sw h on z b28 zhm xmm)
 unfolding hydrogenPlan _>>=_
-hydrogen-leaves sw h z b28 zhm xmm =
-    ask-marks false _ _ (λ g. let x = hydrogenOf h (sw ‼ 15) z b28 (pdmT5 ‼ 0 ⊗ g ⊗ pdT6 ‼ 0) zhm xmm in species-leaves (hMixed (sw ‼ 15) z) h z (pdmT5 ‼ 2) (setDm01 (x .dm)) (dm01-leaves (x .dm)) x)
+hydrogen-leaves sw h on z b28 zhm xmm =
+    ask-marks false _ _ (λ g. let x = hydrogenOf h on z b28 (pdmT5 ‼ 0 ⊗ g ⊗ pdT6 ‼ 0) zhm xmm in species-leaves on h z (pdmT5 ‼ 2) (setDm01 (x .dm)) (dm01-leaves (x .dm)) x)
 
-nitrogen-leaves : (sw : List Float) (h : Shape) (z b28 zhm xmm : Float) → Unmarking (nitrogenPlan sw h z b28 zhm xmm)
+nitrogen-leaves : (sw : List Float) (h : Shape) (on : Bool) (z b28 zhm xmm : Float) → Unmarking (nitrogenPlan sw h on z b28 zhm xmm)
 unfolding nitrogenPlan _>>=_
-nitrogen-leaves sw h z b28 zhm xmm =
-    ask-marks false _ _ (λ g. let x = nitrogenOf h (sw ‼ 15) z b28 (pdmT6 ‼ 0 ⊗ g ⊗ pdT7 ‼ 0) zhm xmm in species-leaves (nMixed (sw ‼ 15) z) h z (pdmT6 ‼ 2) (setDm14 (x .dm)) (dm14-leaves (x .dm)) x)
+nitrogen-leaves sw h on z b28 zhm xmm =
+    ask-marks false _ _ (λ g. let x = nitrogenOf h on z b28 (pdmT6 ‼ 0 ⊗ g ⊗ pdT7 ‼ 0) zhm xmm in species-leaves on h z (pdmT6 ‼ 2) (setDm14 (x .dm)) (dm14-leaves (x .dm)) x)
 
 hot-leaves : (sw : List Float) (h : Shape) (z : Float) → Unmarking (hotPlan sw h z)
 unfolding hotPlan _>>=_
 hot-leaves sw h z = ask-marks false _ _ (λ g. keep-marks false _ _ (densu-leaves h z) (done-leaves _))
 
-six-leaves : (sw : List Float) (h : Shape) (z b28 flux : Float) → Unmarking (speciesPlan sw h z b28 flux)
+six-leaves : (sw : List Float) (h : Shape) (m : Mixed) (z b28 flux xmm : Float) → Unmarking (speciesPlan sw h m z b28 flux xmm)
 unfolding speciesPlan
-six-leaves sw h z b28 flux =
-    then-leaves false (heliumPlan sw h z b28 _ _) _ (helium-leaves sw h z b28 _ _)
-    (λ a. then-leaves false (oxygenPlan sw h z _ _ flux) _ (oxygen-leaves sw h z _ _ flux)
-    (λ b. then-leaves false (o2Plan sw h z b28 _ _ flux) _ (o2-leaves sw h z b28 _ _ flux)
-    (λ c. then-leaves false (argonPlan sw h z b28 _ _) _ (argon-leaves sw h z b28 _ _)
-    (λ d. then-leaves false (hydrogenPlan sw h z b28 _ _) _ (hydrogen-leaves sw h z b28 _ _)
-    (λ e. then-leaves false (nitrogenPlan sw h z b28 _ _) _ (nitrogen-leaves sw h z b28 _ _)
+six-leaves sw h m z b28 flux xmm =
+    then-leaves false (heliumPlan sw h (m .he) z b28 _ _) _ (helium-leaves sw h (m .he) z b28 _ _)
+    (λ a. then-leaves false (oxygenPlan sw h (m .o) z _ _ flux) _ (oxygen-leaves sw h (m .o) z _ _ flux)
+    (λ b. then-leaves false (o2Plan sw h (m .o2) z b28 _ _ flux) _ (o2-leaves sw h (m .o2) z b28 _ _ flux)
+    (λ c. then-leaves false (argonPlan sw h (m .ar) z b28 _ _) _ (argon-leaves sw h (m .ar) z b28 _ _)
+    (λ d. then-leaves false (hydrogenPlan sw h (m .h) z b28 _ _) _ (hydrogen-leaves sw h (m .h) z b28 _ _)
+    (λ e. then-leaves false (nitrogenPlan sw h (m .n) z b28 _ _) _ (nitrogen-leaves sw h (m .n) z b28 _ _)
     (λ f. done-leaves _))))))
 
 -- gts7 sets the mark exactly where N2 is mixed
-pub gts7-marks : (sw : List Float) (x : Site) (z : Float) → Marks (n2Mixed (sw ‼ 15) z) (gts7Plan sw x z)
+pub gts7-marks : (sw : List Float) (x : Site) (z : Float) → Marks ((mixedAt (x .nine) (sw ‼ 15) z) .n2) (gts7Plan sw x z)
 unfolding gts7Plan
 gts7-marks sw x z =
-    let m = n2Mixed (sw ‼ 15) z in
-    then-marks m (shapePlan sw x z) _ (shape-leaves sw x z)
-    (λ h. then-leaves m (n2Plan sw h z (x .zhf)) _ (n2-marks sw h z (x .zhf))
-    (λ b. then-leaves false (speciesPlan sw h z _ (x .flux)) _ (six-leaves sw h z _ (x .flux))
+    let k = mixedAt (x .nine) (sw ‼ 15) z in
+    then-marks (k .n2) (shapePlan sw x z) _ (shape-leaves sw x z)
+    (λ h. then-leaves (k .n2) (n2Plan sw h (k .n2) z (x .zhf) (x .nine .xmm)) _ (n2-marks sw h (k .n2) z (x .zhf) (x .nine .xmm))
+    (λ b. then-leaves false (speciesPlan sw h k z _ (x .flux) (x .nine .xmm)) _ (six-leaves sw h k z _ (x .flux) (x .nine .xmm))
     (λ y. then-leaves false (hotPlan sw _ z) _ (hot-leaves sw _ z)
     (λ o. keep-marks false _ _ (densu-leaves h _) (done-leaves _)))))
 
@@ -146,11 +146,11 @@ lower-leaves sw alt m =
     (ask-marks false _ _ (λ a. ask-marks false _ _ (λ b. ask-marks false _ _ (λ c. ask-marks false _ _ (λ e. ask-marks false _ _ (λ g. keep-marks false _ _ (tn3-leaves _ _) (done-leaves _)))))))
 
 -- gtd7 sets the mark exactly where N2 is mixed at gts7's altitude, which is 72.5 km or above
-pub gtd7-marks : (sw : List Float) (x : Site) (alt : Float) → Marks (n2Mixed (sw ‼ 15) (cond (lt 72·5 alt) alt 72·5)) (gtd7Plan sw x alt)
+pub gtd7-marks : (sw : List Float) (x : Site) (alt : Float) → Marks ((mixedAt (x .nine) (sw ‼ 15) (cond (lt 72·5 alt) alt 72·5)) .n2) (gtd7Plan sw x alt)
 unfolding gtd7Plan
 gtd7-marks sw x alt =
     let z = cond (lt 72·5 alt) alt 72·5 in
-    let m = n2Mixed (sw ‼ 15) z in
+    let m = (mixedAt (x .nine) (sw ‼ 15) z) .n2 in
     keep-marks m _ _ (gravity-leaves _ _)
     (then-leaves m (gts7Plan sw x z) _ (gts7-marks sw x z)
     (λ u. either-leaves (le 72·5 alt) _ _ (done-leaves _)

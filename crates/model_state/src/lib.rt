@@ -2,13 +2,13 @@
 // Rust. The expansions' values are worked out once and handed in, as in the calls that users make, which carry no State.
 ghost use mathlib.Core.Path.{_≡_};
 ghost use Rattle.elementary.specs.Root.{sqrtOf};
-ghost use Rattle.numbers.specs.Arithmetic.{_⊗_, _‼_};
+ghost use Rattle.numbers.specs.Arithmetic.{_⊗_};
 ghost use Rattle.setting.specs.Shared.{Shared};
 ghost use Rattle.setting.specs.State.{freshOf};
 ghost use Rattle.plan.specs.Fields.{fieldsOf, withFields};
 ghost use Rattle.plan.specs.Plan.{ends, given, stepped, run};
-ghost use Rattle.species.specs.Places.{spineAt, placeAt, mixesAt, Mixes};
-ghost use Rattle.tables.specs.Tables.{pdmT2};
+ghost use Rattle.mixing.specs.Limits.{someMixed};
+ghost use Rattle.species.specs.Places.{spineAt, placeAt, Mixes};
 ghost use Rattle.upper.specs.Upper.{gatherOf};
 ghost use Rattle.stages.specs.Stages.{densuSets, nodesPlan, shapePlan, speciesPlan, gts7Plan};
 ghost use Rattle.lower.specs.Lower.{mesoPlan, lowerPlan};
@@ -24,6 +24,9 @@ use lower::above;
 use lower::below;
 use lower::lower_stage;
 use lower::meso_stage;
+use mixing::limits::Mixed;
+use mixing::limits::mixed_at;
+use mixing::limits::some_mixed;
 use numbers::pick;
 use places::place::Place;
 use places::place::Spine;
@@ -140,41 +143,42 @@ pub fn shape_step(sw: [f64; 24], x: Site, z: f64, l: Levels, s: State) -> ShapeL
     }
 }
 
-// The six species that blend with N2; k is the spine of h, p the place of z, t thins out what is mixed there.
+// The six species that blend with N2, those mixed that m says; k is the spine of h, p the place of z, t thins out what is mixed there.
 pub fn species_step(
     sw: [f64; 24],
     h: Shape,
     k: Spine,
+    m: Mixed,
     z: f64,
     p: Place,
     t: Thinning,
     b28: f64,
     flux: f64,
+    xmm: f64,
     l: Levels,
     s: State,
 ) -> SixLeft
-    requires { ⌜ (k ≡ spineAt h) × (p ≡ placeAt h z) × Mixes (mixesAt (sw ‼ 15) z) p (pdmT2 ‼ 4) t ⌝ }
-    ensures { λ r. ⌜ stepped (given l) (speciesPlan sw h z b28 flux) s ≡ ends (r .value) (r .state) ⌝ }
+    requires { ⌜ (k ≡ spineAt h) × (p ≡ placeAt h z) × Mixes (someMixed m) p xmm t ⌝ }
+    ensures { λ r. ⌜ stepped (given l) (speciesPlan sw h m z b28 flux xmm) s ≡ ends (r .value) (r .state) ⌝ }
 {
-    let m = pdm2();
+    let a = pdm2();
     let d = pdl1();
-    let zhm = m[3] * d[5];
-    let xmm = m[4];
-    let w = turbopauses_of(sw, h, k, z, p);
+    let zhm = a[3] * d[5];
+    let w = turbopauses_of(m, h, k, p);
     let whe = w.he;
     let wo = w.o;
     let wh = w.h;
-    let he = helium_step(sw, h, z, p, whe, t, b28, zhm, xmm, l, s);
+    let he = helium_step(sw, h, m.he, z, p, whe, t, b28, zhm, xmm, l, s);
     let s1 = he.state;
-    let o = oxygen_step(sw, h, z, p, wo, t, zhm, xmm, flux, l, s1);
+    let o = oxygen_step(sw, h, m.o, z, p, wo, t, zhm, xmm, flux, l, s1);
     let s2 = o.state;
-    let o2 = o2_step(sw, h, z, p, wo, t, b28, zhm, xmm, flux, l, s2);
+    let o2 = o2_step(sw, h, m.o2, z, p, wo, t, b28, zhm, xmm, flux, l, s2);
     let s3 = o2.state;
-    let ar = argon_step(sw, h, z, p, wo, t, b28, zhm, xmm, l, s3);
+    let ar = argon_step(sw, h, m.ar, z, p, wo, t, b28, zhm, xmm, l, s3);
     let s4 = ar.state;
-    let hy = hydrogen_step(sw, h, z, p, wh, t, b28, zhm, xmm, l, s4);
+    let hy = hydrogen_step(sw, h, m.h, z, p, wh, t, b28, zhm, xmm, l, s4);
     let s5 = hy.state;
-    let n = nitrogen_step(sw, h, z, p, wo, t, b28, zhm, xmm, l, s5);
+    let n = nitrogen_step(sw, h, m.n, z, p, wo, t, b28, zhm, xmm, l, s5);
     let s6 = n.state;
     let x1 = he.value;
     let x2 = o.value;
@@ -229,11 +233,14 @@ pub fn gts7(sw: [f64; 24], x: Site, z: f64, l: Levels, s: State) -> UpperLeft
     let p = place_at(h, k, z);
     let m = pdm2();
     let w = place_at(h, k, m[2] * x.zhf);
-    let t = mixing((sw[15] != 0.0) & (z <= 450.0), p, m[4]);
-    let bs = n2_step(sw, h, z, p, w, t, x.zhf, l, s1);
+    let c = x.nine;
+    let g = mixed_at(c, sw[15], z);
+    let on = some_mixed(g);
+    let t = mixing(on, p, c.xmm);
+    let bs = n2_step(sw, h, g.n2, z, p, w, t, x.zhf, c.xmm, l, s1);
     let b = bs.value;
     let s2 = bs.state;
-    let ys = species_step(sw, h, k, z, p, t, b.b, x.flux, l, s2);
+    let ys = species_step(sw, h, k, g, z, p, t, b.b, x.flux, c.xmm, l, s2);
     let y = ys.value;
     let s3 = ys.state;
     let q = anomalous(h);

@@ -292,6 +292,13 @@ pub is-28·0 : 28·0 ≡ dec 28 0
 unfolding ofBits dec round
 is-28·0 = refl
 
+abbrev pub 28·95 : Float
+28·95 = ofBits binary64 0x403cf33333333333
+
+pub is-28·95 : 28·95 ≡ dec 2895 2
+unfolding ofBits dec round
+is-28·95 = refl
+
 abbrev pub 30·0 : Float
 30·0 = ofBits binary64 0x403e000000000000
 

@@ -5,7 +5,6 @@ use mathlib.Core.List.{List}
 use lib.Ieee.{Float, lt, le}
 use Rattle.numbers.specs.Arithmetic.{_⊕_, _⊗_, _⊘_, _‼_}
 use Rattle.numbers.specs.Literals.{0·0, 1·0, 2·0}
-use Rattle.numbers.specs.Constants.{rgas}
 use Rattle.elementary.specs.Log.{logOf}
 use Rattle.elementary.specs.Pow.{powOf}
 use Rattle.places.specs.Place.{spineOf, underOf, overOf, placeOn, placeOf, under-place, over-place}
@@ -18,12 +17,12 @@ use Rattle.places.specs.Thinning.{thinnedOf}
 use Rattle.places.proofs.Order.{lt-asym, both-left, both-right}
 
 pub alone-law : (h : Shape) (z zlb : Float) (zn : List Float) (r : Place) (q : Float)
-    → r ≡ overOf (h .re) (h .tinf) (h .tlb) (h .s) (h .gsurf ⊘ q) (h .s ⊗ rgas ⊗ h .tinf) z (zn ‼ 0) zlb
+    → r ≡ overOf (h .re) (h .tinf) (h .tlb) (h .s) (h .gsurf ⊘ q) (h .s ⊗ h .rgas ⊗ h .tinf) (h .rgas) z (zn ‼ 0) zlb
     → q ≡ powOf (1·0 ⊕ zlb ⊘ h .re) 2·0
     → (le (zn ‼ 0) z && not (lt z (zn ‼ 0))) ≡ true
     → r ≡ placeOf h z zlb zn
 alone-law h z zlb zn r q e f t =
-    e ∙ ap (λ (x : Float). overOf (h .re) (h .tinf) (h .tlb) (h .s) (h .gsurf ⊘ x) (h .s ⊗ rgas ⊗ h .tinf) z (zn ‼ 0) zlb) f
+    e ∙ ap (λ (x : Float). overOf (h .re) (h .tinf) (h .tlb) (h .s) (h .gsurf ⊘ x) (h .s ⊗ h .rgas ⊗ h .tinf) (h .rgas) z (zn ‼ 0) zlb) f
     ∙ over-place h z zlb zn (both-right (le (zn ‼ 0) z) (lt z (zn ‼ 0)) t) (both-left (le (zn ‼ 0) z) (not (lt z (zn ‼ 0))) t)
 
 pub under-law : (h : Shape) (s : Spine) (z zlb : Float) (zn : List Float) (r : Place)
@@ -35,14 +34,14 @@ under-law h s z zlb zn r e f t =
     e ∙ ap (λ (x : Spine). underOf (h .re) x z (zn ‼ 0) (zn ‼ 4)) f ∙ under-place h z zlb zn t (lt-asym z (zn ‼ 0) t)
 
 pub over-law : (h : Shape) (s : Spine) (z zlb : Float) (zn : List Float) (r : Place)
-    → r ≡ overOf (h .re) (h .tinf) (h .tlb) (h .s) (s .base) (s .k) z (zn ‼ 0) zlb
+    → r ≡ overOf (h .re) (h .tinf) (h .tlb) (h .s) (s .base) (s .k) (s .rgas) z (zn ‼ 0) zlb
     → s ≡ spineOf h zlb zn
     → le (zn ‼ 0) z ≡ true
     → lt z (zn ‼ 0) ≡ false
     → r ≡ placeOf h z zlb zn
 unfolding spineOf
 over-law h s z zlb zn r e f t u =
-    e ∙ ap (λ (x : Spine). overOf (h .re) (h .tinf) (h .tlb) (h .s) (x .base) (x .k) z (zn ‼ 0) zlb) f ∙ over-place h z zlb zn u t
+    e ∙ ap (λ (x : Spine). overOf (h .re) (h .tinf) (h .tlb) (h .s) (x .base) (x .k) (x .rgas) z (zn ‼ 0) zlb) f ∙ over-place h z zlb zn u t
 
 pub on-law : (h : Shape) (zlb : Float) (p : Point) (q lt r1 l l1 : Float)
     → l1 ≡ cond (p .under) l 0·0
@@ -60,7 +59,8 @@ pub on-law : (h : Shape) (zlb : Float) (p : Point) (q lt r1 l l1 : Float)
       zgdif = p .zgdif;
       yi = p .yi;
       base = h .gsurf ⊘ q;
-      k = h .s ⊗ rgas ⊗ h .tinf;
+      k = h .s ⊗ h .rgas ⊗ h .tinf;
+      rgas = h .rgas;
       s = h .s;
       rt = h .tlb ⊘ p .tt;
       lt = lt;

@@ -6,7 +6,6 @@ use lib.ListN.{set}
 use lib.Ieee.{Float, lt, le}
 use Rattle.numbers.specs.Arithmetic.{_⊕_, _⊗_, _⊘_, _‼_}
 use Rattle.numbers.specs.Literals.{0·0, 1·0, 2·0}
-use Rattle.numbers.specs.Constants.{rgas}
 use Rattle.elementary.specs.Log.{logOf}
 use Rattle.elementary.specs.Pow.{powOf}
 use Rattle.spline.specs.Nodes.{splintOf, spliniOf}
@@ -30,7 +29,8 @@ spineOf h zlb zn =
     let l = layerOf (h .re) zn (set (h .tn) 0 tt) 5 (set (h .tgn) 0 (gradientOf (h .re) (h .tinf) tt zlb (h .s) za)) za in
     record {
       base = h .gsurf ⊘ powOf (1·0 ⊕ zlb ⊘ h .re) 2·0;
-      k = h .s ⊗ rgas ⊗ h .tinf;
+      k = h .s ⊗ h .rgas ⊗ h .tinf;
+      rgas = h .rgas;
       s = h .s;
       zg2 = zg2;
       tt = tt;
@@ -62,6 +62,7 @@ underOf re s z za low =
       yi = a .yi;
       base = s .base;
       k = s .k;
+      rgas = s .rgas;
       s = s .s;
       rt = s .rt;
       lt = s .lt;
@@ -70,8 +71,8 @@ underOf re s z za low =
     }
 
 -- an altitude at or above za, which reads no curve
-unfoldable pub overOf : Float → Float → Float → Float → Float → Float → Float → Float → Float → Place
-overOf re tinf tlb s2 base k z za zlb =
+unfoldable pub overOf : Float → Float → Float → Float → Float → Float → Float → Float → Float → Float → Place
+overOf re tinf tlb s2 base k rgas z za zlb =
     let zg2 = zetaOf re (cond (lt za z) z za) zlb in
     let tt = batesOf tinf tlb s2 zg2 in
     record {
@@ -85,6 +86,7 @@ overOf re tinf tlb s2 base k z za zlb =
       yi = 0·0;
       base = base;
       k = k;
+      rgas = rgas;
       s = s2;
       rt = tlb ⊘ tt;
       lt = logOf (tlb ⊘ tt);
@@ -106,7 +108,8 @@ placeOn h zlb p =
       zgdif = p .zgdif;
       yi = p .yi;
       base = h .gsurf ⊘ powOf (1·0 ⊕ zlb ⊘ h .re) 2·0;
-      k = h .s ⊗ rgas ⊗ h .tinf;
+      k = h .s ⊗ h .rgas ⊗ h .tinf;
+      rgas = h .rgas;
       s = h .s;
       rt = h .tlb ⊘ p .tt;
       lt = logOf (h .tlb ⊘ p .tt);
@@ -126,7 +129,7 @@ under-place h z zlb zn below not-above = rw (below, not-above, splint-five, spli
 
 -- At or above za
 pub over-place : (h : Shape) (z zlb : Float) (zn : List Float) → lt z (zn ‼ 0) ≡ false → le (zn ‼ 0) z ≡ true
-    → overOf (h .re) (h .tinf) (h .tlb) (h .s) (h .gsurf ⊘ powOf (1·0 ⊕ zlb ⊘ h .re) 2·0) (h .s ⊗ rgas ⊗ h .tinf) z (zn ‼ 0) zlb ≡ placeOf h z zlb zn
+    → overOf (h .re) (h .tinf) (h .tlb) (h .s) (h .gsurf ⊘ powOf (1·0 ⊕ zlb ⊘ h .re) 2·0) (h .s ⊗ h .rgas ⊗ h .tinf) (h .rgas) z (zn ‼ 0) zlb ≡ placeOf h z zlb zn
 unfolding overOf placeOf placeOn pointOf offCurve
 over-place h z zlb zn not-below above = rw (not-below, above)
 

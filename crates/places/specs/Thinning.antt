@@ -5,7 +5,6 @@ use mathlib.Core.List.{List}
 use lib.Ieee.{Float, neg, lt, le, eq, ofBits}
 use Rattle.numbers.specs.Arithmetic.{_⊕_, _⊗_, _⊘_, _‼_}
 use Rattle.numbers.specs.Literals.{0·0, 1·0, 50·0}
-use Rattle.numbers.specs.Constants.{rgas}
 use Rattle.elementary.specs.Exp.{expOf}
 use Rattle.elementary.specs.Log.{logOf}
 use Rattle.elementary.specs.Pow.{powOf}
@@ -32,7 +31,7 @@ thinningOf w xm alpha =
     let e = cond (le (w .tt) 0·0) 50·0 (cappedOf (expOf (neg (w .s) ⊗ gamma ⊗ w .zg2))) in
     let p = powOf (w .rt) (1·0 ⊕ alpha ⊕ gamma) in
     cond (not (w .under)) (record { none = eq xm 0·0; under = false; tz = w .tz; p = p; e = e; q = 1·0; k = 1·0 }) (
-    let expl = cond (le (w .tz) 0·0) 50·0 (cappedOf (xm ⊗ w .glb ⊗ w .zgdif ⊘ rgas ⊗ w .yi)) in
+    let expl = cond (le (w .tz) 0·0) 50·0 (cappedOf (xm ⊗ w .glb ⊗ w .zgdif ⊘ w .rgas ⊗ w .yi)) in
     record { none = eq xm 0·0; under = true; tz = w .tz; p = p; e = e; q = powOf (w .r1) (1·0 ⊕ alpha); k = expOf (neg expl) })
 
 -- their product with dlb, in densu's order

@@ -6,7 +6,6 @@ ghost use Rattle.places.specs.Place.{spineOf, readOf, underOf, overOf, p
 use elementary::logarithm::log;
 use elementary::power::pow;
 use layers::first_five;
-use numbers::RGAS;
 use numbers::pick;
 use profile::curve::Curve;
 use profile::curve::layer;
@@ -19,11 +18,12 @@ use profile::unchecked::gradient;
 use spline::nodes::splini;
 use spline::nodes::splint;
 
-// What a Shape fixes: gravity base at zlb, k = s * RGAS * tinf; the height zg2, the temperature tt, rt = tlb / tt and its
+// What a Shape fixes: gravity base at zlb, k = s * rgas * tinf; the gas constant rgas; the height zg2, the temperature tt, rt = tlb / tt and its
 // logarithm lt at za; and the curve below za.
 pub struct Spine {
     pub base: f64,
     pub k: f64,
+    pub rgas: f64,
     pub s: f64,
     pub zg2: f64,
     pub tt: f64,
@@ -49,6 +49,7 @@ pub struct Place {
     pub yi: f64,
     pub base: f64,
     pub k: f64,
+    pub rgas: f64,
     pub s: f64,
     pub rt: f64,
     pub lt: f64,
@@ -94,7 +95,8 @@ pub fn spine_of(h: Shape, zlb: f64, zn: [f64; 5]) -> Spine
     let y2 = first_five(c);
     Spine {
         base: h.gsurf / q,
-        k: h.s * RGAS * h.tinf,
+        k: h.s * h.rgas * h.tinf,
+        rgas: h.rgas,
         s: h.s,
         zg2: zg2,
         tt: tt,
@@ -151,6 +153,7 @@ pub fn under(re: f64, s: Spine, z: f64, za: f64, low: f64) -> Place
         yi: a.yi,
         base: s.base,
         k: s.k,
+        rgas: s.rgas,
         s: s.s,
         rt: s.rt,
         lt: s.lt,
@@ -167,11 +170,12 @@ pub fn over(
     s2: f64,
     base: f64,
     k: f64,
+    rgas: f64,
     z: f64,
     za: f64,
     zlb: f64,
 ) -> Place
-    ensures { λ r. ⌜ r ≡ overOf re tinf tlb s2 base k z za zlb ⌝ }
+    ensures { λ r. ⌜ r ≡ overOf re tinf tlb s2 base k rgas z za zlb ⌝ }
 {
     let zz = pick(z > za, z, za);
     let zg2 = zeta(re, zz, zlb);
@@ -189,6 +193,7 @@ pub fn over(
         yi: 0.0,
         base: base,
         k: k,
+        rgas: rgas,
         s: s2,
         rt: rt,
         lt: lt,
@@ -217,7 +222,8 @@ pub fn place_on(h: Shape, zlb: f64, p: Point) -> Place
         zgdif: p.zgdif,
         yi: p.yi,
         base: h.gsurf / q,
-        k: h.s * RGAS * h.tinf,
+        k: h.s * h.rgas * h.tinf,
+        rgas: h.rgas,
         s: h.s,
         rt: rt,
         lt: lt,
@@ -239,7 +245,8 @@ pub fn place_alone(h: Shape, z: f64, zlb: f64, zn: [f64; 5]) -> Place
             h.tlb,
             h.s,
             h.gsurf / q,
-            h.s * RGAS * h.tinf,
+            h.s * h.rgas * h.tinf,
+            h.rgas,
             z,
             za,
             zlb,
@@ -259,7 +266,7 @@ pub fn place_of(h: Shape, s: Spine, z: f64, zlb: f64, zn: [f64; 5]) -> Place
         return under(h.re, s, z, za, zn[4]);
     }
     if z >= za {
-        return over(h.re, h.tinf, h.tlb, h.s, s.base, s.k, z, za, zlb);
+        return over(h.re, h.tinf, h.tlb, h.s, s.base, s.k, s.rgas, z, za, zlb);
     }
     place_alone(h, z, zlb, zn)
 }

@@ -4,7 +4,6 @@ ghost use Rattle.places.specs.Thinning.{Logged, thinningOf, thinnedOf};
 use super::place::Place;
 use elementary::exponential::exp;
 use elementary::power::pow_with;
-use numbers::RGAS;
 use numbers::pick;
 use profile::curve::capped;
 
@@ -40,7 +39,7 @@ pub fn thin(w: Place, xm: f64, alpha: f64) -> Thinning
             k: 1.0,
         };
     }
-    let b = capped(xm * w.glb * w.zgdif / RGAS * w.yi);
+    let b = capped(xm * w.glb * w.zgdif / w.rgas * w.yi);
     let expl = pick(w.tz <= 0.0, 50.0, b);
     let q = pow_with(w.r1, 1.0 + alpha, w.l1);
     let k = exp(-expl);

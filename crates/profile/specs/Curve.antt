@@ -6,7 +6,6 @@ use lib.ListN.{set, replicate}
 use lib.Ieee.{Float, neg, lt}
 use Rattle.numbers.specs.Arithmetic.{_⊕_, _⊗_, _⊘_, _‼_}
 use Rattle.numbers.specs.Literals.{0·0, 1·0, 2·0, 50·0}
-use Rattle.numbers.specs.Constants.{rgas}
 use Rattle.elementary.specs.Pow.{powOf}
 use Rattle.spline.specs.Nodes.{splintOf, spliniOf}
 use Rattle.spline.specs.Sweep.{splineOf}
@@ -71,9 +70,9 @@ unsetOf tz =
       y2 = replicate 10 0·0;
     }
 
--- gamm * yi
-unfoldable pub exponentOf : Float → Float → Float → Curve → ℕ → Float
-exponentOf gsurf re xm l n =
+-- gamm * yi; rgas is the gas constant
+unfoldable pub exponentOf : Float → Float → Float → Float → Curve → ℕ → Float
+exponentOf rgas gsurf re xm l n =
     let glb = gsurf ⊘ powOf (1·0 ⊕ l .z1 ⊘ re) 2·0 in
     let gamm = xm ⊗ glb ⊗ l .zgdif ⊘ rgas in
     let yi = spliniOf (l .xs) (l .ys) (l .y2) n (l .x) in

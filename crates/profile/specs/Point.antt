@@ -6,7 +6,6 @@ use lib.ListN.{set}
 use lib.Ieee.{Float, neg, lt, le, eq}
 use Rattle.numbers.specs.Arithmetic.{_⊕_, _⊗_, _⊘_, _‼_}
 use Rattle.numbers.specs.Literals.{0·0, 1·0, 2·0, 50·0}
-use Rattle.numbers.specs.Constants.{rgas}
 use Rattle.elementary.specs.Exp.{expOf}
 use Rattle.elementary.specs.Pow.{powOf}
 use Rattle.spline.specs.Nodes.{spliniOf}
@@ -50,10 +49,10 @@ pointOf h z zlb zn =
 -- densu of a gas at such an altitude
 unfoldable pub densuAt : Shape → Point → Float → Float → Float → Float → Profile
 densuAt h p dlb xm alpha zlb =
-    cond (not (p .under)) (aboveOf (h .gsurf) (h .re) dlb (h .tinf) (h .tlb) xm alpha zlb (h .s) (p .zg2) (p .tt))
+    cond (not (p .under)) (aboveOf (h .rgas) (h .gsurf) (h .re) dlb (h .tinf) (h .tlb) xm alpha zlb (h .s) (p .zg2) (p .tt))
     (cond (eq xm 0·0) (Temperature (p .tz))
-    (let densa = densaOf (h .gsurf) (h .re) dlb (h .tinf) (h .tlb) xm alpha zlb (h .s) (p .zg2) (p .tt) in
-    let expl = cond (le (p .tz) 0·0) 50·0 (cappedOf (xm ⊗ p .glb ⊗ p .zgdif ⊘ rgas ⊗ p .yi)) in
+    (let densa = densaOf (h .rgas) (h .gsurf) (h .re) dlb (h .tinf) (h .tlb) xm alpha zlb (h .s) (p .zg2) (p .tt) in
+    let expl = cond (le (p .tz) 0·0) 50·0 (cappedOf (xm ⊗ p .glb ⊗ p .zgdif ⊘ h .rgas ⊗ p .yi)) in
     Density (densa ⊗ powOf (p .t1 ⊘ p .tz) (1·0 ⊕ alpha) ⊗ expOf (neg expl)) (p .tz)))
 
 split : {A : Type 0} (F : Point → A) (b c : Bool) (x y w : Point) → F (cond b x (cond c y w)) ≡ cond b (F x) (cond c (F y) (F w))

@@ -6,7 +6,6 @@ use lib.ListN.{set}
 use lib.Ieee.{Float, neg, lt, le, eq}
 use Rattle.numbers.specs.Arithmetic.{_⊕_, _⊖_, _⊗_, _⊘_, _‼_}
 use Rattle.numbers.specs.Literals.{0·0, 1·0, 2·0, 50·0}
-use Rattle.numbers.specs.Constants.{rgas}
 use Rattle.elementary.specs.Exp.{expOf}
 use Rattle.elementary.specs.Pow.{powOf}
 use Rattle.profile.specs.Gravity.{zetaOf}
@@ -25,25 +24,25 @@ unfoldable pub gradientOf : Float → Float → Float → Float → Float → Fl
 gradientOf re tinf ta zlb s2 za = (tinf ⊖ ta) ⊗ s2 ⊗ powOf ((re ⊕ zlb) ⊘ (re ⊕ za)) 2·0
 
 -- densu's densa
-unfoldable pub densaOf : Float → Float → Float → Float → Float → Float → Float → Float → Float → Float → Float → Float
-densaOf gsurf re dlb tinf tlb xm alpha zlb s2 zg2 tt =
+unfoldable pub densaOf : Float → Float → Float → Float → Float → Float → Float → Float → Float → Float → Float → Float → Float
+densaOf rgas gsurf re dlb tinf tlb xm alpha zlb s2 zg2 tt =
     let glb = gsurf ⊘ powOf (1·0 ⊕ zlb ⊘ re) 2·0 in
     let gamma = xm ⊗ glb ⊘ (s2 ⊗ rgas ⊗ tinf) in
     let expl = cond (le tt 0·0) 50·0 (cappedOf (expOf (neg s2 ⊗ gamma ⊗ zg2))) in
     dlb ⊗ powOf (tlb ⊘ tt) (1·0 ⊕ alpha ⊕ gamma) ⊗ expl
 
 -- densu from `if xm == 0.0` on, where alt is at or above za
-unfoldable pub aboveOf : Float → Float → Float → Float → Float → Float → Float → Float → Float → Float → Float → Profile
-aboveOf gsurf re dlb tinf tlb xm alpha zlb s2 zg2 tt =
+unfoldable pub aboveOf : Float → Float → Float → Float → Float → Float → Float → Float → Float → Float → Float → Float → Profile
+aboveOf rgas gsurf re dlb tinf tlb xm alpha zlb s2 zg2 tt =
     cond (eq xm 0·0) (Temperature tt)
-    (Density (densaOf gsurf re dlb tinf tlb xm alpha zlb s2 zg2 tt) tt)
+    (Density (densaOf rgas gsurf re dlb tinf tlb xm alpha zlb s2 zg2 tt) tt)
 
 -- densu from `if xm == 0.0` on, where alt is not at or above za
-unfoldable pub belowOf : Float → Float → Float → Float → Float → Float → Float → Float → Float → Float → Float → Curve → ℕ → Profile
-belowOf gsurf re dlb tinf tlb xm alpha zlb s2 zg2 tt l n =
+unfoldable pub belowOf : Float → Float → Float → Float → Float → Float → Float → Float → Float → Float → Float → Float → Curve → ℕ → Profile
+belowOf rgas gsurf re dlb tinf tlb xm alpha zlb s2 zg2 tt l n =
     cond (eq xm 0·0) (Temperature (l .tz))
-    (let densa = densaOf gsurf re dlb tinf tlb xm alpha zlb s2 zg2 tt in
-    let expl = cond (le (l .tz) 0·0) 50·0 (cappedOf (exponentOf gsurf re xm l n)) in
+    (let densa = densaOf rgas gsurf re dlb tinf tlb xm alpha zlb s2 zg2 tt in
+    let expl = cond (le (l .tz) 0·0) 50·0 (cappedOf (exponentOf rgas gsurf re xm l n)) in
     Density (densa ⊗ powOf (l .t1 ⊘ l .tz) (1·0 ⊕ alpha) ⊗ expOf (neg expl)) (l .tz))
 
 -- densu's zg2 and tt
@@ -54,17 +53,17 @@ abbrev pub ttOf : Float → Float → Float → Float → Float → Float → Fl
 ttOf re alt tinf tlb zlb s2 za = batesOf tinf tlb s2 (zg2Of re alt zlb za)
 
 -- densu: alt below za, at or above it, or neither (a NaN)
-unfoldable pub densuOf : Float → Float → Float → Float → Float → Float → Float → Float → Float → Float → ℕ → List Float → List Float → List Float → Profile
-densuOf gsurf re alt dlb tinf tlb xm alpha zlb s2 mn1 zn1 tn1 tgn1 =
+unfoldable pub densuOf : Float → Float → Float → Float → Float → Float → Float → Float → Float → Float → Float → ℕ → List Float → List Float → List Float → Profile
+densuOf rgas gsurf re alt dlb tinf tlb xm alpha zlb s2 mn1 zn1 tn1 tgn1 =
     let za = zn1 ‼ 0 in
     let zg2 = zg2Of re alt zlb za in
     let tt = ttOf re alt tinf tlb zlb s2 za in
     cond (lt alt za)
     (let dta = gradientOf re tinf tt zlb s2 za in
-    belowOf gsurf re dlb tinf tlb xm alpha zlb s2 zg2 tt (flooredOf re zn1 (set tn1 0 tt) mn1 (set tgn1 0 dta) alt) mn1)
+    belowOf rgas gsurf re dlb tinf tlb xm alpha zlb s2 zg2 tt (flooredOf re zn1 (set tn1 0 tt) mn1 (set tgn1 0 dta) alt) mn1)
     (cond (le za alt)
-    (aboveOf gsurf re dlb tinf tlb xm alpha zlb s2 zg2 tt)
-    (belowOf gsurf re dlb tinf tlb xm alpha zlb s2 zg2 tt (unsetOf tt) mn1))
+    (aboveOf rgas gsurf re dlb tinf tlb xm alpha zlb s2 zg2 tt)
+    (belowOf rgas gsurf re dlb tinf tlb xm alpha zlb s2 zg2 tt (unsetOf tt) mn1))
 
 -- what densu leaves in tn1 and tgn1: element 0 changes, and only where alt is below za
 unfoldable pub tn1Of : Float → Float → Float → Float → Float → Float → List Float → List Float → List Float
@@ -81,13 +80,13 @@ tgn1Of re alt tinf tlb zlb s2 zn1 tgn1 =
 -- densu over gts7's five nodes
 unfoldable pub densu5Of : Shape → Float → Float → Float → Float → Float → List Float → Profile
 densu5Of h alt dlb xm alpha zlb zn =
-    densuOf (h .gsurf) (h .re) alt dlb (h .tinf) (h .tlb) xm alpha zlb (h .s) 5 zn (h .tn) (h .tgn)
+    densuOf (h .rgas) (h .gsurf) (h .re) alt dlb (h .tinf) (h .tlb) xm alpha zlb (h .s) 5 zn (h .tn) (h .tgn)
 
 -- densm's `if xm != 0.0`, which it has twice
-unfoldable pub loweredOf : Float → Float → Float → Float → Curve → ℕ → Float
-loweredOf gsurf re xm d l n =
+unfoldable pub loweredOf : Float → Float → Float → Float → Float → Curve → ℕ → Float
+loweredOf rgas gsurf re xm d l n =
     cond (eq xm 0·0) d
-    (let expl = cappedOf (exponentOf gsurf re xm l n) in
+    (let expl = cappedOf (exponentOf rgas gsurf re xm l n) in
     d ⊗ (l .t1 ⊘ l .tz) ⊗ expOf (neg expl))
 
 -- densm's `if xm == 0.0`, which it has three times
@@ -95,14 +94,14 @@ unfoldable pub answerOf : Float → Float → Float → Profile
 answerOf xm d tz = cond (eq xm 0·0) (Temperature tz) (Density d tz)
 
 -- densm
-unfoldable pub densmOf : Float → Float → Float → Float → Float → Float → ℕ → List Float → List Float → List Float → ℕ → List Float → List Float → List Float → Profile
-densmOf gsurf re alt d0 xm tz mn3 zn3 tn3 tgn3 mn2 zn2 tn2 tgn2 =
+unfoldable pub densmOf : Float → Float → Float → Float → Float → Float → Float → ℕ → List Float → List Float → List Float → ℕ → List Float → List Float → List Float → Profile
+densmOf rgas gsurf re alt d0 xm tz mn3 zn3 tn3 tgn3 mn2 zn2 tn2 tgn2 =
     cond (lt (zn2 ‼ 0) alt) (answerOf xm d0 tz)
     (let l = flooredOf re zn2 tn2 mn2 tgn2 alt in
-    let d1 = loweredOf gsurf re xm d0 l mn2 in
+    let d1 = loweredOf rgas gsurf re xm d0 l mn2 in
     cond (lt (zn3 ‼ 0) alt) (answerOf xm d1 (l .tz))
     (let k = layerOf re zn3 tn3 mn3 tgn3 alt in
-    answerOf xm (loweredOf gsurf re xm d1 k mn3) (k .tz)))
+    answerOf xm (loweredOf rgas gsurf re xm d1 k mn3) (k .tz)))
 
 -- the number that the Rust returns, and the temperature that it writes
 abbrev pub densityIn : Profile → Float

@@ -6,7 +6,6 @@ ghost use Rattle.profile.specs.Curve.{nodeXsOf, nodeYsOf, slopeOf, layer
 ghost use Rattle.spline.specs.Nodes.{spliniOf};
 use super::gravity::zeta;
 use elementary::power::pow;
-use numbers::RGAS;
 use numbers::pick;
 use spline::nodes::splini;
 use spline::nodes::splint;
@@ -126,9 +125,9 @@ pub fn integral(xs: [f64; 10], ys: [f64; 10], y2: [f64; 10], n: usize, x: f64) -
 }
 
 // The exponent by which a gas of mass xm thins out from the first node.
-pub fn exponent(gsurf: f64, re: f64, xm: f64, l: Curve, n: usize) -> f64
+pub fn exponent(rgas: f64, gsurf: f64, re: f64, xm: f64, l: Curve, n: usize) -> f64
     requires { ⌜ (2 ≤ n) × (n ≤ 10) ⌝ }
-    ensures { λ r. ⌜ r ≡ exponentOf gsurf re xm l n ⌝ }
+    ensures { λ r. ⌜ r ≡ exponentOf rgas gsurf re xm l n ⌝ }
 {
     let q = pow(1.0 + l.z1 / re, 2.0);
     let glb = gsurf / q;
@@ -136,7 +135,7 @@ pub fn exponent(gsurf: f64, re: f64, xm: f64, l: Curve, n: usize) -> f64
     let ys = l.ys;
     let y2 = l.y2;
     let yi = integral(xs, ys, y2, n, l.x);
-    xm * glb * l.zgdif / RGAS * yi
+    xm * glb * l.zgdif / rgas * yi
 }
 
 // An exponent no larger than 50.

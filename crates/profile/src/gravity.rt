@@ -4,7 +4,6 @@ ghost use Rattle.profile.specs.Gravity.{glatfOf, zetaOf, scalhOf};
 use elementary::power::pow;
 use elementary::trigonometry::cos;
 use numbers::DGTR;
-use numbers::RGAS;
 
 // Gravity at the surface, and the effective radius of the earth.
 pub struct Gravity {
@@ -32,10 +31,10 @@ pub fn zeta(re: f64, zz: f64, zl: f64) -> f64
 }
 
 // The scale height of a gas of mass xm.
-pub fn scalh(gsurf: f64, re: f64, alt: f64, xm: f64, temp: f64) -> f64
-    ensures { λ r. ⌜ r ≡ scalhOf gsurf re alt xm temp ⌝ }
+pub fn scalh(rgas: f64, gsurf: f64, re: f64, alt: f64, xm: f64, temp: f64) -> f64
+    ensures { λ r. ⌜ r ≡ scalhOf rgas gsurf re alt xm temp ⌝ }
 {
     let q = pow(1.0 + alt / re, 2.0);
     let g = gsurf / q;
-    RGAS * temp / (g * xm)
+    rgas * temp / (g * xm)
 }

@@ -16,7 +16,6 @@ use super::unchecked::densa;
 use super::unchecked::gradient;
 use elementary::exponential::exp;
 use elementary::power::pow;
-use numbers::RGAS;
 use numbers::pick;
 
 // An altitude z: whether it is read on the curve below za, and what no gas changes there.

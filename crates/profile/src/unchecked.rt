@@ -12,7 +12,6 @@ use super::curve::unset;
 use super::gravity::zeta;
 use elementary::exponential::exp;
 use elementary::power::pow;
-use numbers::RGAS;
 use numbers::pick;
 
 // What a profile answers: a temperature, or a density and the temperature there.
@@ -21,8 +20,9 @@ pub enum Profile {
     Density(f64, f64),
 }
 
-// What densu reads besides an altitude, a density, a mass and a diffusion factor.
+// What densu reads besides an altitude, a density, a mass and a diffusion factor; rgas is the gas constant.
 pub struct Shape {
+    pub rgas: f64,
     pub gsurf: f64,
     pub re: f64,
     pub tinf: f64,
@@ -48,6 +48,7 @@ pub fn gradient(re: f64, tinf: f64, ta: f64, zlb: f64, s2: f64, za: f64) -> f64
 
 // The density under the Bates temperature tt.
 pub fn densa(
+    rgas: f64,
     gsurf: f64,
     re: f64,
     dlb: f64,
@@ -60,11 +61,11 @@ pub fn densa(
     zg2: f64,
     tt: f64,
 ) -> f64
-    ensures { λ r. ⌜ r ≡ densaOf gsurf re dlb tinf tlb xm alpha zlb s2 zg2 tt ⌝ }
+    ensures { λ r. ⌜ r ≡ densaOf rgas gsurf re dlb tinf tlb xm alpha zlb s2 zg2 tt ⌝ }
 {
     let q = pow(1.0 + zlb / re, 2.0);
     let glb = gsurf / q;
-    let gamma = xm * glb / (s2 * RGAS * tinf);
+    let gamma = xm * glb / (s2 * rgas * tinf);
     let e = exp(-s2 * gamma * zg2);
     let c = capped(e);
     let expl = pick(tt <= 0.0, 50.0, c);
@@ -74,6 +75,7 @@ pub fn densa(
 
 // densu at or above the first node.
 pub fn above(
+    rgas: f64,
     gsurf: f64,
     re: f64,
     dlb: f64,
@@ -86,17 +88,18 @@ pub fn above(
     zg2: f64,
     tt: f64,
 ) -> Profile
-    ensures { λ r. ⌜ r ≡ aboveOf gsurf re dlb tinf tlb xm alpha zlb s2 zg2 tt ⌝ }
+    ensures { λ r. ⌜ r ≡ aboveOf rgas gsurf re dlb tinf tlb xm alpha zlb s2 zg2 tt ⌝ }
 {
     if xm == 0.0 {
         return Profile::Temperature(tt);
     }
-    let d = densa(gsurf, re, dlb, tinf, tlb, xm, alpha, zlb, s2, zg2, tt);
+    let d = densa(rgas, gsurf, re, dlb, tinf, tlb, xm, alpha, zlb, s2, zg2, tt);
     Profile::Density(d, tt)
 }
 
 // densu from the curve l on, where the altitude is not at or above the first node.
 pub fn below(
+    rgas: f64,
     gsurf: f64,
     re: f64,
     dlb: f64,
@@ -112,13 +115,13 @@ pub fn below(
     n: usize,
 ) -> Profile
     requires { ⌜ (2 ≤ n) × (n ≤ 10) ⌝ }
-    ensures { λ r. ⌜ r ≡ belowOf gsurf re dlb tinf tlb xm alpha zlb s2 zg2 tt l n ⌝ }
+    ensures { λ r. ⌜ r ≡ belowOf rgas gsurf re dlb tinf tlb xm alpha zlb s2 zg2 tt l n ⌝ }
 {
     if xm == 0.0 {
         return Profile::Temperature(l.tz);
     }
-    let d = densa(gsurf, re, dlb, tinf, tlb, xm, alpha, zlb, s2, zg2, tt);
-    let e = exponent(gsurf, re, xm, l, n);
+    let d = densa(rgas, gsurf, re, dlb, tinf, tlb, xm, alpha, zlb, s2, zg2, tt);
+    let e = exponent(rgas, gsurf, re, xm, l, n);
     let c = capped(e);
     let expl = pick(l.tz <= 0.0, 50.0, c);
     let p = pow(l.t1 / l.tz, 1.0 + alpha);
@@ -128,6 +131,7 @@ pub fn below(
 
 // densu over n nodes; below the first node element 0 of tn1 and of tgn1 is set.
 pub fn densu(
+    rgas: f64,
     gsurf: f64,
     re: f64,
     alt: f64,
@@ -144,7 +148,7 @@ pub fn densu(
     tgn1: &mut [f64],
 ) -> Profile
     requires { ⌜ (2 ≤ mn1) × (mn1 ≤ 10) × (mn1 ≤ length (now zn1)) × (mn1 ≤ length (now tn1)) × (2 ≤ length (now tgn1)) ⌝ }
-    ensures { λ r. ⌜ r ≡ densuOf gsurf re alt dlb tinf tlb xm alpha zlb s2 mn1 (now (zn1 .entry)) (now (tn1 .entry)) (now (tgn1 .entry)) ⌝ }
+    ensures { λ r. ⌜ r ≡ densuOf rgas gsurf re alt dlb tinf tlb xm alpha zlb s2 mn1 (now (zn1 .entry)) (now (tn1 .entry)) (now (tgn1 .entry)) ⌝ }
     ensures { λ _. ⌜ now (tn1 .exit) ≡ tn1Of re alt tinf tlb zlb s2 (now (zn1 .entry)) (now (tn1 .entry)) ⌝ }
     ensures { λ _. ⌜ now (tgn1 .exit) ≡ tgn1Of re alt tinf tlb zlb s2 (now (zn1 .entry)) (now (tgn1 .entry)) ⌝ }
 {
@@ -158,6 +162,7 @@ pub fn densu(
         tn1[0] = tt;
         let l = floored(re, zn1, tn1, mn1, tgn1, alt);
         return below(
+            rgas,
             gsurf,
             re,
             dlb,
@@ -174,10 +179,11 @@ pub fn densu(
         );
     }
     if alt >= za {
-        return above(gsurf, re, dlb, tinf, tlb, xm, alpha, zlb, s2, zg2, tt);
+        return above(rgas, gsurf, re, dlb, tinf, tlb, xm, alpha, zlb, s2, zg2, tt);
     }
     let l = unset(tt);
     below(
+        rgas,
         gsurf,
         re,
         dlb,
@@ -196,6 +202,7 @@ pub fn densu(
 
 // densu over five nodes by value.
 pub fn densu_by_value(
+    rgas: f64,
     gsurf: f64,
     re: f64,
     alt: f64,
@@ -210,11 +217,12 @@ pub fn densu_by_value(
     tn1: [f64; 5],
     tgn1: [f64; 2],
 ) -> Profile
-    ensures { λ r. ⌜ r ≡ densuOf gsurf re alt dlb tinf tlb xm alpha zlb s2 5 zn1 tn1 tgn1 ⌝ }
+    ensures { λ r. ⌜ r ≡ densuOf rgas gsurf re alt dlb tinf tlb xm alpha zlb s2 5 zn1 tn1 tgn1 ⌝ }
 {
     let mut tn = tn1;
     let mut tgn = tgn1;
     densu(
+        rgas,
         gsurf,
         re,
         alt,
@@ -239,6 +247,7 @@ pub fn densu5(h: Shape, alt: f64, dlb: f64, xm: f64, alpha: f64, zlb: f64, zn: [
     let tn = h.tn;
     let tgn = h.tgn;
     densu_by_value(
+        h.rgas,
         h.gsurf,
         h.re,
         alt,
@@ -256,14 +265,14 @@ pub fn densu5(h: Shape, alt: f64, dlb: f64, xm: f64, alpha: f64, zlb: f64, zn: [
 }
 
 // The density d carried down a curve.
-pub fn lowered(gsurf: f64, re: f64, xm: f64, d: f64, l: Curve, n: usize) -> f64
+pub fn lowered(rgas: f64, gsurf: f64, re: f64, xm: f64, d: f64, l: Curve, n: usize) -> f64
     requires { ⌜ (2 ≤ n) × (n ≤ 10) ⌝ }
-    ensures { λ r. ⌜ r ≡ loweredOf gsurf re xm d l n ⌝ }
+    ensures { λ r. ⌜ r ≡ loweredOf rgas gsurf re xm d l n ⌝ }
 {
     if xm == 0.0 {
         return d;
     }
-    let e = exponent(gsurf, re, xm, l, n);
+    let e = exponent(rgas, gsurf, re, xm, l, n);
     let c = capped(e);
     let k = exp(-c);
     d * (l.t1 / l.tz) * k
@@ -281,6 +290,7 @@ pub fn answer(xm: f64, d: f64, tz: f64) -> Profile
 
 // densm over mn3 nodes of set 3 and mn2 nodes of set 2.
 pub fn densm(
+    rgas: f64,
     gsurf: f64,
     re: f64,
     alt: f64,
@@ -298,23 +308,24 @@ pub fn densm(
 ) -> Profile
     requires { ⌜ (2 ≤ mn3) × (mn3 ≤ 10) × (mn3 ≤ length (now zn3)) × (mn3 ≤ length (now tn3)) × (2 ≤ length (now tgn3)) ⌝ }
     requires { ⌜ (2 ≤ mn2) × (mn2 ≤ 10) × (mn2 ≤ length (now zn2)) × (mn2 ≤ length (now tn2)) × (2 ≤ length (now tgn2)) ⌝ }
-    ensures { λ r. ⌜ r ≡ densmOf gsurf re alt d0 xm tz mn3 (now (zn3 .entry)) (now (tn3 .entry)) (now (tgn3 .entry)) mn2 (now (zn2 .entry)) (now (tn2 .entry)) (now (tgn2 .entry)) ⌝ }
+    ensures { λ r. ⌜ r ≡ densmOf rgas gsurf re alt d0 xm tz mn3 (now (zn3 .entry)) (now (tn3 .entry)) (now (tgn3 .entry)) mn2 (now (zn2 .entry)) (now (tn2 .entry)) (now (tgn2 .entry)) ⌝ }
 {
     if alt > zn2[0] {
         return answer(xm, d0, tz);
     }
     let l = floored(re, zn2, tn2, mn2, tgn2, alt);
-    let d1 = lowered(gsurf, re, xm, d0, l, mn2);
+    let d1 = lowered(rgas, gsurf, re, xm, d0, l, mn2);
     if alt > zn3[0] {
         return answer(xm, d1, l.tz);
     }
     let k = layer(re, zn3, tn3, mn3, tgn3, alt);
-    let d2 = lowered(gsurf, re, xm, d1, k, mn3);
+    let d2 = lowered(rgas, gsurf, re, xm, d1, k, mn3);
     answer(xm, d2, k.tz)
 }
 
 // densm over five nodes and four, as gtd7 has them.
 pub fn densm54(
+    rgas: f64,
     gsurf: f64,
     re: f64,
     alt: f64,
@@ -328,9 +339,10 @@ pub fn densm54(
     tn2: [f64; 4],
     tgn2: [f64; 2],
 ) -> Profile
-    ensures { λ r. ⌜ r ≡ densmOf gsurf re alt d0 xm tz 5 zn3 tn3 tgn3 4 zn2 tn2 tgn2 ⌝ }
+    ensures { λ r. ⌜ r ≡ densmOf rgas gsurf re alt d0 xm tz 5 zn3 tn3 tgn3 4 zn2 tn2 tgn2 ⌝ }
 {
     densm(
+        rgas,
         gsurf,
         re,
         alt,

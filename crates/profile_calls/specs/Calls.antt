@@ -5,6 +5,7 @@ use mathlib.Core.List.{List}
 use lib.Dec.{ltb}
 use lib.ListN.{length}
 use lib.Ieee.{Float}
+use Rattle.numbers.specs.Constants.{rgas}
 use Rattle.spline_calls.specs.Outcome.{Outcome, gives, refused, counted, after}
 use Rattle.profile.specs.Profile.{densmOf, densuOf, tn1Of, tgn1Of}
 use Rattle.profile.specs.declared.unchecked.Profile.{Profile}
@@ -24,17 +25,17 @@ checked n top zn tn tgn rest =
     (cond (ltb (length zn) n || ltb (length tn) n) (refused 4 n)
     (cond (ltb (length tgn) 2) (refused 4 2) rest))
 
--- densm
+-- densm, with the gas constant of the Rust
 unfoldable pub densmCall : Float → Float → Float → Float → Float → Float → ℕ → List Float → List Float → List Float → ℕ → List Float → List Float → List Float → Outcome Profile
 densmCall gsurf re alt d0 xm tz mn3 zn3 tn3 tgn3 mn2 zn2 tn2 tgn2 =
     checked mn2 10 zn2 tn2 tgn2
     (checked mn3 10 zn3 tn3 tgn3
-    (gives (densmOf gsurf re alt d0 xm tz mn3 zn3 tn3 tgn3 mn2 zn2 tn2 tgn2)))
+    (gives (densmOf rgas gsurf re alt d0 xm tz mn3 zn3 tn3 tgn3 mn2 zn2 tn2 tgn2)))
 
--- densu: its answer
+-- densu: its answer, with the gas constant of the Rust
 unfoldable pub densuCall : Float → Float → Float → Float → Float → Float → Float → Float → Float → Float → Float → ℕ → List Float → List Float → List Float → Outcome Profile
 densuCall gsurf re alt dlb tinf tlb xm alpha tz zlb s2 mn1 zn1 tn1 tgn1 =
-    checked mn1 5 zn1 tn1 tgn1 (gives (densuOf gsurf re alt dlb tinf tlb xm alpha zlb s2 mn1 zn1 tn1 tgn1))
+    checked mn1 5 zn1 tn1 tgn1 (gives (densuOf rgas gsurf re alt dlb tinf tlb xm alpha zlb s2 mn1 zn1 tn1 tgn1))
 
 -- what densu leaves in tn1, and in tgn1
 unfoldable pub densuTn1 : Float → Float → Float → Float → Float → Float → ℕ → List Float → List Float → List Float → List Float

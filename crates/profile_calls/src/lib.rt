@@ -1,6 +1,7 @@
 // The calls of densm and densu, with their refusals.
 ghost use mathlib.Core.Path.{_≡_};
 ghost use Rattle.profile_calls.specs.Calls.{profileOutcome, densmCall, densuCall, densuTn1, densuTgn1};
+use numbers::RGAS;
 use profile::unchecked::Profile;
 
 // What densm and densu answer: the profile's answer, or why they refuse with the place.
@@ -48,6 +49,7 @@ pub fn densm(
         return ProfileCall::SliceLength(2);
     }
     let p = profile::unchecked::densm(
+        RGAS,
         gsurf,
         re,
         alt,
@@ -98,6 +100,7 @@ pub fn densu(
         return ProfileCall::SliceLength(2);
     }
     let a = profile::unchecked::densu(
+        RGAS,
         gsurf,
         re,
         alt,

@@ -5,7 +5,9 @@ use Rattle.numbers.specs.Arithmetic.{_⊗_, _‼_}
 use Rattle.numbers.specs.Literals.{72·5}
 use Rattle.elementary.specs.Exp.{expOf}
 use Rattle.elementary.specs.Root.{sqrtOf}
-use Rattle.mixing.specs.Limits.{nMixed}
+use Rattle.parameters.specs.declared.Parameters.{Parameters}
+use Rattle.mixing.specs.Limits.{mixedAt, someMixed}
+use Rattle.mixing.specs.declared.limits.Mixed.{Mixed}
 use Rattle.places.specs.Place.{underOf}
 use Rattle.places.specs.declared.place.Spine.{Spine}
 use Rattle.places.specs.declared.place.Place.{Place}
@@ -56,10 +58,9 @@ unfoldable pub turbopausesOf : Shape → Float → Turbopauses
 turbopausesOf h zhf =
     record { n2 = placeAt h (pdmT2 ‼ 2 ⊗ zhf); he = placeAt h (pdmT0 ‼ 2); o = placeAt h (pdmT1 ‼ 2); h = placeAt h (pdmT5 ‼ 2) }
 
-unfoldable pub rootsFrom : Float → Float → Turbopauses → Float → Bases → Roots
-rootsFrom gsurf re w flux d =
-    let xmm = pdmT2 ‼ 4 in
-    let n2 = n2RootOf (w .n2) (d .dense .n2) in
+unfoldable pub rootsFrom : Float → Float → Float → Turbopauses → Float → Float → Bases → Roots
+rootsFrom rgas gsurf re w flux xmm d =
+    let n2 = n2RootOf (w .n2) (d .dense .n2) xmm in
     record {
       n2 = n2;
       he = heliumRootOf true (w .he) (d .thin .he) (n2 .b) xmm;
@@ -70,41 +71,42 @@ rootsFrom gsurf re w flux d =
       n = nitrogenRootOf true (w .o) (d .thin .n) (n2 .b) xmm;
       rate = pdmT3 ‼ 3 ⊗ pdlT1 ‼ 23 ⊗ flux;
       hot = d .thin .hot;
-      factor = hotFactorOf gsurf re (pdmT7 ‼ 5) (pdmT7 ‼ 4) (pdmT7 ‼ 9 ⊗ pdlT0 ‼ 6);
+      factor = hotFactorOf rgas gsurf re (pdmT7 ‼ 5) (pdmT7 ‼ 4) (pdmT7 ‼ 9 ⊗ pdlT0 ‼ 6);
     }
 
 -- over a shape
 unfoldable pub rootsOf : Shape → Site → Bases → Roots
-rootsOf h x d = rootsFrom (h .gsurf) (h .re) (turbopausesOf h (x .zhf)) (x .flux) d
+rootsOf h x d = rootsFrom (h .rgas) (h .gsurf) (h .re) (turbopausesOf h (x .zhf)) (x .flux) (x .nine .xmm) d
 
-unfoldable pub sixAt : Float → Float → Roots → Place → Thinning → Float → Float → Six
-sixAt sw15 z q p t zhm xmm =
+unfoldable pub sixAt : Float → Mixed → Float → Roots → Place → Thinning → Float → Float → Six
+sixAt sw15 m z q p t zhm xmm =
     record {
-      he = heliumFrom sw15 z p t (q .he) zhm xmm;
-      o = oxygenFrom sw15 z p t (q .o) zhm xmm;
-      o2 = o2From sw15 z p t (q .o2) (q .rate) zhm xmm;
-      ar = argonFrom sw15 z p t (q .ar) zhm xmm;
-      h = hydrogenFrom sw15 z p t (q .h) zhm xmm;
-      n = nitrogenFrom sw15 z p t (q .n) zhm xmm;
+      he = heliumFrom (m .he) z p t (q .he) zhm xmm;
+      o = oxygenFrom (m .o) z p t (q .o) zhm xmm;
+      o2 = o2From sw15 (m .o2) z p t (q .o2) (q .rate) zhm xmm;
+      ar = argonFrom (m .ar) z p t (q .ar) zhm xmm;
+      h = hydrogenFrom (m .h) z p t (q .h) zhm xmm;
+      n = nitrogenFrom (m .n) z p t (q .n) zhm xmm;
     }
 
--- the row at z, whose place is p; k is its place over anomalous oxygen's shape
-unfoldable pub rowAt : Float → Float → Float → Float → Roots → Place → Place → Float → List Float
-rowAt sw0 sw15 z tinf q p k t1 =
-    let t = mixingOf (nMixed sw15 z) p (pdmT2 ‼ 4) in
-    let n2 = n2From sw15 z p t (q .n2) in
-    let y = sixAt sw15 z q p t (pdmT2 ‼ 3 ⊗ pdlT1 ‼ 5) (pdmT2 ‼ 4) in
+-- the row at z, whose place is p; k is its place over anomalous oxygen's shape, c the nine constants
+unfoldable pub rowAt : Parameters → Float → Float → Float → Float → Roots → Place → Place → Float → List Float
+rowAt c sw0 sw15 z tinf q p k t1 =
+    let m = mixedAt c sw15 z in
+    let t = mixingOf (someMixed m) p (c .xmm) in
+    let n2 = n2From (m .n2) p t (q .n2) (c .xmm) in
+    let y = sixAt sw15 m z q p t (pdmT2 ‼ 3 ⊗ pdlT1 ‼ 5) (c .xmm) in
     rowOf sw0 tinf (n2 .dens) y (hotFrom z k (q .hot) (q .factor) (pdmT7 ‼ 5) (pdmT7 ‼ 4)) t1
 
 -- at or above za
-unfoldable pub rowOver : Float → Float → Shape → Roots → Float → List Float
-rowOver sw0 sw15 h q z =
-    rowAt sw0 sw15 z (h .tinf) q (placeAt h z) (placeAt (anomalousOf h) z) ((placeAt h (sqrtOf (z ⊗ z))) .tz)
+unfoldable pub rowOver : Parameters → Float → Float → Shape → Roots → Float → List Float
+rowOver c sw0 sw15 h q z =
+    rowAt c sw0 sw15 z (h .tinf) q (placeAt h z) (placeAt (anomalousOf h) z) ((placeAt h (sqrtOf (z ⊗ z))) .tz)
 
 unfoldable pub warmthAt : Shape → Spine → Float → Float
 warmthAt h s r = cond (lt r (pdlT1 ‼ 15)) ((underOf (h .re) s r (pdlT1 ‼ 15) 72·5) .tz) ((placeAt h r) .tz)
 
 -- below za, from the spines
-unfoldable pub rowUnder : Float → Float → Shape → Spine → Spine → Roots → Float → List Float
-rowUnder sw0 sw15 h s g q z =
-    rowAt sw0 sw15 z (h .tinf) q (underOf (h .re) s z (pdlT1 ‼ 15) 72·5) (underOf (h .re) g z (pdlT1 ‼ 15) 72·5) (warmthAt h s (sqrtOf (z ⊗ z)))
+unfoldable pub rowUnder : Parameters → Float → Float → Shape → Spine → Spine → Roots → Float → List Float
+rowUnder c sw0 sw15 h s g q z =
+    rowAt c sw0 sw15 z (h .tinf) q (underOf (h .re) s z (pdlT1 ‼ 15) 72·5) (underOf (h .re) g z (pdlT1 ‼ 15) 72·5) (warmthAt h s (sqrtOf (z ⊗ z)))

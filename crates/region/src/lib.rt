@@ -1,12 +1,17 @@
-// What a region of altitude fixes above 72.5 km (its temperatures and the species' Roots), and the row of an altitude in it. No expansion is worked out here.
+// What a region of altitude fixes above 72.5 km (its temperatures and the species' Roots), and the row of an altitude in it with the present nine constants.
+// No expansion is worked out here.
 ghost use mathlib.Core.Path.{_≡_};
 ghost use Rattle.elementary.specs.Log.{logOf};
+ghost use Rattle.parameters.specs.Parameters.{presentOf};
 ghost use Rattle.places.specs.Thinning.{Logged};
 ghost use Rattle.species.specs.Places.{spineAt, placeAt};
 ghost use Rattle.region.specs.Region.{baseOf, thinBasesOf, denseBasesOf, basesOf, turbopausesOf, rootsFrom, rootsOf, sixAt, rowAt, rowOver, warmthAt, rowUnder};
 use elementary::exponential::exp;
 use elementary::root::sqrt;
-use mixing::limits::n_mixes;
+use mixing::limits::Mixed;
+use mixing::limits::mixed_at;
+use mixing::limits::some_mixed;
+use parameters::present;
 use places::place::Place;
 use places::place::Spine;
 use places::place::under;
@@ -183,30 +188,36 @@ pub fn turbopauses_of(h: Shape, s: Spine, zhf: f64) -> Turbopauses
     }
 }
 
-pub fn roots_from(gsurf: f64, re: f64, w: Turbopauses, flux: f64, d: Bases) -> Roots
+pub fn roots_from(
+    rgas: f64,
+    gsurf: f64,
+    re: f64,
+    w: Turbopauses,
+    flux: f64,
+    xmm: f64,
+    d: Bases,
+) -> Roots
     requires { ⌜ Logged (w .n2) × Logged (w .he) × Logged (w .o) × Logged (w .h) ⌝ }
-    ensures { λ r. ⌜ r ≡ rootsFrom gsurf re w flux d ⌝ }
+    ensures { λ r. ⌜ r ≡ rootsFrom rgas gsurf re w flux xmm d ⌝ }
 {
-    let m2 = pdm2();
     let m3 = pdm3();
     let m7 = pdm7();
     let k = pdl0();
     let l = pdl1();
-    let xmm = m2[4];
     let a = d.thin;
     let b = d.dense;
     let wn = w.n2;
     let whe = w.he;
     let wo = w.o;
     let wh = w.h;
-    let n2 = n2_root(wn, b.n2);
+    let n2 = n2_root(wn, b.n2, xmm);
     let he = helium_root(true, whe, a.he, n2.b, xmm);
     let o = oxygen_root(true, wo, b.o, flux, xmm);
     let o2 = o2_root(true, wo, b.o2, n2.b, xmm);
     let ar = argon_root(true, wo, b.ar, n2.b, xmm);
     let h = hydrogen_root(true, wh, a.h, n2.b, xmm);
     let n = nitrogen_root(true, wo, a.n, n2.b, xmm);
-    let f = hot_factor(gsurf, re, m7[5], m7[4], m7[9] * k[6]);
+    let f = hot_factor(rgas, gsurf, re, m7[5], m7[4], m7[9] * k[6]);
     Roots {
         n2: n2,
         he: he,
@@ -227,13 +238,23 @@ pub fn roots_of(h: Shape, s: Spine, x: Site, d: Bases) -> Roots
     ensures { λ r. ⌜ r ≡ rootsOf h x d ⌝ }
 {
     let w = turbopauses_of(h, s, x.zhf);
-    roots_from(h.gsurf, h.re, w, x.flux, d)
+    let c = x.nine;
+    roots_from(h.rgas, h.gsurf, h.re, w, x.flux, c.xmm, d)
 }
 
-// The six species that blend with N2, at a place.
-pub fn six_at(sw15: f64, z: f64, q: Roots, p: Place, t: Thinning, zhm: f64, xmm: f64) -> Six
+// The six species that blend with N2, at a place; m says which are mixed there.
+pub fn six_at(
+    sw15: f64,
+    m: Mixed,
+    z: f64,
+    q: Roots,
+    p: Place,
+    t: Thinning,
+    zhm: f64,
+    xmm: f64,
+) -> Six
     requires { ⌜ Logged p ⌝ }
-    ensures { λ r. ⌜ r ≡ sixAt sw15 z q p t zhm xmm ⌝ }
+    ensures { λ r. ⌜ r ≡ sixAt sw15 m z q p t zhm xmm ⌝ }
 {
     let a = q.he;
     let b = q.o;
@@ -241,12 +262,12 @@ pub fn six_at(sw15: f64, z: f64, q: Roots, p: Place, t: Thinning, zhm: f64, xmm:
     let d = q.ar;
     let e = q.h;
     let f = q.n;
-    let he = helium(sw15, z, p, t, a, zhm, xmm);
-    let o = oxygen(sw15, z, p, t, b, zhm, xmm);
-    let o2 = o2(sw15, z, p, t, c, q.rate, zhm, xmm);
-    let ar = argon(sw15, z, p, t, d, zhm, xmm);
-    let h = hydrogen(sw15, z, p, t, e, zhm, xmm);
-    let n = nitrogen(sw15, z, p, t, f, zhm, xmm);
+    let he = helium(m.he, z, p, t, a, zhm, xmm);
+    let o = oxygen(m.o, z, p, t, b, zhm, xmm);
+    let o2 = o2(sw15, m.o2, z, p, t, c, q.rate, zhm, xmm);
+    let ar = argon(m.ar, z, p, t, d, zhm, xmm);
+    let h = hydrogen(m.h, z, p, t, e, zhm, xmm);
+    let n = nitrogen(m.n, z, p, t, f, zhm, xmm);
     Six {
         he: he,
         o: o,
@@ -269,23 +290,25 @@ pub fn row_at(
     t1: f64,
 ) -> [f64; 11]
     requires { ⌜ Logged p × Logged k ⌝ }
-    ensures { λ r. ⌜ r ≡ rowAt sw0 sw15 z tinf q p k t1 ⌝ }
+    ensures { λ r. ⌜ r ≡ rowAt presentOf sw0 sw15 z tinf q p k t1 ⌝ }
 {
     let m = pdm2();
     let l = pdl1();
     let m7 = pdm7();
-    let on = n_mixes(sw15, z);
-    let t = mixing_at(on, p, m[4]);
+    let c = present();
+    let g = mixed_at(c, sw15, z);
+    let on = some_mixed(g);
+    let t = mixing_at(on, p, c.xmm);
     let a = q.n2;
-    let n2 = n2(sw15, z, p, t, a);
-    let y = six_at(sw15, z, q, p, t, m[3] * l[5], m[4]);
+    let n2 = n2(g.n2, p, t, a, c.xmm);
+    let y = six_at(sw15, g, z, q, p, t, m[3] * l[5], c.xmm);
     let oh = hot(z, k, q.hot, q.factor, m7[5], m7[4]);
     row_from(sw0, tinf, n2.dens, y, oh, t1)
 }
 
 // The row at or above za: no curve is read.
 pub fn row_over(sw0: f64, sw15: f64, h: Shape, q: Roots, z: f64) -> [f64; 11]
-    ensures { λ r. ⌜ r ≡ rowOver sw0 sw15 h q z ⌝ }
+    ensures { λ r. ⌜ r ≡ rowOver presentOf sw0 sw15 h q z ⌝ }
 {
     let p = place_alone_at(h, z);
     let g = anomalous(h);
@@ -310,7 +333,7 @@ pub fn warmth_at(h: Shape, s: Spine, r: f64) -> f64
 // The row below za, from the spine of the shape and of anomalous oxygen's.
 pub fn row_under(sw0: f64, sw15: f64, h: Shape, s: Spine, g: Spine, q: Roots, z: f64) -> [f64; 11]
     requires { ⌜ (s .lt ≡ logOf (s .rt)) × (g .lt ≡ logOf (g .rt)) ⌝ }
-    ensures { λ r. ⌜ r ≡ rowUnder sw0 sw15 h s g q z ⌝ }
+    ensures { λ r. ⌜ r ≡ rowUnder presentOf sw0 sw15 h s g q z ⌝ }
 {
     let l = pdl1();
     let p = under(h.re, s, z, l[15], 72.5);

@@ -24,12 +24,14 @@ use Rattle.setting.specs.ApHistory.{isMinusOne, asksHistoryOf, absentOf, lacksH
 use Rattle.expansion.specs.Expansion.{globe7Of}
 use Rattle.plan.specs.Plan.{Plan, run}
 use Rattle.upper.specs.declared.Site.{Site}
-use Rattle.upper.specs.Upper.{siteOf}
+use Rattle.upper.specs.Upper.{siteWith}
 use Rattle.lower.specs.declared.Whole.{Whole}
 use Rattle.acceptance.specs.declared.Answer.{Answer}
 use Rattle.acceptance.specs.declared.Answer.the-variants.{Accepted, Refused}
 use Rattle.acceptance.specs.Acceptance.{unfitOf, outsideOf, foundOf, judgedOf, acceptedOf, recordAnswer, withAltOf}
-use Rattle.atmosphere.specs.Atmosphere.{gtd7Plan, elevenAtOf, elevenOf, leftOf, answerOf, rowAfter}
+use Rattle.parameters.specs.Parameters.{presentOf}
+use Rattle.parameters.specs.declared.Parameters.{Parameters}
+use Rattle.atmosphere.specs.Atmosphere.{gtd7Plan, elevenAtOf, elevenWith, elevenOf, leftWith, leftOf, answerOf, rowAfter}
 use Rattle.shutoff.specs.Fields.{float, missing, field, fields}
 use Rattle.shutoff.specs.Shut.{others, AlikeBut, Alike}
 use Rattle.shutoff.specs.PlainView.{plainView, view-is}
@@ -95,24 +97,25 @@ alike-at w a b z like k h t = go (ℕ-discrete k 3)
     go (yes e) = subst (λ (j : ℕ). field (withAltOf a z) j ≡ field (withAltOf b z) j) (sym e) refl
     go (no n) = getD-set-other (fields a) 3 k (float z) missing n ∙ like k h t ∙ sym (getD-set-other (fields b) 3 k (float z) missing n)
 
--- the plan of a record
-abbrev planOf : List ℤ → Input → Plan Whole
-planOf w n = gtd7Plan ((plainView w n) .sw) (siteOf ((plainView w n) .sw) (n .«g_lat») ((plainView w n) .doy) (n .f107a)) (n .alt)
+-- the plan of a record with nine constants
+abbrev planOf : Parameters → List ℤ → Input → Plan Whole
+planOf c w n = gtd7Plan ((plainView w n) .sw) (siteWith c ((plainView w n) .sw) (n .«g_lat») ((plainView w n) .doy) (n .f107a)) (n .alt)
 
 -- records that are alike with lst, f107a and f107 in common have the same eleven numbers, if they have their history where the row asks for it
-others-eleven : (w : List ℤ) (a b : Input) → AlikeBut (others w) a b → Has w a → elevenOf w a ≡ elevenOf w b
-unfolding elevenOf elevenAtOf
-others-eleven w a b like h =
+others-eleven : (c : Parameters) (w : List ℤ) (a b : Input) → AlikeBut (others w) a b → Has w a → elevenWith c w a ≡ elevenWith c w b
+unfolding elevenWith elevenAtOf
+others-eleven c w a b like h =
     rw (view-is w a, view-is w b)
-    (ap (λ (x : Whole). x .row) (run≡ w a b like h (planOf w a) freshOf freshOf (itself w freshOf))
+    (ap (λ (x : Whole). x .row) (run≡ w a b like h (planOf c w a) freshOf freshOf (itself w freshOf))
     ∙ rw (alt≡ w a b like, doy≡ w a b like, glat≡ w a b like, f107a≡ w a b like))
 
 -- so have a record and the same with another lst, f107a and f107, where they are alike and within their ranges
-zeroed-eleven : (w : List ℤ) (a : Input) (l fa f : Float) → Alike w a (changed a l fa f) → Fit a → Fit (changed a l fa f) → elevenOf w a ≡ elevenOf w (changed a l fa f)
-unfolding elevenOf elevenAtOf
-zeroed-eleven w a l fa f like fit-a fit-b =
+zeroed-eleven : (c : Parameters) (w : List ℤ) (a : Input) (l fa f : Float) → Alike w a (changed a l fa f) → Fit a → Fit (changed a l fa f)
+    → elevenWith c w a ≡ elevenWith c w (changed a l fa f)
+unfolding elevenWith elevenAtOf
+zeroed-eleven c w a l fa f like fit-a fit-b =
     rw (view-is w a, view-is w (changed a l fa f))
-    (ap (λ (x : Whole). x .row) ((zeroed.run≡ w a l fa f like fit-a fit-b (planOf w a) freshOf freshOf (zeroed.itself w)) .0) ∙ rw (zeroed.site≡ w a l fa f like fit-a fit-b))
+    (ap (λ (x : Whole). x .row) ((zeroed.run≡ w a l fa f like fit-a fit-b (planOf c w a) freshOf freshOf (zeroed.itself w)) .0) ∙ rw (zeroed.site≡ w a l fa f like fit-a fit-b c))
 
 -- alike records: from the one to the other by way of the one with the other's lst, f107a and f107
 module _ (w : List ℤ) (a b : Input) (like : Alike w a b) where
@@ -140,12 +143,16 @@ module _ (w : List ℤ) (a b : Input) (like : Alike w a b) where
   second-step (suc (suc (suc (suc (suc (suc (suc (suc zero)))))))) h t = refl
   second-step (suc (suc (suc (suc (suc (suc (suc (suc (suc k))))))))) h t = like (suc (suc (suc (suc (suc (suc (suc (suc (suc k))))))))) h t
 
--- alike records that are known so have the same eleven numbers by demand 2's definition
-pub eleven≡ : (w : List ℤ) (a b : Input) → Alike w a b → Known w a → Known w b → elevenOf w a ≡ elevenOf w b
-eleven≡ w a b like p q =
+-- alike records that are known so have the same eleven numbers by demand 2's definition, the nine constants being the same
+pub eleven-with≡ : (c : Parameters) (w : List ℤ) (a b : Input) → Alike w a b → Known w a → Known w b → elevenWith c w a ≡ elevenWith c w b
+eleven-with≡ c w a b like p q =
     let m : Fit (changed a (b .lst) (b .f107a) (b .f107)) = record { lst = q .fit .lst; f107a = q .fit .f107a; f107 = q .fit .f107; glat = p .fit .glat } in
-    zeroed-eleven w a (b .lst) (b .f107a) (b .f107) (first-step w a b like) (p .fit) m
-    ∙ others-eleven w (changed a (b .lst) (b .f107a) (b .f107)) b (second-step w a b like) (p .has)
+    zeroed-eleven c w a (b .lst) (b .f107a) (b .f107) (first-step w a b like) (p .fit) m
+    ∙ others-eleven c w (changed a (b .lst) (b .f107a) (b .f107)) b (second-step w a b like) (p .has)
+
+pub eleven≡ : (w : List ℤ) (a b : Input) → Alike w a b → Known w a → Known w b → elevenOf w a ≡ elevenOf w b
+unfolding elevenOf
+eleven≡ w a b like p q = eleven-with≡ presentOf w a b like p q
 
 -- an accepted run writes demand 2's numbers
 pub written : (w : List ℤ) (n : Input) (xs : List Float) → answerOf w n (length xs) ≡ Accepted → rowAfter w n xs ≡ elevenOf w n
@@ -173,10 +180,10 @@ pub globe7-state : (w : List ℤ) (a : Input) (l fa f : Float) → Alike w a (ch
 unfolding globe7Of
 globe7-state w a l fa f like p s = rw (view-is w a, view-is w (changed a l fa f)) (zeroed.after≡ w a l fa f like p s (s .dfa))
 
-left-is : (w : List ℤ) (n : Input) → leftOf w n ≡ (run (plainView w n) (planOf w n) freshOf) .left
-unfolding leftOf
+left-is : (w : List ℤ) (n : Input) → leftOf w n ≡ (run (plainView w n) (planOf presentOf w n) freshOf) .left
+unfolding leftOf leftWith
 left-is w n =
-    ap (λ (v : View). (run v (gtd7Plan (v .sw) (siteOf (v .sw) (n .«g_lat») (v .doy) (n .f107a)) (n .alt)) freshOf) .left) (view-is w n)
+    ap (λ (v : View). (run v (gtd7Plan (v .sw) (siteWith presentOf (v .sw) (n .«g_lat») (v .doy) (n .f107a)) (n .alt)) freshOf) .left) (view-is w n)
 
 -- Where both are accepted, so does State after gtd7.
 pub gtd7-state : (w : List ℤ) (a : Input) (l fa f : Float) (m n : ℕ)
@@ -188,8 +195,8 @@ gtd7-state w a l fa f m n like e d =
     let b = changed a l fa f in
     let fit-a = (known w a (judged-first w a m e)) .fit in
     let fit-b = (known w b (judged-first w b n d)) .fit in
-    let r = zeroed.run≡ w a l fa f like fit-a fit-b (planOf w a) freshOf freshOf (zeroed.itself w) in
+    let r = zeroed.run≡ w a l fa f like fit-a fit-b (planOf presentOf w a) freshOf freshOf (zeroed.itself w) in
     let left : Site → State = λ x. (run (plainView w b) (gtd7Plan ((plainView w a) .sw) x (a .alt)) freshOf) .left in
     left-is w b
-    ∙ subst (λ (x : Site). left x ≡ withDfa ((run (plainView w a) (planOf w a) freshOf) .left) ((left x) .dfa)) (zeroed.site≡ w a l fa f like fit-a fit-b) (r .1 .but)
+    ∙ subst (λ (x : Site). left x ≡ withDfa ((run (plainView w a) (planOf presentOf w a) freshOf) .left) ((left x) .dfa)) (zeroed.site≡ w a l fa f like fit-a fit-b presentOf) (r .1 .but)
     ∙ ap₂ withDfa (sym (left-is w a)) (ap (λ (s : State). s .dfa) (sym (left-is w b)))

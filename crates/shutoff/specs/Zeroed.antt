@@ -26,7 +26,8 @@ use Rattle.parts.specs.Parts.{dayCosinesOf, t8Of, history8Of, daily8Of, t10Of, 
 use Rattle.expansion.specs.Expansion.{early7Of, carriedOf, level7Of, turnsAfterOf, afterOf, globe7Of, level7sOf, glob7sFrom, glob7sOf}
 use Rattle.plan.specs.Plan.{Ask, one-plus-globe7, exp-globe7, one-plus-glob7s, one-minus-glob7s, onePlusGlobe7Of, expGlobe7Of, onePlusGlob7sOf, oneMinusGlob7sOf, Plan, done, ask, keep, answer, run}
 use Rattle.plan.specs.Fields.{Fields, fieldsOf, withFields}
-use Rattle.upper.specs.Upper.{siteOf}
+use Rattle.parameters.specs.declared.Parameters.{Parameters}
+use Rattle.upper.specs.Upper.{siteWith}
 use Rattle.shutoff.specs.Shut.{one, off, nineIsZero, shut, Alike}
 use Rattle.shutoff.specs.PlainView.{plainView}
 use Rattle.shutoff.specs.Agree.{zero-off, float-is}
@@ -438,9 +439,9 @@ module _ (w : List ℤ) (a : Input) (l fa f : Float) (like : Alike w a (changed 
     run≡ (keep u m) s t e = run≡ m _ _ (kept w u s t e)
 
     -- the factor of the flux in O and O2
-    pub site≡ : siteOf (A .sw) (a .«g_lat») (A .doy) (a .f107a) ≡ siteOf (A .sw) (a .«g_lat») (A .doy) fa
-    unfolding siteOf
-    site≡ =
+    pub site≡ : (c : Parameters) → siteWith c (A .sw) (a .«g_lat») (A .doy) (a .f107a) ≡ siteWith c (A .sw) (a .«g_lat») (A .doy) fa
+    unfolding siteWith
+    site≡ c =
         let x : 1·0 ⊕ swAt w 1 ⊗ pdlT0 ‼ 23 ⊗ (a .f107a ⊖ 150·0) ≡ 1·0 ⊕ swAt w 1 ⊗ pdlT0 ‼ 23 ⊗ (fa ⊖ 150·0) = by-cases (off w 1)
         (λ u. one-plus _ _ (rw (main-is u) (zero-times-times tt tt flux-sized dfa-a ∙ sym (zero-times-times tt tt flux-sized dfa-b))))
         (λ u. cc (f107a≡ u)) in

@@ -4,7 +4,6 @@ use mathlib.Core.Bool.{Bool, true}
 use lib.Ieee.{Float}
 use Rattle.numbers.specs.Arithmetic.{_‼_}
 use Rattle.numbers.specs.Literals.{0·0}
-use Rattle.mixing.specs.Limits.{nMixed}
 use Rattle.places.specs.Place.{spineOf, placeOf}
 use Rattle.places.specs.Thinning.{thinningOf}
 use Rattle.places.specs.declared.place.Spine.{Spine}
@@ -20,10 +19,6 @@ spineAt h = spineOf h (ptmT ‼ 5) nodes
 
 abbrev pub placeAt : Shape → Float → Place
 placeAt h z = placeOf h z (ptmT ‼ 5) nodes
-
--- z is where some species is mixed: nitrogen is to 450 km, the others end below
-abbrev pub mixesAt : Float → Float → Bool
-mixesAt sw15 z = nMixed sw15 z
 
 -- w is the place of the turbopause zh where a species is mixed, and anything elsewhere
 abbrev pub Turbopause : Shape → Bool → Float → Place → Type 0

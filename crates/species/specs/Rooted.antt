@@ -9,7 +9,6 @@ use Rattle.elementary.specs.Exp.{expOf}
 use Rattle.elementary.specs.Log.{logOf}
 use Rattle.elementary.specs.Root.{sqrtOf}
 use Rattle.mixing.specs.Mixing.{ccorOf, ccor2Of, dnetOf}
-use Rattle.mixing.specs.Limits.{n2Mixed, heMixed, oMixed, o2Mixed, arMixed, hMixed, nMixed}
 use Rattle.places.specs.Thinning.{thinningOf, thinnedOf, thinned-densu}
 use Rattle.places.specs.declared.place.Place.{Place}
 use Rattle.places.specs.declared.thinning.Thinning.{Thinning}
@@ -38,9 +37,9 @@ unfoldable pub rootOf : Bool → Place → Float → Float → Float → Float �
 rootOf on w db xm alpha num =
     cond on (record { db = db; b = gasOf w db xm alpha; r = logOf (num ⊘ gasOf w db xm alpha) }) (record { db = db; b = 0·0; r = 0·0 })
 
--- each species' root at its turbopause; b28 is N2's mixed density there, xmm the mass of mixed air
-unfoldable pub n2RootOf : Place → Float → Root
-n2RootOf w db = record { db = db; b = gasOf w db (28·0 ⊖ pdmT2 ‼ 4) (0·0 ⊖ 1·0); r = 0·0 }
+-- each species' root at its turbopause, on where it is asked for; b28 is N2's mixed density there, xmm the mass of mixed air
+unfoldable pub n2RootOf : Place → Float → Float → Root
+n2RootOf w db xmm = record { db = db; b = gasOf w db (28·0 ⊖ xmm) (0·0 ⊖ 1·0); r = 0·0 }
 
 unfoldable pub heliumRootOf : Bool → Place → Float → Float → Float → Root
 heliumRootOf on w db b28 xmm = rootOf on w db (4·0 ⊖ xmm) (neg 0·38 ⊖ 1·0) (b28 ⊗ pdmT0 ‼ 1)
@@ -68,23 +67,23 @@ blendedOf p t q xm alpha zhm xmm =
     let dm = thinnedOf t (q .b) in
     record { dens = dnetOf d0 dm zhm xmm xm; dm = dm }
 
-unfoldable pub n2From : Float → Float → Place → Thinning → Root → Mixture
-n2From sw15 z p t q =
-    cond (not (n2Mixed sw15 z)) (record { dens = gasOf p (q .db) 28·0 0·0; dm = 0·0 })
-    (blendedOf p t q 28·0 0·0 (pdmT2 ‼ 3 ⊗ pdlT1 ‼ 5) (pdmT2 ‼ 4))
+unfoldable pub n2From : Bool → Place → Thinning → Root → Float → Mixture
+n2From on p t q xmm =
+    cond (not on) (record { dens = gasOf p (q .db) 28·0 0·0; dm = 0·0 })
+    (blendedOf p t q 28·0 0·0 (pdmT2 ‼ 3 ⊗ pdlT1 ‼ 5) xmm)
 
-unfoldable pub heliumFrom : Float → Float → Place → Thinning → Root → Float → Float → Mixture
-heliumFrom sw15 z p t q zhm xmm =
-    cond (not (heMixed sw15 z)) (record { dens = gasOf p (q .db) 4·0 (neg 0·38); dm = 0·0 }) (
+unfoldable pub heliumFrom : Bool → Float → Place → Thinning → Root → Float → Float → Mixture
+heliumFrom on z p t q zhm xmm =
+    cond (not on) (record { dens = gasOf p (q .db) 4·0 (neg 0·38); dm = 0·0 }) (
     let m = pdmT0 in
     let l = pdlT1 in
     let x = blendedOf p t q 4·0 (neg 0·38) zhm xmm in
     let c = ccorOf z (q .r) (m ‼ 5 ⊗ l ‼ 1) (m ‼ 4 ⊗ l ‼ 0) in
     record { dens = x .dens ⊗ c; dm = x .dm })
 
-unfoldable pub oxygenFrom : Float → Float → Place → Thinning → Root → Float → Float → Mixture
-oxygenFrom sw15 z p t q zhm xmm =
-    cond (not (oMixed sw15 z)) (record { dens = gasOf p (q .db) 16·0 0·0; dm = 0·0 }) (
+unfoldable pub oxygenFrom : Bool → Float → Place → Thinning → Root → Float → Float → Mixture
+oxygenFrom on z p t q zhm xmm =
+    cond (not on) (record { dens = gasOf p (q .db) 16·0 0·0; dm = 0·0 }) (
     let m = pdmT1 in
     let l = pdlT1 in
     let x = blendedOf p t q 16·0 0·0 zhm xmm in
@@ -92,27 +91,27 @@ oxygenFrom sw15 z p t q zhm xmm =
     let e = ccorOf z (m ‼ 3 ⊗ l ‼ 14) (m ‼ 7 ⊗ l ‼ 13) (m ‼ 6 ⊗ l ‼ 12) in
     record { dens = x .dens ⊗ c ⊗ e; dm = x .dm })
 
-unfoldable pub o2MixedFrom : Float → Float → Place → Thinning → Root → Float → Float → Mixture
-o2MixedFrom sw15 z p t q zhm xmm =
-    cond (not (o2Mixed sw15 z)) (record { dens = gasOf p (q .db) 32·0 0·0; dm = 0·0 }) (
+unfoldable pub o2MixedFrom : Bool → Float → Place → Thinning → Root → Float → Float → Mixture
+o2MixedFrom on z p t q zhm xmm =
+    cond (not on) (record { dens = gasOf p (q .db) 32·0 0·0; dm = 0·0 }) (
     let m = pdmT3 in
     let l = pdlT1 in
     let x = blendedOf p t q 32·0 0·0 zhm xmm in
     let c = ccorOf z (q .r) (m ‼ 5 ⊗ l ‼ 7) (m ‼ 4 ⊗ l ‼ 6) in
     record { dens = x .dens ⊗ c; dm = x .dm })
 
-unfoldable pub argonFrom : Float → Float → Place → Thinning → Root → Float → Float → Mixture
-argonFrom sw15 z p t q zhm xmm =
-    cond (not (arMixed sw15 z)) (record { dens = gasOf p (q .db) 40·0 0·17; dm = 0·0 }) (
+unfoldable pub argonFrom : Bool → Float → Place → Thinning → Root → Float → Float → Mixture
+argonFrom on z p t q zhm xmm =
+    cond (not on) (record { dens = gasOf p (q .db) 40·0 0·17; dm = 0·0 }) (
     let m = pdmT4 in
     let l = pdlT1 in
     let x = blendedOf p t q 40·0 0·17 zhm xmm in
     let c = ccorOf z (q .r) (m ‼ 5 ⊗ l ‼ 9) (m ‼ 4 ⊗ l ‼ 8) in
     record { dens = x .dens ⊗ c; dm = x .dm })
 
-unfoldable pub hydrogenFrom : Float → Float → Place → Thinning → Root → Float → Float → Mixture
-hydrogenFrom sw15 z p t q zhm xmm =
-    cond (not (hMixed sw15 z)) (record { dens = gasOf p (q .db) 1·0 (neg 0·38); dm = 0·0 }) (
+unfoldable pub hydrogenFrom : Bool → Float → Place → Thinning → Root → Float → Float → Mixture
+hydrogenFrom on z p t q zhm xmm =
+    cond (not on) (record { dens = gasOf p (q .db) 1·0 (neg 0·38); dm = 0·0 }) (
     let m = pdmT5 in
     let l = pdlT1 in
     let x = blendedOf p t q 1·0 (neg 0·38) zhm xmm in
@@ -120,9 +119,9 @@ hydrogenFrom sw15 z p t q zhm xmm =
     let e = ccorOf z (m ‼ 3 ⊗ l ‼ 20) (m ‼ 7 ⊗ l ‼ 19) (m ‼ 6 ⊗ l ‼ 18) in
     record { dens = x .dens ⊗ c ⊗ e; dm = x .dm })
 
-unfoldable pub nitrogenFrom : Float → Float → Place → Thinning → Root → Float → Float → Mixture
-nitrogenFrom sw15 z p t q zhm xmm =
-    cond (not (nMixed sw15 z)) (record { dens = gasOf p (q .db) 14·0 0·0; dm = 0·0 }) (
+unfoldable pub nitrogenFrom : Bool → Float → Place → Thinning → Root → Float → Float → Mixture
+nitrogenFrom on z p t q zhm xmm =
+    cond (not on) (record { dens = gasOf p (q .db) 14·0 0·0; dm = 0·0 }) (
     let m = pdmT6 in
     let l = pdlT0 in
     let x = blendedOf p t q 14·0 0·0 zhm xmm in
@@ -130,16 +129,16 @@ nitrogenFrom sw15 z p t q zhm xmm =
     let e = ccorOf z (m ‼ 3 ⊗ l ‼ 5) (m ‼ 7 ⊗ l ‼ 4) (m ‼ 6 ⊗ l ‼ 3) in
     record { dens = x .dens ⊗ c ⊗ e; dm = x .dm })
 
-unfoldable pub o2From : Float → Float → Place → Thinning → Root → Float → Float → Float → Mixture
-o2From sw15 z p t q rate zhm xmm =
-    let x = o2MixedFrom sw15 z p t q zhm xmm in
+unfoldable pub o2From : Float → Bool → Float → Place → Thinning → Root → Float → Float → Float → Mixture
+o2From sw15 on z p t q rate zhm xmm =
+    let x = o2MixedFrom on z p t q zhm xmm in
     cond (not (ne sw15 0·0)) x (
     let m = pdmT3 in
     let c = ccor2Of z rate (m ‼ 7 ⊗ pdlT1 ‼ 22) (m ‼ 6 ⊗ pdlT1 ‼ 21) (m ‼ 7 ⊗ pdlT0 ‼ 22) in
     record { dens = x .dens ⊗ c; dm = x .dm })
 
-unfoldable pub hotFactorOf : Float → Float → Float → Float → Float → Float
-hotFactorOf gsurf re zsht zmho tho = neg zsht ⊘ scalhOf gsurf re zmho 16·0 tho
+unfoldable pub hotFactorOf : Float → Float → Float → Float → Float → Float → Float
+hotFactorOf rgas gsurf re zsht zmho tho = neg zsht ⊘ scalhOf rgas gsurf re zmho 16·0 tho
 
 unfoldable pub hotFrom : Float → Place → Float → Float → Float → Float → Float
 hotFrom z p db factor zsht zmho =
@@ -190,10 +189,10 @@ oxygen-root-is on h w db flux xmm q e at =
     }
 
 -- N2's, which every species reads
-pub n2-root-is : (h : Shape) (w : Place) (db zhf : Float) (q : Root) → q ≡ n2RootOf w db → w ≡ placeAt h (pdmT2 ‼ 2 ⊗ zhf)
-    → (q .db ≡ db) × (q .b ≡ densityOf h (pdmT2 ‼ 2 ⊗ zhf) db (28·0 ⊖ pdmT2 ‼ 4) (0·0 ⊖ 1·0))
+pub n2-root-is : (h : Shape) (w : Place) (db zhf xmm : Float) (q : Root) → q ≡ n2RootOf w db xmm → w ≡ placeAt h (pdmT2 ‼ 2 ⊗ zhf)
+    → (q .db ≡ db) × (q .b ≡ densityOf h (pdmT2 ‼ 2 ⊗ zhf) db (28·0 ⊖ xmm) (0·0 ⊖ 1·0))
 unfolding n2RootOf
-n2-root-is h w db zhf q e at = (ap (λ (x : Root). x .db) e, ap (λ (x : Root). x .b) e ∙ gas-is h (pdmT2 ‼ 2 ⊗ zhf) w at db (28·0 ⊖ pdmT2 ‼ 4) (0·0 ⊖ 1·0))
+n2-root-is h w db zhf xmm q e at = (ap (λ (x : Root). x .db) e, ap (λ (x : Root). x .b) e ∙ gas-is h (pdmT2 ‼ 2 ⊗ zhf) w at db (28·0 ⊖ xmm) (0·0 ⊖ 1·0))
 
 -- one of two mixtures, by the test of a species
 by-test : (on : Bool) (x y x' y' : Mixture) → (on ≡ false → x ≡ x') → (on ≡ true → y ≡ y') → cond (not on) x y ≡ cond (not on) x' y'
@@ -227,83 +226,83 @@ module _ (own : Bool) (h : Shape) (z : Float) (p : Place) (t : Thinning) (q : Ro
   alone : own ≡ false → _≡_ {A = Mixture} (record { dens = gasOf p (q .db) xm alpha; dm = 0·0 }) (record { dens = densityOf h z db xm alpha; dm = 0·0 })
   alone o = ap (λ (d : Float). record { dens = d; dm = 0·0 }) plain
 
-module _ (h : Shape) (sw15 z : Float) (p : Place) (t : Thinning) (q : Root) (at : p ≡ placeAt h z) where
+module _ (h : Shape) (on : Bool) (z : Float) (p : Place) (t : Thinning) (q : Root) (at : p ≡ placeAt h z) where
   -- N2, whose mixed density at the turbopause is given with it
-  pub n2-is : (db zhf : Float) → Mixes (n2Mixed sw15 z) p (pdmT2 ‼ 4) t
-      → (q .db ≡ db) × (q .b ≡ densityOf h (pdmT2 ‼ 2 ⊗ zhf) db (28·0 ⊖ pdmT2 ‼ 4) (0·0 ⊖ 1·0))
-      → _≡_ {A = Blend} (record { dens = (n2From sw15 z p t q) .dens; b = q .b; dm = (n2From sw15 z p t q) .dm }) (n2Of h sw15 z db zhf)
+  pub n2-is : (db zhf xmm : Float) → Mixes on p xmm t
+      → (q .db ≡ db) × (q .b ≡ densityOf h (pdmT2 ‼ 2 ⊗ zhf) db (28·0 ⊖ xmm) (0·0 ⊖ 1·0))
+      → _≡_ {A = Blend} (record { dens = (n2From on p t q xmm) .dens; b = q .b; dm = (n2From on p t q xmm) .dm }) (n2Of h on z db zhf xmm)
   unfolding n2From n2Of mixedOf
-  n2-is db zhf thins e =
-      let rooted : Rooted (n2Mixed sw15 z) h (pdmT2 ‼ 2 ⊗ zhf) db (28·0 ⊖ pdmT2 ‼ 4) (0·0 ⊖ 1·0) (q .r) q = record { lower = e .0; upper = λ o. e .1; rate = λ o. refl } in
-      ap (λ (b : Float). record { dens = (n2From sw15 z p t q) .dens; b = b; dm = (n2From sw15 z p t q) .dm }) (e .1)
-      ∙ ap (λ (m : Mixture). record { dens = m .dens; b = densityOf h (pdmT2 ‼ 2 ⊗ zhf) db (28·0 ⊖ pdmT2 ‼ 4) (0·0 ⊖ 1·0); dm = m .dm })
-      (by-test (n2Mixed sw15 z) _ _ _ _
-      (alone (n2Mixed sw15 z) h z p t q (pdmT2 ‼ 3 ⊗ pdlT1 ‼ 5) (pdmT2 ‼ 4) (pdmT2 ‼ 2 ⊗ zhf) db 28·0 0·0 _ at thins rooted)
-      (blended-is (n2Mixed sw15 z) h z p t q (pdmT2 ‼ 3 ⊗ pdlT1 ‼ 5) (pdmT2 ‼ 4) (pdmT2 ‼ 2 ⊗ zhf) db 28·0 0·0 _ at thins rooted))
-      ∙ with-b (n2Mixed sw15 z) _ _ _
+  n2-is db zhf xmm thins e =
+      let rooted : Rooted on h (pdmT2 ‼ 2 ⊗ zhf) db (28·0 ⊖ xmm) (0·0 ⊖ 1·0) (q .r) q = record { lower = e .0; upper = λ o. e .1; rate = λ o. refl } in
+      ap (λ (b : Float). record { dens = (n2From on p t q xmm) .dens; b = b; dm = (n2From on p t q xmm) .dm }) (e .1)
+      ∙ ap (λ (m : Mixture). record { dens = m .dens; b = densityOf h (pdmT2 ‼ 2 ⊗ zhf) db (28·0 ⊖ xmm) (0·0 ⊖ 1·0); dm = m .dm })
+      (by-test on _ _ _ _
+      (alone on h z p t q (pdmT2 ‼ 3 ⊗ pdlT1 ‼ 5) xmm (pdmT2 ‼ 2 ⊗ zhf) db 28·0 0·0 _ at thins rooted)
+      (blended-is on h z p t q (pdmT2 ‼ 3 ⊗ pdlT1 ‼ 5) xmm (pdmT2 ‼ 2 ⊗ zhf) db 28·0 0·0 _ at thins rooted))
+      ∙ with-b on _ _ _
 
-  pub helium-is : (b28 db zhm xmm : Float) → Mixes (heMixed sw15 z) p xmm t
-      → Rooted (heMixed sw15 z) h (pdmT0 ‼ 2) db (4·0 ⊖ xmm) (neg 0·38 ⊖ 1·0) (logOf (b28 ⊗ pdmT0 ‼ 1 ⊘ densityOf h (pdmT0 ‼ 2) db (4·0 ⊖ xmm) (neg 0·38 ⊖ 1·0))) q
-      → heliumFrom sw15 z p t q zhm xmm ≡ heliumOf h sw15 z b28 db zhm xmm
+  pub helium-is : (b28 db zhm xmm : Float) → Mixes on p xmm t
+      → Rooted on h (pdmT0 ‼ 2) db (4·0 ⊖ xmm) (neg 0·38 ⊖ 1·0) (logOf (b28 ⊗ pdmT0 ‼ 1 ⊘ densityOf h (pdmT0 ‼ 2) db (4·0 ⊖ xmm) (neg 0·38 ⊖ 1·0))) q
+      → heliumFrom on z p t q zhm xmm ≡ heliumOf h on z b28 db zhm xmm
   unfolding heliumFrom heliumOf mixedOf
   helium-is b28 db zhm xmm thins rooted =
-      by-test (heMixed sw15 z) _ _ _ _
-      (alone (heMixed sw15 z) h z p t q zhm xmm (pdmT0 ‼ 2) db 4·0 (neg 0·38) _ at thins rooted)
-      (λ o. rw (blended-is (heMixed sw15 z) h z p t q zhm xmm (pdmT0 ‼ 2) db 4·0 (neg 0·38) _ at thins rooted o, rooted .rate o))
+      by-test on _ _ _ _
+      (alone on h z p t q zhm xmm (pdmT0 ‼ 2) db 4·0 (neg 0·38) _ at thins rooted)
+      (λ o. rw (blended-is on h z p t q zhm xmm (pdmT0 ‼ 2) db 4·0 (neg 0·38) _ at thins rooted o, rooted .rate o))
 
-  pub argon-is : (b28 db zhm xmm : Float) → Mixes (arMixed sw15 z) p xmm t
-      → Rooted (arMixed sw15 z) h (pdmT4 ‼ 2) db (40·0 ⊖ xmm) (0·17 ⊖ 1·0) (logOf (b28 ⊗ pdmT4 ‼ 1 ⊘ densityOf h (pdmT4 ‼ 2) db (40·0 ⊖ xmm) (0·17 ⊖ 1·0))) q
-      → argonFrom sw15 z p t q zhm xmm ≡ argonOf h sw15 z b28 db zhm xmm
+  pub argon-is : (b28 db zhm xmm : Float) → Mixes on p xmm t
+      → Rooted on h (pdmT4 ‼ 2) db (40·0 ⊖ xmm) (0·17 ⊖ 1·0) (logOf (b28 ⊗ pdmT4 ‼ 1 ⊘ densityOf h (pdmT4 ‼ 2) db (40·0 ⊖ xmm) (0·17 ⊖ 1·0))) q
+      → argonFrom on z p t q zhm xmm ≡ argonOf h on z b28 db zhm xmm
   unfolding argonFrom argonOf mixedOf
   argon-is b28 db zhm xmm thins rooted =
-      by-test (arMixed sw15 z) _ _ _ _
-      (alone (arMixed sw15 z) h z p t q zhm xmm (pdmT4 ‼ 2) db 40·0 0·17 _ at thins rooted)
-      (λ o. rw (blended-is (arMixed sw15 z) h z p t q zhm xmm (pdmT4 ‼ 2) db 40·0 0·17 _ at thins rooted o, rooted .rate o))
+      by-test on _ _ _ _
+      (alone on h z p t q zhm xmm (pdmT4 ‼ 2) db 40·0 0·17 _ at thins rooted)
+      (λ o. rw (blended-is on h z p t q zhm xmm (pdmT4 ‼ 2) db 40·0 0·17 _ at thins rooted o, rooted .rate o))
 
-  pub hydrogen-is : (b28 db zhm xmm : Float) → Mixes (hMixed sw15 z) p xmm t
-      → Rooted (hMixed sw15 z) h (pdmT5 ‼ 2) db (1·0 ⊖ xmm) (neg 0·38 ⊖ 1·0) (logOf (b28 ⊗ pdmT5 ‼ 1 ⊗ sqrtOf (pdlT1 ‼ 17 ⊗ pdlT1 ‼ 17) ⊘ densityOf h (pdmT5 ‼ 2) db (1·0 ⊖ xmm) (neg 0·38 ⊖ 1·0))) q
-      → hydrogenFrom sw15 z p t q zhm xmm ≡ hydrogenOf h sw15 z b28 db zhm xmm
+  pub hydrogen-is : (b28 db zhm xmm : Float) → Mixes on p xmm t
+      → Rooted on h (pdmT5 ‼ 2) db (1·0 ⊖ xmm) (neg 0·38 ⊖ 1·0) (logOf (b28 ⊗ pdmT5 ‼ 1 ⊗ sqrtOf (pdlT1 ‼ 17 ⊗ pdlT1 ‼ 17) ⊘ densityOf h (pdmT5 ‼ 2) db (1·0 ⊖ xmm) (neg 0·38 ⊖ 1·0))) q
+      → hydrogenFrom on z p t q zhm xmm ≡ hydrogenOf h on z b28 db zhm xmm
   unfolding hydrogenFrom hydrogenOf mixedOf
   hydrogen-is b28 db zhm xmm thins rooted =
-      by-test (hMixed sw15 z) _ _ _ _
-      (alone (hMixed sw15 z) h z p t q zhm xmm (pdmT5 ‼ 2) db 1·0 (neg 0·38) _ at thins rooted)
-      (λ o. rw (blended-is (hMixed sw15 z) h z p t q zhm xmm (pdmT5 ‼ 2) db 1·0 (neg 0·38) _ at thins rooted o, rooted .rate o))
+      by-test on _ _ _ _
+      (alone on h z p t q zhm xmm (pdmT5 ‼ 2) db 1·0 (neg 0·38) _ at thins rooted)
+      (λ o. rw (blended-is on h z p t q zhm xmm (pdmT5 ‼ 2) db 1·0 (neg 0·38) _ at thins rooted o, rooted .rate o))
 
-  pub nitrogen-is : (b28 db zhm xmm : Float) → Mixes (nMixed sw15 z) p xmm t
-      → Rooted (nMixed sw15 z) h (pdmT6 ‼ 2) db (14·0 ⊖ xmm) (0·0 ⊖ 1·0) (logOf (b28 ⊗ pdmT6 ‼ 1 ⊗ sqrtOf (pdlT0 ‼ 2 ⊗ pdlT0 ‼ 2) ⊘ densityOf h (pdmT6 ‼ 2) db (14·0 ⊖ xmm) (0·0 ⊖ 1·0))) q
-      → nitrogenFrom sw15 z p t q zhm xmm ≡ nitrogenOf h sw15 z b28 db zhm xmm
+  pub nitrogen-is : (b28 db zhm xmm : Float) → Mixes on p xmm t
+      → Rooted on h (pdmT6 ‼ 2) db (14·0 ⊖ xmm) (0·0 ⊖ 1·0) (logOf (b28 ⊗ pdmT6 ‼ 1 ⊗ sqrtOf (pdlT0 ‼ 2 ⊗ pdlT0 ‼ 2) ⊘ densityOf h (pdmT6 ‼ 2) db (14·0 ⊖ xmm) (0·0 ⊖ 1·0))) q
+      → nitrogenFrom on z p t q zhm xmm ≡ nitrogenOf h on z b28 db zhm xmm
   unfolding nitrogenFrom nitrogenOf mixedOf
   nitrogen-is b28 db zhm xmm thins rooted =
-      by-test (nMixed sw15 z) _ _ _ _
-      (alone (nMixed sw15 z) h z p t q zhm xmm (pdmT6 ‼ 2) db 14·0 0·0 _ at thins rooted)
-      (λ o. rw (blended-is (nMixed sw15 z) h z p t q zhm xmm (pdmT6 ‼ 2) db 14·0 0·0 _ at thins rooted o, rooted .rate o))
+      by-test on _ _ _ _
+      (alone on h z p t q zhm xmm (pdmT6 ‼ 2) db 14·0 0·0 _ at thins rooted)
+      (λ o. rw (blended-is on h z p t q zhm xmm (pdmT6 ‼ 2) db 14·0 0·0 _ at thins rooted o, rooted .rate o))
 
-  pub o2-mixed-is : (b28 db zhm xmm : Float) → Mixes (o2Mixed sw15 z) p xmm t
-      → Rooted (o2Mixed sw15 z) h (pdmT3 ‼ 2) db (32·0 ⊖ xmm) (0·0 ⊖ 1·0) (logOf (b28 ⊗ pdmT3 ‼ 1 ⊘ densityOf h (pdmT3 ‼ 2) db (32·0 ⊖ xmm) (0·0 ⊖ 1·0))) q
-      → o2MixedFrom sw15 z p t q zhm xmm ≡ o2MixedOf h sw15 z b28 db zhm xmm
+  pub o2-mixed-is : (b28 db zhm xmm : Float) → Mixes on p xmm t
+      → Rooted on h (pdmT3 ‼ 2) db (32·0 ⊖ xmm) (0·0 ⊖ 1·0) (logOf (b28 ⊗ pdmT3 ‼ 1 ⊘ densityOf h (pdmT3 ‼ 2) db (32·0 ⊖ xmm) (0·0 ⊖ 1·0))) q
+      → o2MixedFrom on z p t q zhm xmm ≡ o2MixedOf h on z b28 db zhm xmm
   unfolding o2MixedFrom o2MixedOf mixedOf
   o2-mixed-is b28 db zhm xmm thins rooted =
-      by-test (o2Mixed sw15 z) _ _ _ _
-      (alone (o2Mixed sw15 z) h z p t q zhm xmm (pdmT3 ‼ 2) db 32·0 0·0 _ at thins rooted)
-      (λ o. rw (blended-is (o2Mixed sw15 z) h z p t q zhm xmm (pdmT3 ‼ 2) db 32·0 0·0 _ at thins rooted o, rooted .rate o))
+      by-test on _ _ _ _
+      (alone on h z p t q zhm xmm (pdmT3 ‼ 2) db 32·0 0·0 _ at thins rooted)
+      (λ o. rw (blended-is on h z p t q zhm xmm (pdmT3 ‼ 2) db 32·0 0·0 _ at thins rooted o, rooted .rate o))
 
-  pub oxygen-is : (db zhm xmm flux : Float) → Mixes (oMixed sw15 z) p xmm t
-      → Rooted (oMixed sw15 z) h (pdmT1 ‼ 2) db (16·0 ⊖ xmm) (0·0 ⊖ 1·0) (pdmT1 ‼ 1 ⊗ pdlT1 ‼ 16 ⊗ flux) q
-      → oxygenFrom sw15 z p t q zhm xmm ≡ oxygenOf h sw15 z db zhm xmm flux
+  pub oxygen-is : (db zhm xmm flux : Float) → Mixes on p xmm t
+      → Rooted on h (pdmT1 ‼ 2) db (16·0 ⊖ xmm) (0·0 ⊖ 1·0) (pdmT1 ‼ 1 ⊗ pdlT1 ‼ 16 ⊗ flux) q
+      → oxygenFrom on z p t q zhm xmm ≡ oxygenOf h on z db zhm xmm flux
   unfolding oxygenFrom oxygenOf mixedOf
   oxygen-is db zhm xmm flux thins rooted =
-      by-test (oMixed sw15 z) _ _ _ _
-      (alone (oMixed sw15 z) h z p t q zhm xmm (pdmT1 ‼ 2) db 16·0 0·0 _ at thins rooted)
-      (λ o. rw (blended-is (oMixed sw15 z) h z p t q zhm xmm (pdmT1 ‼ 2) db 16·0 0·0 _ at thins rooted o, rooted .rate o))
+      by-test on _ _ _ _
+      (alone on h z p t q zhm xmm (pdmT1 ‼ 2) db 16·0 0·0 _ at thins rooted)
+      (λ o. rw (blended-is on h z p t q zhm xmm (pdmT1 ‼ 2) db 16·0 0·0 _ at thins rooted o, rooted .rate o))
 
-  pub o2-is : (b28 db zhm xmm flux rate : Float) → Mixes (o2Mixed sw15 z) p xmm t
-      → Rooted (o2Mixed sw15 z) h (pdmT3 ‼ 2) db (32·0 ⊖ xmm) (0·0 ⊖ 1·0) (logOf (b28 ⊗ pdmT3 ‼ 1 ⊘ densityOf h (pdmT3 ‼ 2) db (32·0 ⊖ xmm) (0·0 ⊖ 1·0))) q
+  pub o2-is : (sw15 b28 db zhm xmm flux rate : Float) → Mixes on p xmm t
+      → Rooted on h (pdmT3 ‼ 2) db (32·0 ⊖ xmm) (0·0 ⊖ 1·0) (logOf (b28 ⊗ pdmT3 ‼ 1 ⊘ densityOf h (pdmT3 ‼ 2) db (32·0 ⊖ xmm) (0·0 ⊖ 1·0))) q
       → rate ≡ pdmT3 ‼ 3 ⊗ pdlT1 ‼ 23 ⊗ flux
-      → o2From sw15 z p t q rate zhm xmm ≡ o2Of h sw15 z b28 db zhm xmm flux
+      → o2From sw15 on z p t q rate zhm xmm ≡ o2Of h sw15 on z b28 db zhm xmm flux
   unfolding o2From o2Of
-  o2-is b28 db zhm xmm flux rate thins rooted e = rw (o2-mixed-is b28 db zhm xmm thins rooted, e)
+  o2-is sw15 b28 db zhm xmm flux rate thins rooted e = rw (o2-mixed-is b28 db zhm xmm thins rooted, e)
 
-pub hot-is : (h : Shape) (z : Float) (p : Place) → p ≡ placeAt h z → (db factor zsht zmho tho : Float) → factor ≡ hotFactorOf (h .gsurf) (h .re) zsht zmho tho
+pub hot-is : (h : Shape) (z : Float) (p : Place) → p ≡ placeAt h z → (db factor zsht zmho tho : Float) → factor ≡ hotFactorOf (h .rgas) (h .gsurf) (h .re) zsht zmho tho
     → hotFrom z p db factor zsht zmho ≡ hotOf h z db zsht zmho tho
 unfolding hotFrom hotFactorOf hotOf
 hot-is h z p at db factor zsht zmho tho e = rw (gas-is h z p at db 16·0 0·0, e)

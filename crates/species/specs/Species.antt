@@ -1,15 +1,14 @@
 -- Each species of gts7 with the answer of its expansion given, as the Rust writes it.
 use mathlib.Core.Path.{_≡_}
-use mathlib.Core.Bool.{cond, not, _&&_}
+use mathlib.Core.Bool.{Bool, cond, not}
 use mathlib.Core.List.{List, [], _∷_}
-use lib.Ieee.{Float, neg, lt, le, ne}
+use lib.Ieee.{Float, neg, ne}
 use Rattle.numbers.specs.Arithmetic.{_⊖_, _⊗_, _⊘_, _‼_}
-use Rattle.numbers.specs.Literals.{0·0, 0·17, 0·38, 1·0, 4·0, 14·0, 16·0, 28·0, 32·0, 40·0, 72·5, 90·0, 100·0, 110·0, 160·0, 200·0, 240·0, 250·0, 300·0, 320·0, 450·0}
+use Rattle.numbers.specs.Literals.{0·0, 0·17, 0·38, 1·0, 4·0, 14·0, 16·0, 28·0, 32·0, 40·0, 72·5, 90·0, 100·0, 110·0}
 use Rattle.elementary.specs.Exp.{expOf}
 use Rattle.elementary.specs.Log.{logOf}
 use Rattle.elementary.specs.Root.{sqrtOf}
 use Rattle.mixing.specs.Mixing.{ccorOf, ccor2Of, dnetOf}
-use Rattle.mixing.specs.Limits.{n2Mixed, heMixed, oMixed, o2Mixed, arMixed, hMixed, nMixed}
 use Rattle.profile.specs.Gravity.{scalhOf}
 use Rattle.profile.specs.Profile.{densu5Of, densityIn, temperatureIn}
 use Rattle.profile.specs.declared.unchecked.Shape.{Shape}
@@ -37,20 +36,20 @@ mixedOf h z db zh xm alpha zhm xmm =
     let dm = densityOf h z b xmm 0·0 in
     record { dens = dnetOf d0 dm zhm xmm xm; b = b; dm = dm }
 
--- N2, mixed at or below 160 km
-unfoldable pub n2Of : Shape → Float → Float → Float → Float → Blend
-n2Of h sw15 z db zhf =
+-- N2: on says whether it is mixed, xmm is the mass of mixed air
+unfoldable pub n2Of : Shape → Bool → Float → Float → Float → Float → Blend
+n2Of h on z db zhf xmm =
     let m = pdmT2 in
     let d0 = densityOf h z db 28·0 0·0 in
-    let b = densityOf h (m ‼ 2 ⊗ zhf) db (28·0 ⊖ m ‼ 4) (0·0 ⊖ 1·0) in
-    cond (not (n2Mixed sw15 z)) (record { dens = d0; b = b; dm = 0·0 }) (
-    let dm = densityOf h z b (m ‼ 4) 0·0 in
-    record { dens = dnetOf d0 dm (m ‼ 3 ⊗ pdlT1 ‼ 5) (m ‼ 4) 28·0; b = b; dm = dm })
+    let b = densityOf h (m ‼ 2 ⊗ zhf) db (28·0 ⊖ xmm) (0·0 ⊖ 1·0) in
+    cond (not on) (record { dens = d0; b = b; dm = 0·0 }) (
+    let dm = densityOf h z b xmm 0·0 in
+    record { dens = dnetOf d0 dm (m ‼ 3 ⊗ pdlT1 ‼ 5) xmm 28·0; b = b; dm = dm })
 
--- Helium, mixed strictly below 200 km
-unfoldable pub heliumOf : Shape → Float → Float → Float → Float → Float → Float → Mixture
-heliumOf h sw15 z b28 db zhm xmm =
-    cond (not (heMixed sw15 z)) (record { dens = densityOf h z db 4·0 (neg 0·38); dm = 0·0 }) (
+-- Helium
+unfoldable pub heliumOf : Shape → Bool → Float → Float → Float → Float → Float → Mixture
+heliumOf h on z b28 db zhm xmm =
+    cond (not on) (record { dens = densityOf h z db 4·0 (neg 0·38); dm = 0·0 }) (
     let m = pdmT0 in
     let l = pdlT1 in
     let x = mixedOf h z db (m ‼ 2) 4·0 (neg 0·38) zhm xmm in
@@ -58,10 +57,10 @@ heliumOf h sw15 z b28 db zhm xmm =
     let c = ccorOf z r (m ‼ 5 ⊗ l ‼ 1) (m ‼ 4 ⊗ l ‼ 0) in
     record { dens = x .dens ⊗ c; dm = x .dm })
 
--- Atomic oxygen, mixed at or below 300 km
-unfoldable pub oxygenOf : Shape → Float → Float → Float → Float → Float → Float → Mixture
-oxygenOf h sw15 z db zhm xmm flux =
-    cond (not (oMixed sw15 z)) (record { dens = densityOf h z db 16·0 0·0; dm = 0·0 }) (
+-- Atomic oxygen
+unfoldable pub oxygenOf : Shape → Bool → Float → Float → Float → Float → Float → Mixture
+oxygenOf h on z db zhm xmm flux =
+    cond (not on) (record { dens = densityOf h z db 16·0 0·0; dm = 0·0 }) (
     let m = pdmT1 in
     let l = pdlT1 in
     let x = mixedOf h z db (m ‼ 2) 16·0 0·0 zhm xmm in
@@ -69,10 +68,10 @@ oxygenOf h sw15 z db zhm xmm flux =
     let e = ccorOf z (m ‼ 3 ⊗ l ‼ 14) (m ‼ 7 ⊗ l ‼ 13) (m ‼ 6 ⊗ l ‼ 12) in
     record { dens = x .dens ⊗ c ⊗ e; dm = x .dm })
 
--- Molecular oxygen without its second correction, mixed at or below 250 km
-unfoldable pub o2MixedOf : Shape → Float → Float → Float → Float → Float → Float → Mixture
-o2MixedOf h sw15 z b28 db zhm xmm =
-    cond (not (o2Mixed sw15 z)) (record { dens = densityOf h z db 32·0 0·0; dm = 0·0 }) (
+-- Molecular oxygen without its second correction
+unfoldable pub o2MixedOf : Shape → Bool → Float → Float → Float → Float → Float → Mixture
+o2MixedOf h on z b28 db zhm xmm =
+    cond (not on) (record { dens = densityOf h z db 32·0 0·0; dm = 0·0 }) (
     let m = pdmT3 in
     let l = pdlT1 in
     let x = mixedOf h z db (m ‼ 2) 32·0 0·0 zhm xmm in
@@ -80,10 +79,10 @@ o2MixedOf h sw15 z b28 db zhm xmm =
     let c = ccorOf z r (m ‼ 5 ⊗ l ‼ 7) (m ‼ 4 ⊗ l ‼ 6) in
     record { dens = x .dens ⊗ c; dm = x .dm })
 
--- Argon, mixed at or below 240 km
-unfoldable pub argonOf : Shape → Float → Float → Float → Float → Float → Float → Mixture
-argonOf h sw15 z b28 db zhm xmm =
-    cond (not (arMixed sw15 z)) (record { dens = densityOf h z db 40·0 0·17; dm = 0·0 }) (
+-- Argon
+unfoldable pub argonOf : Shape → Bool → Float → Float → Float → Float → Float → Mixture
+argonOf h on z b28 db zhm xmm =
+    cond (not on) (record { dens = densityOf h z db 40·0 0·17; dm = 0·0 }) (
     let m = pdmT4 in
     let l = pdlT1 in
     let x = mixedOf h z db (m ‼ 2) 40·0 0·17 zhm xmm in
@@ -91,10 +90,10 @@ argonOf h sw15 z b28 db zhm xmm =
     let c = ccorOf z r (m ‼ 5 ⊗ l ‼ 9) (m ‼ 4 ⊗ l ‼ 8) in
     record { dens = x .dens ⊗ c; dm = x .dm })
 
--- Hydrogen, mixed at or below 320 km
-unfoldable pub hydrogenOf : Shape → Float → Float → Float → Float → Float → Float → Mixture
-hydrogenOf h sw15 z b28 db zhm xmm =
-    cond (not (hMixed sw15 z)) (record { dens = densityOf h z db 1·0 (neg 0·38); dm = 0·0 }) (
+-- Hydrogen
+unfoldable pub hydrogenOf : Shape → Bool → Float → Float → Float → Float → Float → Mixture
+hydrogenOf h on z b28 db zhm xmm =
+    cond (not on) (record { dens = densityOf h z db 1·0 (neg 0·38); dm = 0·0 }) (
     let m = pdmT5 in
     let l = pdlT1 in
     let x = mixedOf h z db (m ‼ 2) 1·0 (neg 0·38) zhm xmm in
@@ -104,10 +103,10 @@ hydrogenOf h sw15 z b28 db zhm xmm =
     let e = ccorOf z (m ‼ 3 ⊗ l ‼ 20) (m ‼ 7 ⊗ l ‼ 19) (m ‼ 6 ⊗ l ‼ 18) in
     record { dens = x .dens ⊗ c ⊗ e; dm = x .dm })
 
--- Atomic nitrogen, mixed at or below 450 km
-unfoldable pub nitrogenOf : Shape → Float → Float → Float → Float → Float → Float → Mixture
-nitrogenOf h sw15 z b28 db zhm xmm =
-    cond (not (nMixed sw15 z)) (record { dens = densityOf h z db 14·0 0·0; dm = 0·0 }) (
+-- Atomic nitrogen
+unfoldable pub nitrogenOf : Shape → Bool → Float → Float → Float → Float → Float → Mixture
+nitrogenOf h on z b28 db zhm xmm =
+    cond (not on) (record { dens = densityOf h z db 14·0 0·0; dm = 0·0 }) (
     let m = pdmT6 in
     let l = pdlT0 in
     let x = mixedOf h z db (m ‼ 2) 14·0 0·0 zhm xmm in
@@ -117,10 +116,10 @@ nitrogenOf h sw15 z b28 db zhm xmm =
     let e = ccorOf z (m ‼ 3 ⊗ l ‼ 5) (m ‼ 7 ⊗ l ‼ 4) (m ‼ 6 ⊗ l ‼ 3) in
     record { dens = x .dens ⊗ c ⊗ e; dm = x .dm })
 
--- molecular oxygen; the second correction stands outside the altitude test
-unfoldable pub o2Of : Shape → Float → Float → Float → Float → Float → Float → Float → Mixture
-o2Of h sw15 z b28 db zhm xmm flux =
-    let x = o2MixedOf h sw15 z b28 db zhm xmm in
+-- molecular oxygen; the second correction asks switch 15 alone
+unfoldable pub o2Of : Shape → Float → Bool → Float → Float → Float → Float → Float → Float → Mixture
+o2Of h sw15 on z b28 db zhm xmm flux =
+    let x = o2MixedOf h on z b28 db zhm xmm in
     cond (not (ne sw15 0·0)) x (
     let m = pdmT3 in
     let c = ccor2Of z (m ‼ 3 ⊗ pdlT1 ‼ 23 ⊗ flux) (m ‼ 7 ⊗ pdlT1 ‼ 22) (m ‼ 6 ⊗ pdlT1 ‼ 21) (m ‼ 7 ⊗ pdlT0 ‼ 22) in
@@ -130,6 +129,6 @@ o2Of h sw15 z b28 db zhm xmm flux =
 unfoldable pub hotOf : Shape → Float → Float → Float → Float → Float → Float
 hotOf h z db zsht zmho tho =
     let dd = densityOf h z db 16·0 0·0 in
-    let zsho = scalhOf (h .gsurf) (h .re) zmho 16·0 tho in
+    let zsho = scalhOf (h .rgas) (h .gsurf) (h .re) zmho 16·0 tho in
     let a = expOf (neg (z ⊖ zmho) ⊘ zsht) in
     dd ⊗ expOf (neg zsht ⊘ zsho ⊗ (a ⊖ 1·0))

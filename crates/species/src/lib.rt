@@ -11,13 +11,6 @@ use elementary::root::sqrt;
 use mixing::ccor;
 use mixing::ccor2;
 use mixing::dnet;
-use mixing::limits::ar_mixes;
-use mixing::limits::h_mixes;
-use mixing::limits::he_mixes;
-use mixing::limits::n_mixes;
-use mixing::limits::n2_mixes;
-use mixing::limits::o_mixes;
-use mixing::limits::o2_mixes;
 use places::place::Place;
 use places::place::Spine;
 use places::place::place_alone;
@@ -183,12 +176,11 @@ pub fn root_of(on: bool, w: Place, db: f64, xm: f64, alpha: f64, num: f64) -> Ro
 }
 
 // Each species' root at its turbopause w, from its density db at the lower boundary and N2's mixed density b28; xmm is the mass of mixed air.
-pub fn n2_root(w: Place, db: f64) -> Root
+pub fn n2_root(w: Place, db: f64, xmm: f64) -> Root
     requires { ⌜ Logged w ⌝ }
-    ensures { λ r. ⌜ r ≡ n2RootOf w db ⌝ }
+    ensures { λ r. ⌜ r ≡ n2RootOf w db xmm ⌝ }
 {
-    let m = pdm2();
-    let b = gas(w, db, 28.0 - m[4], 0.0 - 1.0);
+    let b = gas(w, db, 28.0 - xmm, 0.0 - 1.0);
     Root {
         db: db,
         b: b,
@@ -265,26 +257,26 @@ pub fn blended(p: Place, t: Thinning, q: Root, xm: f64, alpha: f64, zhm: f64, xm
     Mixture { dens: d, dm: dm }
 }
 
-// N2, mixed at or below 160 km.
-pub fn n2(sw15: f64, z: f64, p: Place, t: Thinning, q: Root) -> Mixture
+// N2; on says whether it is mixed, and of the other species likewise.
+pub fn n2(on: bool, p: Place, t: Thinning, q: Root, xmm: f64) -> Mixture
     requires { ⌜ Logged p ⌝ }
-    ensures { λ r. ⌜ r ≡ n2From sw15 z p t q ⌝ }
+    ensures { λ r. ⌜ r ≡ n2From on p t q xmm ⌝ }
 {
-    if !n2_mixes(sw15, z) {
+    if !on {
         let d = gas(p, q.db, 28.0, 0.0);
         return Mixture { dens: d, dm: 0.0 };
     }
     let m = pdm2();
     let l = pdl1();
-    blended(p, t, q, 28.0, 0.0, m[3] * l[5], m[4])
+    blended(p, t, q, 28.0, 0.0, m[3] * l[5], xmm)
 }
 
-// Helium, mixed strictly below 200 km.
-pub fn helium(sw15: f64, z: f64, p: Place, t: Thinning, q: Root, zhm: f64, xmm: f64) -> Mixture
+// Helium.
+pub fn helium(on: bool, z: f64, p: Place, t: Thinning, q: Root, zhm: f64, xmm: f64) -> Mixture
     requires { ⌜ Logged p ⌝ }
-    ensures { λ r. ⌜ r ≡ heliumFrom sw15 z p t q zhm xmm ⌝ }
+    ensures { λ r. ⌜ r ≡ heliumFrom on z p t q zhm xmm ⌝ }
 {
-    if !he_mixes(sw15, z) {
+    if !on {
         let d = gas(p, q.db, 4.0, -0.38);
         return Mixture { dens: d, dm: 0.0 };
     }
@@ -298,12 +290,12 @@ pub fn helium(sw15: f64, z: f64, p: Place, t: Thinning, q: Root, zhm: f64, xmm: 
     }
 }
 
-// Atomic oxygen, mixed at or below 300 km.
-pub fn oxygen(sw15: f64, z: f64, p: Place, t: Thinning, q: Root, zhm: f64, xmm: f64) -> Mixture
+// Atomic oxygen.
+pub fn oxygen(on: bool, z: f64, p: Place, t: Thinning, q: Root, zhm: f64, xmm: f64) -> Mixture
     requires { ⌜ Logged p ⌝ }
-    ensures { λ r. ⌜ r ≡ oxygenFrom sw15 z p t q zhm xmm ⌝ }
+    ensures { λ r. ⌜ r ≡ oxygenFrom on z p t q zhm xmm ⌝ }
 {
-    if !o_mixes(sw15, z) {
+    if !on {
         let d = gas(p, q.db, 16.0, 0.0);
         return Mixture { dens: d, dm: 0.0 };
     }
@@ -318,12 +310,12 @@ pub fn oxygen(sw15: f64, z: f64, p: Place, t: Thinning, q: Root, zhm: f64, xmm: 
     }
 }
 
-// Molecular oxygen without its second correction, mixed at or below 250 km.
-pub fn o2_mixed(sw15: f64, z: f64, p: Place, t: Thinning, q: Root, zhm: f64, xmm: f64) -> Mixture
+// Molecular oxygen without its second correction.
+pub fn o2_mixed(on: bool, z: f64, p: Place, t: Thinning, q: Root, zhm: f64, xmm: f64) -> Mixture
     requires { ⌜ Logged p ⌝ }
-    ensures { λ r. ⌜ r ≡ o2MixedFrom sw15 z p t q zhm xmm ⌝ }
+    ensures { λ r. ⌜ r ≡ o2MixedFrom on z p t q zhm xmm ⌝ }
 {
-    if !o2_mixes(sw15, z) {
+    if !on {
         let d = gas(p, q.db, 32.0, 0.0);
         return Mixture { dens: d, dm: 0.0 };
     }
@@ -337,12 +329,12 @@ pub fn o2_mixed(sw15: f64, z: f64, p: Place, t: Thinning, q: Root, zhm: f64, xmm
     }
 }
 
-// Argon, mixed at or below 240 km.
-pub fn argon(sw15: f64, z: f64, p: Place, t: Thinning, q: Root, zhm: f64, xmm: f64) -> Mixture
+// Argon.
+pub fn argon(on: bool, z: f64, p: Place, t: Thinning, q: Root, zhm: f64, xmm: f64) -> Mixture
     requires { ⌜ Logged p ⌝ }
-    ensures { λ r. ⌜ r ≡ argonFrom sw15 z p t q zhm xmm ⌝ }
+    ensures { λ r. ⌜ r ≡ argonFrom on z p t q zhm xmm ⌝ }
 {
-    if !ar_mixes(sw15, z) {
+    if !on {
         let d = gas(p, q.db, 40.0, 0.17);
         return Mixture { dens: d, dm: 0.0 };
     }
@@ -356,12 +348,12 @@ pub fn argon(sw15: f64, z: f64, p: Place, t: Thinning, q: Root, zhm: f64, xmm: f
     }
 }
 
-// Hydrogen, mixed at or below 320 km.
-pub fn hydrogen(sw15: f64, z: f64, p: Place, t: Thinning, q: Root, zhm: f64, xmm: f64) -> Mixture
+// Hydrogen.
+pub fn hydrogen(on: bool, z: f64, p: Place, t: Thinning, q: Root, zhm: f64, xmm: f64) -> Mixture
     requires { ⌜ Logged p ⌝ }
-    ensures { λ r. ⌜ r ≡ hydrogenFrom sw15 z p t q zhm xmm ⌝ }
+    ensures { λ r. ⌜ r ≡ hydrogenFrom on z p t q zhm xmm ⌝ }
 {
-    if !h_mixes(sw15, z) {
+    if !on {
         let d = gas(p, q.db, 1.0, -0.38);
         return Mixture { dens: d, dm: 0.0 };
     }
@@ -376,12 +368,12 @@ pub fn hydrogen(sw15: f64, z: f64, p: Place, t: Thinning, q: Root, zhm: f64, xmm
     }
 }
 
-// Atomic nitrogen, mixed at or below 450 km.
-pub fn nitrogen(sw15: f64, z: f64, p: Place, t: Thinning, q: Root, zhm: f64, xmm: f64) -> Mixture
+// Atomic nitrogen.
+pub fn nitrogen(on: bool, z: f64, p: Place, t: Thinning, q: Root, zhm: f64, xmm: f64) -> Mixture
     requires { ⌜ Logged p ⌝ }
-    ensures { λ r. ⌜ r ≡ nitrogenFrom sw15 z p t q zhm xmm ⌝ }
+    ensures { λ r. ⌜ r ≡ nitrogenFrom on z p t q zhm xmm ⌝ }
 {
-    if !n_mixes(sw15, z) {
+    if !on {
         let d = gas(p, q.db, 14.0, 0.0);
         return Mixture { dens: d, dm: 0.0 };
     }
@@ -396,9 +388,10 @@ pub fn nitrogen(sw15: f64, z: f64, p: Place, t: Thinning, q: Root, zhm: f64, xmm
     }
 }
 
-// Molecular oxygen; the second correction, by rate, stands outside the altitude test.
+// Molecular oxygen; the second correction, by rate, asks switch 15 alone.
 pub fn o2(
     sw15: f64,
+    on: bool,
     z: f64,
     p: Place,
     t: Thinning,
@@ -408,9 +401,9 @@ pub fn o2(
     xmm: f64,
 ) -> Mixture
     requires { ⌜ Logged p ⌝ }
-    ensures { λ r. ⌜ r ≡ o2From sw15 z p t q rate zhm xmm ⌝ }
+    ensures { λ r. ⌜ r ≡ o2From sw15 on z p t q rate zhm xmm ⌝ }
 {
-    let x = o2_mixed(sw15, z, p, t, q, zhm, xmm);
+    let x = o2_mixed(on, z, p, t, q, zhm, xmm);
     if !(sw15 != 0.0) {
         return x;
     }
@@ -425,10 +418,10 @@ pub fn o2(
 }
 
 // The factor of anomalous oxygen's exponent, whatever the altitude; tho is its temperature.
-pub fn hot_factor(gsurf: f64, re: f64, zsht: f64, zmho: f64, tho: f64) -> f64
-    ensures { λ r. ⌜ r ≡ hotFactorOf gsurf re zsht zmho tho ⌝ }
+pub fn hot_factor(rgas: f64, gsurf: f64, re: f64, zsht: f64, zmho: f64, tho: f64) -> f64
+    ensures { λ r. ⌜ r ≡ hotFactorOf rgas gsurf re zsht zmho tho ⌝ }
 {
-    let zsho = scalh(gsurf, re, zmho, 16.0, tho);
+    let zsho = scalh(rgas, gsurf, re, zmho, 16.0, tho);
     -zsht / zsho
 }
 

@@ -7,7 +7,6 @@ use Rattle.numbers.specs.Arithmetic.{_⊕_, _⊖_, _⊗_, _‼_}
 use Rattle.numbers.specs.Literals.{0·0, 0·17, 0·38, 1·0, 4·0, 14·0, 16·0, 28·0, 32·0, 40·0, 72·5}
 use Rattle.elementary.specs.Exp.{expOf}
 use Rattle.elementary.specs.Root.{sqrtOf}
-use Rattle.mixing.specs.Limits.{n2Mixed, heMixed, oMixed, o2Mixed, arMixed, hMixed, nMixed}
 use Rattle.places.specs.Thinning.{Logged}
 use Rattle.places.specs.declared.place.Place.{Place}
 use Rattle.places.specs.declared.thinning.Thinning.{Thinning}
@@ -18,116 +17,109 @@ use Rattle.profile.specs.declared.unchecked.Shape.{Shape}
 use Rattle.species.specs.declared.Blend.{Blend}
 use Rattle.species.specs.declared.Mixture.{Mixture}
 use Rattle.species.specs.declared.Root.{Root}
-use Rattle.species.specs.Places.{placeAt, mixesAt, Turbopause, Mixes}
+use Rattle.species.specs.Places.{placeAt, Turbopause, Mixes}
 use Rattle.species.specs.Rooted.{n2RootOf, heliumRootOf, oxygenRootOf, o2RootOf, argonRootOf, hydrogenRootOf, nitrogenRootOf, n2From, heliumFrom, oxygenFrom, o2From, argonFrom, hydrogenFrom, nitrogenFrom, hotFactorOf, hotFrom, root-is, n2-root-is, oxygen-root-is, n2-is, helium-is, oxygen-is, o2-is, argon-is, hydrogen-is, nitrogen-is, hot-is}
 use Rattle.species.proofs.Laws.{logged-at}
-use Rattle.species.proofs.Order.{mixes-160, mixes-200, mixes-240, mixes-250, mixes-300, mixes-320}
 use Rattle.stages.specs.Stages.{tinfPlan, gradientPlan, tlbPlan, n2Plan, heliumPlan, oxygenPlan, o2Plan, argonPlan, hydrogenPlan, nitrogenPlan, hotPlan}
 
--- the logarithms of a turbopause that is asked for: the code's test is the species' own
-pub logged-there : (h : Shape) (zh : Float) (w : Place) (test own on : Bool) → Turbopause h on zh w → (own ≡ true → on ≡ true) → test ≡ own → test ≡ true → Logged w
-logged-there h zh w test own on at lift e o = logged-at h zh w (at (lift (sym e ∙ o)))
+-- the logarithms of a turbopause that is asked for
+pub logged-there : (h : Shape) (zh : Float) (w : Place) (on : Bool) → Turbopause h on zh w → on ≡ true → Logged w
+logged-there h zh w on at o = logged-at h zh w (at o)
 
 pub helium-law : (sw : List Float) (h : Shape) (z : Float) (p w : Place) (t : Thinning) (b28 zhm xmm : Float) (l : Levels) (r : Mixture) (q : Root) (on : Bool) (g : Float) (m c : List Float)
-    → r ≡ heliumFrom (sw ‼ 15) z p t q zhm xmm
+    → r ≡ heliumFrom on z p t q zhm xmm
     → q ≡ heliumRootOf on w (m ‼ 0 ⊗ g ⊗ c ‼ 0) b28 xmm
-    → on ≡ heMixed (sw ‼ 15) z
     → g ≡ expOf (sw ‼ 21 ⊗ l .pd0)
     → m ≡ pdmT0
     → c ≡ pdT0
-    → (p ≡ placeAt h z) × Turbopause h (heMixed (sw ‼ 15) z) (pdmT0 ‼ 2) w × Mixes (mixesAt (sw ‼ 15) z) p xmm t
-    → r ≡ told (given l) (heliumPlan sw h z b28 zhm xmm)
+    → (p ≡ placeAt h z) × Turbopause h on (pdmT0 ‼ 2) w × Mixes on p xmm t
+    → r ≡ told (given l) (heliumPlan sw h on z b28 zhm xmm)
 unfolding told heliumPlan _>>=_ heliumRootOf
-helium-law sw h z p w t b28 zhm xmm l r q on g m c e0 e1 eon eg em ec pre =
-    e0 ∙ helium-is h (sw ‼ 15) z p t q (pre .0) b28 _ zhm xmm (λ o. pre .2 ((mixes-200 (sw ‼ 15) z) o))
-    (root-is (heMixed (sw ‼ 15) z) h (pdmT0 ‼ 2) w (pdmT0 ‼ 0 ⊗ expOf (sw ‼ 21 ⊗ l .pd0) ⊗ pdT0 ‼ 0) (4·0 ⊖ xmm) (neg 0·38 ⊖ 1·0) (b28 ⊗ pdmT0 ‼ 1) q (rw (eon, eg, em, ec) at e1) (pre .1))
+helium-law sw h z p w t b28 zhm xmm l r q on g m c e0 e1 eg em ec pre =
+    e0 ∙ helium-is h on z p t q (pre .0) b28 _ zhm xmm (pre .2)
+    (root-is on h (pdmT0 ‼ 2) w (pdmT0 ‼ 0 ⊗ expOf (sw ‼ 21 ⊗ l .pd0) ⊗ pdT0 ‼ 0) (4·0 ⊖ xmm) (neg 0·38 ⊖ 1·0) (b28 ⊗ pdmT0 ‼ 1) q (rw (eg, em, ec) at e1) (pre .1))
 
 pub argon-law : (sw : List Float) (h : Shape) (z : Float) (p w : Place) (t : Thinning) (b28 zhm xmm : Float) (l : Levels) (r : Mixture) (q : Root) (on : Bool) (g : Float) (m c : List Float)
-    → r ≡ argonFrom (sw ‼ 15) z p t q zhm xmm
+    → r ≡ argonFrom on z p t q zhm xmm
     → q ≡ argonRootOf on w (m ‼ 0 ⊗ g ⊗ c ‼ 0) b28 xmm
-    → on ≡ arMixed (sw ‼ 15) z
     → g ≡ expOf (sw ‼ 21 ⊗ l .pd5)
     → m ≡ pdmT4
     → c ≡ pdT5
-    → (p ≡ placeAt h z) × Turbopause h (mixesAt (sw ‼ 15) z) (pdmT4 ‼ 2) w × Mixes (mixesAt (sw ‼ 15) z) p xmm t
-    → r ≡ told (given l) (argonPlan sw h z b28 zhm xmm)
+    → (p ≡ placeAt h z) × Turbopause h on (pdmT4 ‼ 2) w × Mixes on p xmm t
+    → r ≡ told (given l) (argonPlan sw h on z b28 zhm xmm)
 unfolding told argonPlan _>>=_ argonRootOf
-argon-law sw h z p w t b28 zhm xmm l r q on g m c e0 e1 eon eg em ec pre =
-    e0 ∙ argon-is h (sw ‼ 15) z p t q (pre .0) b28 _ zhm xmm (λ o. pre .2 ((mixes-240 (sw ‼ 15) z) o))
-    (root-is (arMixed (sw ‼ 15) z) h (pdmT4 ‼ 2) w (pdmT4 ‼ 0 ⊗ expOf (sw ‼ 21 ⊗ l .pd5) ⊗ pdT5 ‼ 0) (40·0 ⊖ xmm) (0·17 ⊖ 1·0) (b28 ⊗ pdmT4 ‼ 1) q (rw (eon, eg, em, ec) at e1) (λ o. pre .1 ((mixes-240 (sw ‼ 15) z) o)))
+argon-law sw h z p w t b28 zhm xmm l r q on g m c e0 e1 eg em ec pre =
+    e0 ∙ argon-is h on z p t q (pre .0) b28 _ zhm xmm (pre .2)
+    (root-is on h (pdmT4 ‼ 2) w (pdmT4 ‼ 0 ⊗ expOf (sw ‼ 21 ⊗ l .pd5) ⊗ pdT5 ‼ 0) (40·0 ⊖ xmm) (0·17 ⊖ 1·0) (b28 ⊗ pdmT4 ‼ 1) q (rw (eg, em, ec) at e1) (pre .1))
 
 pub hydrogen-law : (sw : List Float) (h : Shape) (z : Float) (p w : Place) (t : Thinning) (b28 zhm xmm : Float) (l : Levels) (r : Mixture) (q : Root) (on : Bool) (g : Float) (m c : List Float)
-    → r ≡ hydrogenFrom (sw ‼ 15) z p t q zhm xmm
+    → r ≡ hydrogenFrom on z p t q zhm xmm
     → q ≡ hydrogenRootOf on w (m ‼ 0 ⊗ g ⊗ c ‼ 0) b28 xmm
-    → on ≡ hMixed (sw ‼ 15) z
     → g ≡ expOf (sw ‼ 21 ⊗ l .pd6)
     → m ≡ pdmT5
     → c ≡ pdT6
-    → (p ≡ placeAt h z) × Turbopause h (hMixed (sw ‼ 15) z) (pdmT5 ‼ 2) w × Mixes (mixesAt (sw ‼ 15) z) p xmm t
-    → r ≡ told (given l) (hydrogenPlan sw h z b28 zhm xmm)
+    → (p ≡ placeAt h z) × Turbopause h on (pdmT5 ‼ 2) w × Mixes on p xmm t
+    → r ≡ told (given l) (hydrogenPlan sw h on z b28 zhm xmm)
 unfolding told hydrogenPlan _>>=_ hydrogenRootOf
-hydrogen-law sw h z p w t b28 zhm xmm l r q on g m c e0 e1 eon eg em ec pre =
-    e0 ∙ hydrogen-is h (sw ‼ 15) z p t q (pre .0) b28 _ zhm xmm (λ o. pre .2 ((mixes-320 (sw ‼ 15) z) o))
-    (root-is (hMixed (sw ‼ 15) z) h (pdmT5 ‼ 2) w (pdmT5 ‼ 0 ⊗ expOf (sw ‼ 21 ⊗ l .pd6) ⊗ pdT6 ‼ 0) (1·0 ⊖ xmm) (neg 0·38 ⊖ 1·0) (b28 ⊗ pdmT5 ‼ 1 ⊗ sqrtOf (pdlT1 ‼ 17 ⊗ pdlT1 ‼ 17)) q (rw (eon, eg, em, ec) at e1) (pre .1))
+hydrogen-law sw h z p w t b28 zhm xmm l r q on g m c e0 e1 eg em ec pre =
+    e0 ∙ hydrogen-is h on z p t q (pre .0) b28 _ zhm xmm (pre .2)
+    (root-is on h (pdmT5 ‼ 2) w (pdmT5 ‼ 0 ⊗ expOf (sw ‼ 21 ⊗ l .pd6) ⊗ pdT6 ‼ 0) (1·0 ⊖ xmm) (neg 0·38 ⊖ 1·0) (b28 ⊗ pdmT5 ‼ 1 ⊗ sqrtOf (pdlT1 ‼ 17 ⊗ pdlT1 ‼ 17)) q (rw (eg, em, ec) at e1) (pre .1))
 
 pub nitrogen-law : (sw : List Float) (h : Shape) (z : Float) (p w : Place) (t : Thinning) (b28 zhm xmm : Float) (l : Levels) (r : Mixture) (q : Root) (on : Bool) (g : Float) (m c : List Float)
-    → r ≡ nitrogenFrom (sw ‼ 15) z p t q zhm xmm
+    → r ≡ nitrogenFrom on z p t q zhm xmm
     → q ≡ nitrogenRootOf on w (m ‼ 0 ⊗ g ⊗ c ‼ 0) b28 xmm
-    → on ≡ nMixed (sw ‼ 15) z
     → g ≡ expOf (sw ‼ 21 ⊗ l .pd7)
     → m ≡ pdmT6
     → c ≡ pdT7
-    → (p ≡ placeAt h z) × Turbopause h (mixesAt (sw ‼ 15) z) (pdmT6 ‼ 2) w × Mixes (mixesAt (sw ‼ 15) z) p xmm t
-    → r ≡ told (given l) (nitrogenPlan sw h z b28 zhm xmm)
+    → (p ≡ placeAt h z) × Turbopause h on (pdmT6 ‼ 2) w × Mixes on p xmm t
+    → r ≡ told (given l) (nitrogenPlan sw h on z b28 zhm xmm)
 unfolding told nitrogenPlan _>>=_ nitrogenRootOf
-nitrogen-law sw h z p w t b28 zhm xmm l r q on g m c e0 e1 eon eg em ec pre =
-    e0 ∙ nitrogen-is h (sw ‼ 15) z p t q (pre .0) b28 _ zhm xmm (pre .2)
-    (root-is (nMixed (sw ‼ 15) z) h (pdmT6 ‼ 2) w (pdmT6 ‼ 0 ⊗ expOf (sw ‼ 21 ⊗ l .pd7) ⊗ pdT7 ‼ 0) (14·0 ⊖ xmm) (0·0 ⊖ 1·0) (b28 ⊗ pdmT6 ‼ 1 ⊗ sqrtOf (pdlT0 ‼ 2 ⊗ pdlT0 ‼ 2)) q (rw (eon, eg, em, ec) at e1) (pre .1))
+nitrogen-law sw h z p w t b28 zhm xmm l r q on g m c e0 e1 eg em ec pre =
+    e0 ∙ nitrogen-is h on z p t q (pre .0) b28 _ zhm xmm (pre .2)
+    (root-is on h (pdmT6 ‼ 2) w (pdmT6 ‼ 0 ⊗ expOf (sw ‼ 21 ⊗ l .pd7) ⊗ pdT7 ‼ 0) (14·0 ⊖ xmm) (0·0 ⊖ 1·0) (b28 ⊗ pdmT6 ‼ 1 ⊗ sqrtOf (pdlT0 ‼ 2 ⊗ pdlT0 ‼ 2)) q (rw (eg, em, ec) at e1) (pre .1))
 
 pub oxygen-law : (sw : List Float) (h : Shape) (z : Float) (p w : Place) (t : Thinning) (zhm xmm flux : Float) (l : Levels) (r : Mixture) (q : Root) (on : Bool) (g : Float) (m c : List Float)
-    → r ≡ oxygenFrom (sw ‼ 15) z p t q zhm xmm
+    → r ≡ oxygenFrom on z p t q zhm xmm
     → q ≡ oxygenRootOf on w (m ‼ 0 ⊗ g ⊗ c ‼ 0) flux xmm
-    → on ≡ oMixed (sw ‼ 15) z
     → g ≡ expOf (sw ‼ 21 ⊗ l .pd1)
     → m ≡ pdmT1
     → c ≡ pdT1
-    → (p ≡ placeAt h z) × Turbopause h (mixesAt (sw ‼ 15) z) (pdmT1 ‼ 2) w × Mixes (mixesAt (sw ‼ 15) z) p xmm t
-    → r ≡ told (given l) (oxygenPlan sw h z zhm xmm flux)
+    → (p ≡ placeAt h z) × Turbopause h on (pdmT1 ‼ 2) w × Mixes on p xmm t
+    → r ≡ told (given l) (oxygenPlan sw h on z zhm xmm flux)
 unfolding told oxygenPlan _>>=_
-oxygen-law sw h z p w t zhm xmm flux l r q on g m c e0 e1 eon eg em ec pre =
+oxygen-law sw h z p w t zhm xmm flux l r q on g m c e0 e1 eg em ec pre =
     e0
-    ∙ oxygen-is h (sw ‼ 15) z p t q (pre .0) (pdmT1 ‼ 0 ⊗ expOf (sw ‼ 21 ⊗ l .pd1) ⊗ pdT1 ‼ 0) zhm xmm flux (λ o. pre .2 (mixes-300 (sw ‼ 15) z o))
-    (oxygen-root-is (oMixed (sw ‼ 15) z) h w _ flux xmm q (rw (eon, eg, em, ec) at e1) (λ o. pre .1 (mixes-300 (sw ‼ 15) z o)))
+    ∙ oxygen-is h on z p t q (pre .0) (pdmT1 ‼ 0 ⊗ expOf (sw ‼ 21 ⊗ l .pd1) ⊗ pdT1 ‼ 0) zhm xmm flux (pre .2)
+    (oxygen-root-is on h w _ flux xmm q (rw (eg, em, ec) at e1) (pre .1))
 
 pub o2-law : (sw : List Float) (h : Shape) (z : Float) (p w : Place) (t : Thinning) (b28 zhm xmm flux : Float) (l : Levels) (r : Mixture) (q : Root) (on : Bool) (g : Float) (m c k : List Float)
-    → r ≡ o2From (sw ‼ 15) z p t q (m ‼ 3 ⊗ k ‼ 23 ⊗ flux) zhm xmm
+    → r ≡ o2From (sw ‼ 15) on z p t q (m ‼ 3 ⊗ k ‼ 23 ⊗ flux) zhm xmm
     → q ≡ o2RootOf on w (m ‼ 0 ⊗ g ⊗ c ‼ 0) b28 xmm
-    → on ≡ o2Mixed (sw ‼ 15) z
     → g ≡ expOf (sw ‼ 21 ⊗ l .pd4)
     → m ≡ pdmT3
     → c ≡ pdT4
     → k ≡ pdlT1
-    → (p ≡ placeAt h z) × Turbopause h (mixesAt (sw ‼ 15) z) (pdmT3 ‼ 2) w × Mixes (mixesAt (sw ‼ 15) z) p xmm t
-    → r ≡ told (given l) (o2Plan sw h z b28 zhm xmm flux)
+    → (p ≡ placeAt h z) × Turbopause h on (pdmT3 ‼ 2) w × Mixes on p xmm t
+    → r ≡ told (given l) (o2Plan sw h on z b28 zhm xmm flux)
 unfolding told o2Plan _>>=_ o2RootOf
-o2-law sw h z p w t b28 zhm xmm flux l r q on g m c k e0 e1 eon eg em ec ek pre =
-    e0 ∙ o2-is h (sw ‼ 15) z p t q (pre .0) b28 _ zhm xmm flux _ (λ o. pre .2 (mixes-250 (sw ‼ 15) z o))
-    (root-is (o2Mixed (sw ‼ 15) z) h (pdmT3 ‼ 2) w (pdmT3 ‼ 0 ⊗ expOf (sw ‼ 21 ⊗ l .pd4) ⊗ pdT4 ‼ 0) (32·0 ⊖ xmm) (0·0 ⊖ 1·0) (b28 ⊗ pdmT3 ‼ 1) q (rw (eon, eg, em, ec) at e1) (λ o. pre .1 (mixes-250 (sw ‼ 15) z o)))
+o2-law sw h z p w t b28 zhm xmm flux l r q on g m c k e0 e1 eg em ec ek pre =
+    e0 ∙ o2-is h on z p t q (pre .0) (sw ‼ 15) b28 _ zhm xmm flux _ (pre .2)
+    (root-is on h (pdmT3 ‼ 2) w (pdmT3 ‼ 0 ⊗ expOf (sw ‼ 21 ⊗ l .pd4) ⊗ pdT4 ‼ 0) (32·0 ⊖ xmm) (0·0 ⊖ 1·0) (b28 ⊗ pdmT3 ‼ 1) q (rw (eg, em, ec) at e1) (pre .1))
     (rw (em, ek))
 
-pub n2-law : (sw : List Float) (h : Shape) (z : Float) (p w : Place) (t : Thinning) (zhf : Float) (l : Levels) (x : Mixture) (q : Root) (g : Float) (m c : List Float)
-    → x ≡ n2From (sw ‼ 15) z p t q
-    → q ≡ n2RootOf w (m ‼ 0 ⊗ g ⊗ c ‼ 0)
+pub n2-law : (sw : List Float) (h : Shape) (on : Bool) (z : Float) (p w : Place) (t : Thinning) (zhf xmm : Float) (l : Levels) (x : Mixture) (q : Root) (g : Float) (m c : List Float)
+    → x ≡ n2From on p t q xmm
+    → q ≡ n2RootOf w (m ‼ 0 ⊗ g ⊗ c ‼ 0) xmm
     → g ≡ expOf (sw ‼ 21 ⊗ l .pd2)
     → m ≡ pdmT2
     → c ≡ pdT2
-    → (p ≡ placeAt h z) × (w ≡ placeAt h (pdmT2 ‼ 2 ⊗ zhf)) × Mixes (mixesAt (sw ‼ 15) z) p (pdmT2 ‼ 4) t
-    → _≡_ {A = Blend} (record { dens = x .dens; b = q .b; dm = x .dm }) (told (given l) (n2Plan sw h z zhf))
+    → (p ≡ placeAt h z) × (w ≡ placeAt h (pdmT2 ‼ 2 ⊗ zhf)) × Mixes on p xmm t
+    → _≡_ {A = Blend} (record { dens = x .dens; b = q .b; dm = x .dm }) (told (given l) (n2Plan sw h on z zhf xmm))
 unfolding told n2Plan _>>=_
-n2-law sw h z p w t zhf l x q g m c e0 e1 eg em ec pre =
+n2-law sw h on z p w t zhf xmm l x q g m c e0 e1 eg em ec pre =
     let db = pdmT2 ‼ 0 ⊗ expOf (sw ‼ 21 ⊗ l .pd2) ⊗ pdT2 ‼ 0 in
     ap (λ (y : Mixture). record { dens = y .dens; b = q .b; dm = y .dm }) e0
-    ∙ n2-is h (sw ‼ 15) z p t q (pre .0) db zhf (λ o. pre .2 (mixes-160 (sw ‼ 15) z o)) (n2-root-is h w db zhf q (rw (eg, em, ec) at e1) (pre .1))
+    ∙ n2-is h on z p t q (pre .0) db zhf xmm (pre .2) (n2-root-is h w db zhf xmm q (rw (eg, em, ec) at e1) (pre .1))
 
 pub tlb-law : (sw : List Float) (l : Levels) (m p : List Float)
     → m ≡ ptmT
@@ -172,7 +164,7 @@ gradient-below sw z l m p e0 e1 e2 = simp (e2, e0, e1)
 
 pub hot-law : (sw : List Float) (h : Shape) (z : Float) (l : Levels) (d f : Float) (p : Place) (g : Float) (b m c : List Float)
     → d ≡ hotFrom z p (m ‼ 0 ⊗ g ⊗ c ‼ 0) f (m ‼ 5) (m ‼ 4)
-    → f ≡ hotFactorOf (h .gsurf) (h .re) (m ‼ 5) (m ‼ 4) (m ‼ 9 ⊗ b ‼ 6)
+    → f ≡ hotFactorOf (h .rgas) (h .gsurf) (h .re) (m ‼ 5) (m ‼ 4) (m ‼ 9 ⊗ b ‼ 6)
     → p ≡ placeAt h z
     → g ≡ expOf (sw ‼ 21 ⊗ l .pd8)
     → b ≡ pdlT0

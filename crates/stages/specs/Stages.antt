@@ -1,4 +1,5 @@
 -- gts7 in stages, as plans over the main effects sw, a Site and an altitude z, in the Rust's order.
+use mathlib.Core.Bool.{Bool}
 use mathlib.Core.List.{List}
 use lib.Ieee.{Float, lt}
 use Rattle.numbers.specs.Arithmetic.{_⊗_, _‼_}
@@ -7,7 +8,8 @@ use Rattle.elementary.specs.Pow.{powOf}
 use Rattle.elementary.specs.Root.{sqrtOf}
 use Rattle.profile.specs.Profile.{tn1Of, tgn1Of}
 use Rattle.profile.specs.declared.unchecked.Shape.{Shape}
-use Rattle.mixing.specs.Limits.{n2Mixed, heMixed, oMixed, o2Mixed, arMixed, hMixed, nMixed}
+use Rattle.mixing.specs.Limits.{mixedAt}
+use Rattle.mixing.specs.declared.limits.Mixed.{Mixed}
 use Rattle.species.specs.declared.Blend.{Blend}
 use Rattle.species.specs.declared.Mixture.{Mixture}
 use Rattle.species.specs.Species.{nodes, heliumOf, oxygenOf, o2Of, argonOf, hydrogenOf, nitrogenOf, hotOf, n2Of}
@@ -79,61 +81,62 @@ shapePlan sw x z = do
   n ← nodesPlan sw z
   done (shapeOf x tinf tlb g n)
 
-unfoldable pub n2Plan : List Float → Shape → Float → Float → Plan Blend
-n2Plan sw h z zhf = do
+-- N2; on says whether it is mixed, and of the other species likewise; xmm is the mass of mixed air
+unfoldable pub n2Plan : List Float → Shape → Bool → Float → Float → Float → Plan Blend
+n2Plan sw h on z zhf xmm = do
   g ← get (exp-globe7 (sw ‼ 21) PD2)
-  let b = n2Of h (sw ‼ 15) z (pdmT2 ‼ 0 ⊗ g ⊗ pdT2 ‼ 0) zhf
+  let b = n2Of h on z (pdmT2 ‼ 0 ⊗ g ⊗ pdT2 ‼ 0) zhf xmm
   densuSets h z
   densuSets h (pdmT2 ‼ 2 ⊗ zhf)
-  when (n2Mixed (sw ‼ 15) z) (λ f. setDm28 (b .dm) (densuSets h z f))
+  when on (λ f. setDm28 (b .dm) (densuSets h z f))
   done b
 
-unfoldable pub heliumPlan : List Float → Shape → Float → Float → Float → Float → Plan Mixture
-heliumPlan sw h z b28 zhm xmm = do
+unfoldable pub heliumPlan : List Float → Shape → Bool → Float → Float → Float → Float → Plan Mixture
+heliumPlan sw h on z b28 zhm xmm = do
   g ← get (exp-globe7 (sw ‼ 21) PD0)
-  let x = heliumOf h (sw ‼ 15) z b28 (pdmT0 ‼ 0 ⊗ g ⊗ pdT0 ‼ 0) zhm xmm
+  let x = heliumOf h on z b28 (pdmT0 ‼ 0 ⊗ g ⊗ pdT0 ‼ 0) zhm xmm
   densuSets h z
-  when (heMixed (sw ‼ 15) z) (mixedSets h z (pdmT0 ‼ 2) (setDm04 (x .dm)))
+  when on (mixedSets h z (pdmT0 ‼ 2) (setDm04 (x .dm)))
   done x
 
-unfoldable pub oxygenPlan : List Float → Shape → Float → Float → Float → Float → Plan Mixture
-oxygenPlan sw h z zhm xmm flux = do
+unfoldable pub oxygenPlan : List Float → Shape → Bool → Float → Float → Float → Float → Plan Mixture
+oxygenPlan sw h on z zhm xmm flux = do
   g ← get (exp-globe7 (sw ‼ 21) PD1)
-  let x = oxygenOf h (sw ‼ 15) z (pdmT1 ‼ 0 ⊗ g ⊗ pdT1 ‼ 0) zhm xmm flux
+  let x = oxygenOf h on z (pdmT1 ‼ 0 ⊗ g ⊗ pdT1 ‼ 0) zhm xmm flux
   densuSets h z
-  when (oMixed (sw ‼ 15) z) (mixedSets h z (pdmT1 ‼ 2) (setDm16 (x .dm)))
+  when on (mixedSets h z (pdmT1 ‼ 2) (setDm16 (x .dm)))
   done x
 
-unfoldable pub o2Plan : List Float → Shape → Float → Float → Float → Float → Float → Plan Mixture
-o2Plan sw h z b28 zhm xmm flux = do
+unfoldable pub o2Plan : List Float → Shape → Bool → Float → Float → Float → Float → Float → Plan Mixture
+o2Plan sw h on z b28 zhm xmm flux = do
   g ← get (exp-globe7 (sw ‼ 21) PD4)
-  let x = o2Of h (sw ‼ 15) z b28 (pdmT3 ‼ 0 ⊗ g ⊗ pdT4 ‼ 0) zhm xmm flux
+  let x = o2Of h (sw ‼ 15) on z b28 (pdmT3 ‼ 0 ⊗ g ⊗ pdT4 ‼ 0) zhm xmm flux
   densuSets h z
-  when (o2Mixed (sw ‼ 15) z) (mixedSets h z (pdmT3 ‼ 2) (setDm32 (x .dm)))
+  when on (mixedSets h z (pdmT3 ‼ 2) (setDm32 (x .dm)))
   done x
 
-unfoldable pub argonPlan : List Float → Shape → Float → Float → Float → Float → Plan Mixture
-argonPlan sw h z b28 zhm xmm = do
+unfoldable pub argonPlan : List Float → Shape → Bool → Float → Float → Float → Float → Plan Mixture
+argonPlan sw h on z b28 zhm xmm = do
   g ← get (exp-globe7 (sw ‼ 21) PD5)
-  let x = argonOf h (sw ‼ 15) z b28 (pdmT4 ‼ 0 ⊗ g ⊗ pdT5 ‼ 0) zhm xmm
+  let x = argonOf h on z b28 (pdmT4 ‼ 0 ⊗ g ⊗ pdT5 ‼ 0) zhm xmm
   densuSets h z
-  when (arMixed (sw ‼ 15) z) (mixedSets h z (pdmT4 ‼ 2) (setDm40 (x .dm)))
+  when on (mixedSets h z (pdmT4 ‼ 2) (setDm40 (x .dm)))
   done x
 
-unfoldable pub hydrogenPlan : List Float → Shape → Float → Float → Float → Float → Plan Mixture
-hydrogenPlan sw h z b28 zhm xmm = do
+unfoldable pub hydrogenPlan : List Float → Shape → Bool → Float → Float → Float → Float → Plan Mixture
+hydrogenPlan sw h on z b28 zhm xmm = do
   g ← get (exp-globe7 (sw ‼ 21) PD6)
-  let x = hydrogenOf h (sw ‼ 15) z b28 (pdmT5 ‼ 0 ⊗ g ⊗ pdT6 ‼ 0) zhm xmm
+  let x = hydrogenOf h on z b28 (pdmT5 ‼ 0 ⊗ g ⊗ pdT6 ‼ 0) zhm xmm
   densuSets h z
-  when (hMixed (sw ‼ 15) z) (mixedSets h z (pdmT5 ‼ 2) (setDm01 (x .dm)))
+  when on (mixedSets h z (pdmT5 ‼ 2) (setDm01 (x .dm)))
   done x
 
-unfoldable pub nitrogenPlan : List Float → Shape → Float → Float → Float → Float → Plan Mixture
-nitrogenPlan sw h z b28 zhm xmm = do
+unfoldable pub nitrogenPlan : List Float → Shape → Bool → Float → Float → Float → Float → Plan Mixture
+nitrogenPlan sw h on z b28 zhm xmm = do
   g ← get (exp-globe7 (sw ‼ 21) PD7)
-  let x = nitrogenOf h (sw ‼ 15) z b28 (pdmT6 ‼ 0 ⊗ g ⊗ pdT7 ‼ 0) zhm xmm
+  let x = nitrogenOf h on z b28 (pdmT6 ‼ 0 ⊗ g ⊗ pdT7 ‼ 0) zhm xmm
   densuSets h z
-  when (nMixed (sw ‼ 15) z) (mixedSets h z (pdmT6 ‼ 2) (setDm14 (x .dm)))
+  when on (mixedSets h z (pdmT6 ‼ 2) (setDm14 (x .dm)))
   done x
 
 -- anomalous oxygen: h has tho in the place of tinf and tlb
@@ -143,25 +146,25 @@ hotPlan sw h z = do
   densuSets h z
   done (hotOf h z (pdmT7 ‼ 0 ⊗ g ⊗ pdT8 ‼ 0) (pdmT7 ‼ 5) (pdmT7 ‼ 4) (pdmT7 ‼ 9 ⊗ pdlT0 ‼ 6))
 
--- the six species that blend with N2, whose mixed density at the turbopause is b28
-unfoldable pub speciesPlan : List Float → Shape → Float → Float → Float → Plan Six
-speciesPlan sw h z b28 flux = do
+-- the six species that blend with N2, whose mixed density at the turbopause is b28; m says which are mixed
+unfoldable pub speciesPlan : List Float → Shape → Mixed → Float → Float → Float → Float → Plan Six
+speciesPlan sw h m z b28 flux xmm = do
   let zhm = pdmT2 ‼ 3 ⊗ pdlT1 ‼ 5
-  let xmm = pdmT2 ‼ 4
-  a ← heliumPlan sw h z b28 zhm xmm
-  b ← oxygenPlan sw h z zhm xmm flux
-  c ← o2Plan sw h z b28 zhm xmm flux
-  d ← argonPlan sw h z b28 zhm xmm
-  e ← hydrogenPlan sw h z b28 zhm xmm
-  f ← nitrogenPlan sw h z b28 zhm xmm
+  a ← heliumPlan sw h (m .he) z b28 zhm xmm
+  b ← oxygenPlan sw h (m .o) z zhm xmm flux
+  c ← o2Plan sw h (m .o2) z b28 zhm xmm flux
+  d ← argonPlan sw h (m .ar) z b28 zhm xmm
+  e ← hydrogenPlan sw h (m .h) z b28 zhm xmm
+  f ← nitrogenPlan sw h (m .n) z b28 zhm xmm
   done (record { he = a; o = b; o2 = c; ar = d; h = e; n = f })
 
 -- gts7
 unfoldable pub gts7Plan : List Float → Site → Float → Plan Upper
 gts7Plan sw x z = do
   h ← shapePlan sw x z
-  b ← n2Plan sw h z (x .zhf)
-  y ← speciesPlan sw h z (b .b) (x .flux)
+  let m = mixedAt (x .nine) (sw ‼ 15) z
+  b ← n2Plan sw h (m .n2) z (x .zhf) (x .nine .xmm)
+  y ← speciesPlan sw h m z (b .b) (x .flux) (x .nine .xmm)
   o ← hotPlan sw (anomalousOf h) z
   densuSets h (sqrtOf (z ⊗ z))
   done (gatherOf (sw ‼ 0) h z b y o)

@@ -1,20 +1,11 @@
 // A function for each stage of gts7 that asks one expansion, proved against its plan.
 ghost use mathlib.Core.Path.{_≡_};
 ghost use Rattle.plan.specs.Plan.{told, given};
-ghost use mathlib.Core.Bool.{_&&_};
-ghost use lib.Ieee.{lt, le, ne};
 ghost use Rattle.numbers.specs.Arithmetic.{_⊗_, _‼_};
-ghost use Rattle.numbers.specs.Literals.{0·0, 200·0, 320·0};
-ghost use Rattle.species.specs.Places.{placeAt, mixesAt, Turbopause, Mixes};
+ghost use Rattle.species.specs.Places.{placeAt, Turbopause, Mixes};
 ghost use Rattle.tables.specs.Tables.{pdmT0, pdmT1, pdmT2, pdmT3, pdmT4, pdmT5, pdmT6};
 ghost use Rattle.stages.specs.Stages.{tinfPlan, gradientPlan, tlbPlan, n2Plan, heliumPlan, oxygenPlan, o2Plan, argonPlan, hydrogenPlan, nitrogenPlan, hotPlan};
 use elementary::exponential::exp;
-use mixing::limits::ar_mixes;
-use mixing::limits::h_mixes;
-use mixing::limits::he_mixes;
-use mixing::limits::n_mixes;
-use mixing::limits::o_mixes;
-use mixing::limits::o2_mixes;
 use places::place::Place;
 use places::thinning::Thinning;
 use plan::Levels;
@@ -98,21 +89,23 @@ pub fn tlb_stage(sw: [f64; 24], l: Levels) -> f64
 pub fn n2_stage(
     sw: [f64; 24],
     h: Shape,
+    on: bool,
     z: f64,
     p: Place,
     w: Place,
     t: Thinning,
     zhf: f64,
+    xmm: f64,
     l: Levels,
 ) -> Blend
-    requires { ⌜ (p ≡ placeAt h z) × (w ≡ placeAt h (pdmT2 ‼ 2 ⊗ zhf)) × Mixes (mixesAt (sw ‼ 15) z) p (pdmT2 ‼ 4) t ⌝ }
-    ensures { λ r. ⌜ r ≡ told (given l) (n2Plan sw h z zhf) ⌝ }
+    requires { ⌜ (p ≡ placeAt h z) × (w ≡ placeAt h (pdmT2 ‼ 2 ⊗ zhf)) × Mixes on p xmm t ⌝ }
+    ensures { λ r. ⌜ r ≡ told (given l) (n2Plan sw h on z zhf xmm) ⌝ }
 {
     let c = pd2();
     let m = pdm2();
     let g = exp(sw[21] * l.pd2);
-    let q = n2_root(w, m[0] * g * c[0]);
-    let x = n2(sw[15], z, p, t, q);
+    let q = n2_root(w, m[0] * g * c[0], xmm);
+    let x = n2(on, p, t, q, xmm);
     Blend {
         dens: x.dens,
         b: q.b,
@@ -129,13 +122,14 @@ pub fn hot_stage(sw: [f64; 24], h: Shape, z: f64, l: Levels) -> f64
     let d = pdl0();
     let g = exp(sw[21] * l.pd8);
     let p = place_alone_at(h, z);
-    let f = hot_factor(h.gsurf, h.re, m[5], m[4], m[9] * d[6]);
+    let f = hot_factor(h.rgas, h.gsurf, h.re, m[5], m[4], m[9] * d[6]);
     hot(z, p, m[0] * g * c[0], f, m[5], m[4])
 }
 
 pub fn helium_stage(
     sw: [f64; 24],
     h: Shape,
+    on: bool,
     z: f64,
     p: Place,
     w: Place,
@@ -145,20 +139,20 @@ pub fn helium_stage(
     xmm: f64,
     l: Levels,
 ) -> Mixture
-    requires { ⌜ (p ≡ placeAt h z) × Turbopause h (ne (sw ‼ 15) 0·0 && lt z 200·0) (pdmT0 ‼ 2) w × Mixes (mixesAt (sw ‼ 15) z) p xmm t ⌝ }
-    ensures { λ r. ⌜ r ≡ told (given l) (heliumPlan sw h z b28 zhm xmm) ⌝ }
+    requires { ⌜ (p ≡ placeAt h z) × Turbopause h on (pdmT0 ‼ 2) w × Mixes on p xmm t ⌝ }
+    ensures { λ r. ⌜ r ≡ told (given l) (heliumPlan sw h on z b28 zhm xmm) ⌝ }
 {
     let c = pd0();
     let m = pdm0();
     let g = exp(sw[21] * l.pd0);
-    let on = he_mixes(sw[15], z);
     let q = helium_root(on, w, m[0] * g * c[0], b28, xmm);
-    helium(sw[15], z, p, t, q, zhm, xmm)
+    helium(on, z, p, t, q, zhm, xmm)
 }
 
 pub fn oxygen_stage(
     sw: [f64; 24],
     h: Shape,
+    on: bool,
     z: f64,
     p: Place,
     w: Place,
@@ -168,20 +162,20 @@ pub fn oxygen_stage(
     flux: f64,
     l: Levels,
 ) -> Mixture
-    requires { ⌜ (p ≡ placeAt h z) × Turbopause h (mixesAt (sw ‼ 15) z) (pdmT1 ‼ 2) w × Mixes (mixesAt (sw ‼ 15) z) p xmm t ⌝ }
-    ensures { λ r. ⌜ r ≡ told (given l) (oxygenPlan sw h z zhm xmm flux) ⌝ }
+    requires { ⌜ (p ≡ placeAt h z) × Turbopause h on (pdmT1 ‼ 2) w × Mixes on p xmm t ⌝ }
+    ensures { λ r. ⌜ r ≡ told (given l) (oxygenPlan sw h on z zhm xmm flux) ⌝ }
 {
     let c = pd1();
     let m = pdm1();
     let g = exp(sw[21] * l.pd1);
-    let on = o_mixes(sw[15], z);
     let q = oxygen_root(on, w, m[0] * g * c[0], flux, xmm);
-    oxygen(sw[15], z, p, t, q, zhm, xmm)
+    oxygen(on, z, p, t, q, zhm, xmm)
 }
 
 pub fn o2_stage(
     sw: [f64; 24],
     h: Shape,
+    on: bool,
     z: f64,
     p: Place,
     w: Place,
@@ -192,21 +186,21 @@ pub fn o2_stage(
     flux: f64,
     l: Levels,
 ) -> Mixture
-    requires { ⌜ (p ≡ placeAt h z) × Turbopause h (mixesAt (sw ‼ 15) z) (pdmT3 ‼ 2) w × Mixes (mixesAt (sw ‼ 15) z) p xmm t ⌝ }
-    ensures { λ r. ⌜ r ≡ told (given l) (o2Plan sw h z b28 zhm xmm flux) ⌝ }
+    requires { ⌜ (p ≡ placeAt h z) × Turbopause h on (pdmT3 ‼ 2) w × Mixes on p xmm t ⌝ }
+    ensures { λ r. ⌜ r ≡ told (given l) (o2Plan sw h on z b28 zhm xmm flux) ⌝ }
 {
     let c = pd4();
     let m = pdm3();
     let k = pdl1();
     let g = exp(sw[21] * l.pd4);
-    let on = o2_mixes(sw[15], z);
     let q = o2_root(on, w, m[0] * g * c[0], b28, xmm);
-    o2(sw[15], z, p, t, q, m[3] * k[23] * flux, zhm, xmm)
+    o2(sw[15], on, z, p, t, q, m[3] * k[23] * flux, zhm, xmm)
 }
 
 pub fn argon_stage(
     sw: [f64; 24],
     h: Shape,
+    on: bool,
     z: f64,
     p: Place,
     w: Place,
@@ -216,20 +210,20 @@ pub fn argon_stage(
     xmm: f64,
     l: Levels,
 ) -> Mixture
-    requires { ⌜ (p ≡ placeAt h z) × Turbopause h (mixesAt (sw ‼ 15) z) (pdmT4 ‼ 2) w × Mixes (mixesAt (sw ‼ 15) z) p xmm t ⌝ }
-    ensures { λ r. ⌜ r ≡ told (given l) (argonPlan sw h z b28 zhm xmm) ⌝ }
+    requires { ⌜ (p ≡ placeAt h z) × Turbopause h on (pdmT4 ‼ 2) w × Mixes on p xmm t ⌝ }
+    ensures { λ r. ⌜ r ≡ told (given l) (argonPlan sw h on z b28 zhm xmm) ⌝ }
 {
     let c = pd5();
     let m = pdm4();
     let g = exp(sw[21] * l.pd5);
-    let on = ar_mixes(sw[15], z);
     let q = argon_root(on, w, m[0] * g * c[0], b28, xmm);
-    argon(sw[15], z, p, t, q, zhm, xmm)
+    argon(on, z, p, t, q, zhm, xmm)
 }
 
 pub fn hydrogen_stage(
     sw: [f64; 24],
     h: Shape,
+    on: bool,
     z: f64,
     p: Place,
     w: Place,
@@ -239,20 +233,20 @@ pub fn hydrogen_stage(
     xmm: f64,
     l: Levels,
 ) -> Mixture
-    requires { ⌜ (p ≡ placeAt h z) × Turbopause h (ne (sw ‼ 15) 0·0 && le z 320·0) (pdmT5 ‼ 2) w × Mixes (mixesAt (sw ‼ 15) z) p xmm t ⌝ }
-    ensures { λ r. ⌜ r ≡ told (given l) (hydrogenPlan sw h z b28 zhm xmm) ⌝ }
+    requires { ⌜ (p ≡ placeAt h z) × Turbopause h on (pdmT5 ‼ 2) w × Mixes on p xmm t ⌝ }
+    ensures { λ r. ⌜ r ≡ told (given l) (hydrogenPlan sw h on z b28 zhm xmm) ⌝ }
 {
     let c = pd6();
     let m = pdm5();
     let g = exp(sw[21] * l.pd6);
-    let on = h_mixes(sw[15], z);
     let q = hydrogen_root(on, w, m[0] * g * c[0], b28, xmm);
-    hydrogen(sw[15], z, p, t, q, zhm, xmm)
+    hydrogen(on, z, p, t, q, zhm, xmm)
 }
 
 pub fn nitrogen_stage(
     sw: [f64; 24],
     h: Shape,
+    on: bool,
     z: f64,
     p: Place,
     w: Place,
@@ -262,13 +256,12 @@ pub fn nitrogen_stage(
     xmm: f64,
     l: Levels,
 ) -> Mixture
-    requires { ⌜ (p ≡ placeAt h z) × Turbopause h (mixesAt (sw ‼ 15) z) (pdmT6 ‼ 2) w × Mixes (mixesAt (sw ‼ 15) z) p xmm t ⌝ }
-    ensures { λ r. ⌜ r ≡ told (given l) (nitrogenPlan sw h z b28 zhm xmm) ⌝ }
+    requires { ⌜ (p ≡ placeAt h z) × Turbopause h on (pdmT6 ‼ 2) w × Mixes on p xmm t ⌝ }
+    ensures { λ r. ⌜ r ≡ told (given l) (nitrogenPlan sw h on z b28 zhm xmm) ⌝ }
 {
     let c = pd7();
     let m = pdm6();
     let g = exp(sw[21] * l.pd7);
-    let on = n_mixes(sw[15], z);
     let q = nitrogen_root(on, w, m[0] * g * c[0], b28, xmm);
-    nitrogen(sw[15], z, p, t, q, zhm, xmm)
+    nitrogen(on, z, p, t, q, zhm, xmm)
 }

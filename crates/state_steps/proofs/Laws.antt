@@ -1,12 +1,11 @@
 -- Steps made where a test holds, densu's elements 0, and what each species' step leaves.
 use mathlib.Core.Path.{_≡_, refl, sym, ap, ap₂, _∙_}
-use mathlib.Core.Bool.{Bool, true, false, cond, not, _&&_, false≢true}
+use mathlib.Core.Bool.{Bool, true, false, cond, not, false≢true}
 use mathlib.Core.List.{List}
 use borrow.Author.Tests.{not-false}
 use lib.ListN.{set}
-use lib.Ieee.{Float, lt, le, ne}
+use lib.Ieee.{Float, lt}
 use Rattle.numbers.specs.Arithmetic.{_⊗_, _‼_}
-use Rattle.numbers.specs.Literals.{0·0, 160·0, 200·0, 240·0, 250·0, 300·0, 320·0, 450·0}
 use Rattle.setting.specs.declared.State.{State}
 use Rattle.plan.specs.Fields.{Fields, fieldsOf, withFields, when, setTn1, setDm04, setDm16, setDm28, setDm32, setDm40, setDm01, setDm14}
 use Rattle.plan.specs.declared.Levels.{Levels}
@@ -79,58 +78,57 @@ species-step l m h z zh row on u s a b x k e f g r =
     ∙ ap₂ (λ (w : Float) (y : _). withFields s (when on (mixedSets h z w (u y)) (densuSets h z (fieldsOf s)))) r e
     ∙ ap (withFields s) (sym (k (fieldsOf s))))
 
-n2-sets : (sw : List Float) (h : Shape) (z zhf : Float) (l : Levels) (f : Fields) → kept (given l) (n2Plan sw h z zhf) f
-    ≡ when (ne (sw ‼ 15) 0·0 && le z 160·0) (λ y. setDm28 ((told (given l) (n2Plan sw h z zhf)) .dm) (densuSets h z y)) (densuSets h (pdmT2 ‼ 2 ⊗ zhf) (densuSets h z f))
+n2-sets : (sw : List Float) (h : Shape) (on : Bool) (z zhf xmm : Float) (l : Levels) (f : Fields) → kept (given l) (n2Plan sw h on z zhf xmm) f
+    ≡ when on (λ y. setDm28 ((told (given l) (n2Plan sw h on z zhf xmm)) .dm) (densuSets h z y)) (densuSets h (pdmT2 ‼ 2 ⊗ zhf) (densuSets h z f))
 unfolding told kept n2Plan _>>=_
-n2-sets sw h z zhf l f = refl
+n2-sets sw h on z zhf xmm l f = refl
 
-pub n2-step-law : (sw : List Float) (h : Shape) (z zhf : Float) (l : Levels) (s s1 s2 s3 s4 : State) (b : Blend) (m : List Float)
-    → s4 ≡ withFields s3 (when (ne (sw ‼ 15) 0·0 && le z 160·0) (setDm28 (b .dm)) (fieldsOf s3))
-    → s3 ≡ withFields s2 (when (ne (sw ‼ 15) 0·0 && le z 160·0) (densuSets h z) (fieldsOf s2))
+pub n2-step-law : (sw : List Float) (h : Shape) (on : Bool) (z zhf xmm : Float) (l : Levels) (s s1 s2 s3 s4 : State) (b : Blend) (m : List Float)
+    → s4 ≡ withFields s3 (when on (setDm28 (b .dm)) (fieldsOf s3))
+    → s3 ≡ withFields s2 (when on (densuSets h z) (fieldsOf s2))
     → s2 ≡ withFields s1 (densuSets h (m ‼ 2 ⊗ zhf) (fieldsOf s1))
     → s1 ≡ withFields s (densuSets h z (fieldsOf s))
-    → b ≡ told (given l) (n2Plan sw h z zhf)
+    → b ≡ told (given l) (n2Plan sw h on z zhf xmm)
     → m ≡ pdmT2
-    → stepped (given l) (n2Plan sw h z zhf) s ≡ ends b s4
-n2-step-law sw h z zhf l s s1 s2 s3 s4 b m e0 e1 e2 e3 e4 e5 =
-    let on = ne (sw ‼ 15) 0·0 && le z 160·0 in
+    → stepped (given l) (n2Plan sw h on z zhf xmm) s ≡ ends b s4
+n2-step-law sw h on z zhf xmm l s s1 s2 s3 s4 b m e0 e1 e2 e3 e4 e5 =
     let t : s2 ≡ withFields s (densuSets h (m ‼ 2 ⊗ zhf) (densuSets h z (fieldsOf s))) = e2 ∙ ap (λ (c : State). withFields c (densuSets h (m ‼ 2 ⊗ zhf) (fieldsOf c))) e3 in
-    step l (n2Plan sw h z zhf) s s4 b e4
+    step l (n2Plan sw h on z zhf xmm) s s4 b e4
     (also-made s s3 s4 on (λ f. densuSets h (m ‼ 2 ⊗ zhf) (densuSets h z f)) (densuSets h z) (setDm28 (b .dm)) e0
     (first-made s s2 s3 on (λ f. densuSets h (m ‼ 2 ⊗ zhf) (densuSets h z f)) (densuSets h z) e1 t)
     ∙ ap₂ (λ (r : List Float) (y : Blend). withFields s (when on (λ f. setDm28 (y .dm) (densuSets h z f)) (densuSets h (r ‼ 2 ⊗ zhf) (densuSets h z (fieldsOf s))))) e5 e4
-    ∙ ap (withFields s) (sym (n2-sets sw h z zhf l (fieldsOf s))))
+    ∙ ap (withFields s) (sym (n2-sets sw h on z zhf xmm l (fieldsOf s))))
 
 pub hot-sets : (sw : List Float) (h : Shape) (z : Float) (l : Levels) (f : Fields) → kept (given l) (hotPlan sw h z) f ≡ densuSets h z f
 unfolding kept hotPlan _>>=_
 hot-sets sw h z l f = refl
 
-pub helium-sets : (sw : List Float) (h : Shape) (z b28 zhm xmm : Float) (l : Levels) (f : Fields)
-    → kept (given l) (heliumPlan sw h z b28 zhm xmm) f ≡ when (ne (sw ‼ 15) 0·0 && lt z 200·0) (mixedSets h z (pdmT0 ‼ 2) (setDm04 ((told (given l) (heliumPlan sw h z b28 zhm xmm)) .dm))) (densuSets h z f)
+pub helium-sets : (sw : List Float) (h : Shape) (on : Bool) (z b28 zhm xmm : Float) (l : Levels) (f : Fields)
+    → kept (given l) (heliumPlan sw h on z b28 zhm xmm) f ≡ when on (mixedSets h z (pdmT0 ‼ 2) (setDm04 ((told (given l) (heliumPlan sw h on z b28 zhm xmm)) .dm))) (densuSets h z f)
 unfolding told kept heliumPlan _>>=_
-helium-sets sw h z b28 zhm xmm l f = refl
+helium-sets sw h on z b28 zhm xmm l f = refl
 
-pub oxygen-sets : (sw : List Float) (h : Shape) (z zhm xmm flux : Float) (l : Levels) (f : Fields)
-    → kept (given l) (oxygenPlan sw h z zhm xmm flux) f ≡ when (ne (sw ‼ 15) 0·0 && le z 300·0) (mixedSets h z (pdmT1 ‼ 2) (setDm16 ((told (given l) (oxygenPlan sw h z zhm xmm flux)) .dm))) (densuSets h z f)
+pub oxygen-sets : (sw : List Float) (h : Shape) (on : Bool) (z zhm xmm flux : Float) (l : Levels) (f : Fields)
+    → kept (given l) (oxygenPlan sw h on z zhm xmm flux) f ≡ when on (mixedSets h z (pdmT1 ‼ 2) (setDm16 ((told (given l) (oxygenPlan sw h on z zhm xmm flux)) .dm))) (densuSets h z f)
 unfolding told kept oxygenPlan _>>=_
-oxygen-sets sw h z zhm xmm flux l f = refl
+oxygen-sets sw h on z zhm xmm flux l f = refl
 
-pub o2-sets : (sw : List Float) (h : Shape) (z b28 zhm xmm flux : Float) (l : Levels) (f : Fields)
-    → kept (given l) (o2Plan sw h z b28 zhm xmm flux) f ≡ when (ne (sw ‼ 15) 0·0 && le z 250·0) (mixedSets h z (pdmT3 ‼ 2) (setDm32 ((told (given l) (o2Plan sw h z b28 zhm xmm flux)) .dm))) (densuSets h z f)
+pub o2-sets : (sw : List Float) (h : Shape) (on : Bool) (z b28 zhm xmm flux : Float) (l : Levels) (f : Fields)
+    → kept (given l) (o2Plan sw h on z b28 zhm xmm flux) f ≡ when on (mixedSets h z (pdmT3 ‼ 2) (setDm32 ((told (given l) (o2Plan sw h on z b28 zhm xmm flux)) .dm))) (densuSets h z f)
 unfolding told kept o2Plan _>>=_
-o2-sets sw h z b28 zhm xmm flux l f = refl
+o2-sets sw h on z b28 zhm xmm flux l f = refl
 
-pub argon-sets : (sw : List Float) (h : Shape) (z b28 zhm xmm : Float) (l : Levels) (f : Fields)
-    → kept (given l) (argonPlan sw h z b28 zhm xmm) f ≡ when (ne (sw ‼ 15) 0·0 && le z 240·0) (mixedSets h z (pdmT4 ‼ 2) (setDm40 ((told (given l) (argonPlan sw h z b28 zhm xmm)) .dm))) (densuSets h z f)
+pub argon-sets : (sw : List Float) (h : Shape) (on : Bool) (z b28 zhm xmm : Float) (l : Levels) (f : Fields)
+    → kept (given l) (argonPlan sw h on z b28 zhm xmm) f ≡ when on (mixedSets h z (pdmT4 ‼ 2) (setDm40 ((told (given l) (argonPlan sw h on z b28 zhm xmm)) .dm))) (densuSets h z f)
 unfolding told kept argonPlan _>>=_
-argon-sets sw h z b28 zhm xmm l f = refl
+argon-sets sw h on z b28 zhm xmm l f = refl
 
-pub hydrogen-sets : (sw : List Float) (h : Shape) (z b28 zhm xmm : Float) (l : Levels) (f : Fields)
-    → kept (given l) (hydrogenPlan sw h z b28 zhm xmm) f ≡ when (ne (sw ‼ 15) 0·0 && le z 320·0) (mixedSets h z (pdmT5 ‼ 2) (setDm01 ((told (given l) (hydrogenPlan sw h z b28 zhm xmm)) .dm))) (densuSets h z f)
+pub hydrogen-sets : (sw : List Float) (h : Shape) (on : Bool) (z b28 zhm xmm : Float) (l : Levels) (f : Fields)
+    → kept (given l) (hydrogenPlan sw h on z b28 zhm xmm) f ≡ when on (mixedSets h z (pdmT5 ‼ 2) (setDm01 ((told (given l) (hydrogenPlan sw h on z b28 zhm xmm)) .dm))) (densuSets h z f)
 unfolding told kept hydrogenPlan _>>=_
-hydrogen-sets sw h z b28 zhm xmm l f = refl
+hydrogen-sets sw h on z b28 zhm xmm l f = refl
 
-pub nitrogen-sets : (sw : List Float) (h : Shape) (z b28 zhm xmm : Float) (l : Levels) (f : Fields)
-    → kept (given l) (nitrogenPlan sw h z b28 zhm xmm) f ≡ when (ne (sw ‼ 15) 0·0 && le z 450·0) (mixedSets h z (pdmT6 ‼ 2) (setDm14 ((told (given l) (nitrogenPlan sw h z b28 zhm xmm)) .dm))) (densuSets h z f)
+pub nitrogen-sets : (sw : List Float) (h : Shape) (on : Bool) (z b28 zhm xmm : Float) (l : Levels) (f : Fields)
+    → kept (given l) (nitrogenPlan sw h on z b28 zhm xmm) f ≡ when on (mixedSets h z (pdmT6 ‼ 2) (setDm14 ((told (given l) (nitrogenPlan sw h on z b28 zhm xmm)) .dm))) (densuSets h z f)
 unfolding told kept nitrogenPlan _>>=_
-nitrogen-sets sw h z b28 zhm xmm l f = refl
+nitrogen-sets sw h on z b28 zhm xmm l f = refl

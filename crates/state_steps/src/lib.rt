@@ -1,11 +1,8 @@
 // The steps by which gts7 and gtd7 set fields of State, and gts7's species with them: State goes in by value and comes back by value.
 ghost use mathlib.Core.Path.{_≡_};
-ghost use mathlib.Core.Bool.{_&&_};
-ghost use lib.Ieee.{lt, le, ne};
 ghost use Rattle.numbers.specs.Arithmetic.{_⊗_, _‼_};
-ghost use Rattle.numbers.specs.Literals.{0·0, 200·0, 320·0};
 ghost use Rattle.plan.specs.Plan.{ends, given, stepped};
-ghost use Rattle.species.specs.Places.{placeAt, mixesAt, Turbopause, Mixes};
+ghost use Rattle.species.specs.Places.{placeAt, Turbopause, Mixes};
 ghost use Rattle.tables.specs.Tables.{pdmT0, pdmT1, pdmT2, pdmT3, pdmT4, pdmT5, pdmT6};
 ghost use Rattle.plan.specs.Fields.{fieldsOf, withFields, when, setGravity, setDd, setDm04, setDm16, setDm28, setDm32, setDm40, setDm01, setDm14, setNodes1, setTn2, setTn3, setTop3};
 ghost use Rattle.stages.specs.Stages.{densuSets, n2Plan, heliumPlan, oxygenPlan, o2Plan, argonPlan, hydrogenPlan, nitrogenPlan, hotPlan};
@@ -249,20 +246,21 @@ pub struct MixtureLeft {
 pub fn n2_step(
     sw: [f64; 24],
     h: Shape,
+    on: bool,
     z: f64,
     p: Place,
     w: Place,
     t: Thinning,
     zhf: f64,
+    xmm: f64,
     l: Levels,
     s: State,
 ) -> BlendLeft
-    requires { ⌜ (p ≡ placeAt h z) × (w ≡ placeAt h (pdmT2 ‼ 2 ⊗ zhf)) × Mixes (mixesAt (sw ‼ 15) z) p (pdmT2 ‼ 4) t ⌝ }
-    ensures { λ r. ⌜ stepped (given l) (n2Plan sw h z zhf) s ≡ ends (r .value) (r .state) ⌝ }
+    requires { ⌜ (p ≡ placeAt h z) × (w ≡ placeAt h (pdmT2 ‼ 2 ⊗ zhf)) × Mixes on p xmm t ⌝ }
+    ensures { λ r. ⌜ stepped (given l) (n2Plan sw h on z zhf xmm) s ≡ ends (r .value) (r .state) ⌝ }
 {
     let m = pdm2();
-    let b = n2_stage(sw, h, z, p, w, t, zhf, l);
-    let on = (sw[15] != 0.0) & (z <= 160.0);
+    let b = n2_stage(sw, h, on, z, p, w, t, zhf, xmm, l);
     let s1 = densu_sets(s, h, z);
     let s2 = densu_sets(s1, h, m[2] * zhf);
     let s3 = densu_where(s2, on, h, z);
@@ -288,6 +286,7 @@ pub fn hot_step(sw: [f64; 24], h: Shape, z: f64, l: Levels, s: State) -> Valued
 pub fn helium_step(
     sw: [f64; 24],
     h: Shape,
+    on: bool,
     z: f64,
     p: Place,
     w: Place,
@@ -298,12 +297,11 @@ pub fn helium_step(
     l: Levels,
     s: State,
 ) -> MixtureLeft
-    requires { ⌜ (p ≡ placeAt h z) × Turbopause h (ne (sw ‼ 15) 0·0 && lt z 200·0) (pdmT0 ‼ 2) w × Mixes (mixesAt (sw ‼ 15) z) p xmm t ⌝ }
-    ensures { λ r. ⌜ stepped (given l) (heliumPlan sw h z b28 zhm xmm) s ≡ ends (r .value) (r .state) ⌝ }
+    requires { ⌜ (p ≡ placeAt h z) × Turbopause h on (pdmT0 ‼ 2) w × Mixes on p xmm t ⌝ }
+    ensures { λ r. ⌜ stepped (given l) (heliumPlan sw h on z b28 zhm xmm) s ≡ ends (r .value) (r .state) ⌝ }
 {
     let m = pdm0();
-    let x = helium_stage(sw, h, z, p, w, t, b28, zhm, xmm, l);
-    let on = (sw[15] != 0.0) & (z < 200.0);
+    let x = helium_stage(sw, h, on, z, p, w, t, b28, zhm, xmm, l);
     let s1 = species_sets(s, on, h, z, m[2]);
     let s2 = set_dm04(s1, on, x.dm);
     MixtureLeft {
@@ -315,6 +313,7 @@ pub fn helium_step(
 pub fn oxygen_step(
     sw: [f64; 24],
     h: Shape,
+    on: bool,
     z: f64,
     p: Place,
     w: Place,
@@ -325,12 +324,11 @@ pub fn oxygen_step(
     l: Levels,
     s: State,
 ) -> MixtureLeft
-    requires { ⌜ (p ≡ placeAt h z) × Turbopause h (mixesAt (sw ‼ 15) z) (pdmT1 ‼ 2) w × Mixes (mixesAt (sw ‼ 15) z) p xmm t ⌝ }
-    ensures { λ r. ⌜ stepped (given l) (oxygenPlan sw h z zhm xmm flux) s ≡ ends (r .value) (r .state) ⌝ }
+    requires { ⌜ (p ≡ placeAt h z) × Turbopause h on (pdmT1 ‼ 2) w × Mixes on p xmm t ⌝ }
+    ensures { λ r. ⌜ stepped (given l) (oxygenPlan sw h on z zhm xmm flux) s ≡ ends (r .value) (r .state) ⌝ }
 {
     let m = pdm1();
-    let x = oxygen_stage(sw, h, z, p, w, t, zhm, xmm, flux, l);
-    let on = (sw[15] != 0.0) & (z <= 300.0);
+    let x = oxygen_stage(sw, h, on, z, p, w, t, zhm, xmm, flux, l);
     let s1 = species_sets(s, on, h, z, m[2]);
     let s2 = set_dm16(s1, on, x.dm);
     MixtureLeft {
@@ -342,6 +340,7 @@ pub fn oxygen_step(
 pub fn o2_step(
     sw: [f64; 24],
     h: Shape,
+    on: bool,
     z: f64,
     p: Place,
     w: Place,
@@ -353,12 +352,11 @@ pub fn o2_step(
     l: Levels,
     s: State,
 ) -> MixtureLeft
-    requires { ⌜ (p ≡ placeAt h z) × Turbopause h (mixesAt (sw ‼ 15) z) (pdmT3 ‼ 2) w × Mixes (mixesAt (sw ‼ 15) z) p xmm t ⌝ }
-    ensures { λ r. ⌜ stepped (given l) (o2Plan sw h z b28 zhm xmm flux) s ≡ ends (r .value) (r .state) ⌝ }
+    requires { ⌜ (p ≡ placeAt h z) × Turbopause h on (pdmT3 ‼ 2) w × Mixes on p xmm t ⌝ }
+    ensures { λ r. ⌜ stepped (given l) (o2Plan sw h on z b28 zhm xmm flux) s ≡ ends (r .value) (r .state) ⌝ }
 {
     let m = pdm3();
-    let x = o2_stage(sw, h, z, p, w, t, b28, zhm, xmm, flux, l);
-    let on = (sw[15] != 0.0) & (z <= 250.0);
+    let x = o2_stage(sw, h, on, z, p, w, t, b28, zhm, xmm, flux, l);
     let s1 = species_sets(s, on, h, z, m[2]);
     let s2 = set_dm32(s1, on, x.dm);
     MixtureLeft {
@@ -370,6 +368,7 @@ pub fn o2_step(
 pub fn argon_step(
     sw: [f64; 24],
     h: Shape,
+    on: bool,
     z: f64,
     p: Place,
     w: Place,
@@ -380,12 +379,11 @@ pub fn argon_step(
     l: Levels,
     s: State,
 ) -> MixtureLeft
-    requires { ⌜ (p ≡ placeAt h z) × Turbopause h (mixesAt (sw ‼ 15) z) (pdmT4 ‼ 2) w × Mixes (mixesAt (sw ‼ 15) z) p xmm t ⌝ }
-    ensures { λ r. ⌜ stepped (given l) (argonPlan sw h z b28 zhm xmm) s ≡ ends (r .value) (r .state) ⌝ }
+    requires { ⌜ (p ≡ placeAt h z) × Turbopause h on (pdmT4 ‼ 2) w × Mixes on p xmm t ⌝ }
+    ensures { λ r. ⌜ stepped (given l) (argonPlan sw h on z b28 zhm xmm) s ≡ ends (r .value) (r .state) ⌝ }
 {
     let m = pdm4();
-    let x = argon_stage(sw, h, z, p, w, t, b28, zhm, xmm, l);
-    let on = (sw[15] != 0.0) & (z <= 240.0);
+    let x = argon_stage(sw, h, on, z, p, w, t, b28, zhm, xmm, l);
     let s1 = species_sets(s, on, h, z, m[2]);
     let s2 = set_dm40(s1, on, x.dm);
     MixtureLeft {
@@ -397,6 +395,7 @@ pub fn argon_step(
 pub fn hydrogen_step(
     sw: [f64; 24],
     h: Shape,
+    on: bool,
     z: f64,
     p: Place,
     w: Place,
@@ -407,12 +406,11 @@ pub fn hydrogen_step(
     l: Levels,
     s: State,
 ) -> MixtureLeft
-    requires { ⌜ (p ≡ placeAt h z) × Turbopause h (ne (sw ‼ 15) 0·0 && le z 320·0) (pdmT5 ‼ 2) w × Mixes (mixesAt (sw ‼ 15) z) p xmm t ⌝ }
-    ensures { λ r. ⌜ stepped (given l) (hydrogenPlan sw h z b28 zhm xmm) s ≡ ends (r .value) (r .state) ⌝ }
+    requires { ⌜ (p ≡ placeAt h z) × Turbopause h on (pdmT5 ‼ 2) w × Mixes on p xmm t ⌝ }
+    ensures { λ r. ⌜ stepped (given l) (hydrogenPlan sw h on z b28 zhm xmm) s ≡ ends (r .value) (r .state) ⌝ }
 {
     let m = pdm5();
-    let x = hydrogen_stage(sw, h, z, p, w, t, b28, zhm, xmm, l);
-    let on = (sw[15] != 0.0) & (z <= 320.0);
+    let x = hydrogen_stage(sw, h, on, z, p, w, t, b28, zhm, xmm, l);
     let s1 = species_sets(s, on, h, z, m[2]);
     let s2 = set_dm01(s1, on, x.dm);
     MixtureLeft {
@@ -424,6 +422,7 @@ pub fn hydrogen_step(
 pub fn nitrogen_step(
     sw: [f64; 24],
     h: Shape,
+    on: bool,
     z: f64,
     p: Place,
     w: Place,
@@ -434,12 +433,11 @@ pub fn nitrogen_step(
     l: Levels,
     s: State,
 ) -> MixtureLeft
-    requires { ⌜ (p ≡ placeAt h z) × Turbopause h (mixesAt (sw ‼ 15) z) (pdmT6 ‼ 2) w × Mixes (mixesAt (sw ‼ 15) z) p xmm t ⌝ }
-    ensures { λ r. ⌜ stepped (given l) (nitrogenPlan sw h z b28 zhm xmm) s ≡ ends (r .value) (r .state) ⌝ }
+    requires { ⌜ (p ≡ placeAt h z) × Turbopause h on (pdmT6 ‼ 2) w × Mixes on p xmm t ⌝ }
+    ensures { λ r. ⌜ stepped (given l) (nitrogenPlan sw h on z b28 zhm xmm) s ≡ ends (r .value) (r .state) ⌝ }
 {
     let m = pdm6();
-    let x = nitrogen_stage(sw, h, z, p, w, t, b28, zhm, xmm, l);
-    let on = (sw[15] != 0.0) & (z <= 450.0);
+    let x = nitrogen_stage(sw, h, on, z, p, w, t, b28, zhm, xmm, l);
     let s1 = species_sets(s, on, h, z, m[2]);
     let s2 = set_dm14(s1, on, x.dm);
     MixtureLeft {

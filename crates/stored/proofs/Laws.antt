@@ -10,6 +10,7 @@ use lib.Seq.{length-take-le, take-at, drop-at, drop-drop, drop-length}
 use lib.Ieee.{Float, lt, le, eq, ofBits}
 use Rattle.numbers.specs.Arithmetic.{_‼_}
 use Rattle.numbers.specs.Literals.{0·0, 72·5, 100·0, 200·0, 300·0}
+use Rattle.parameters.specs.Parameters.{presentOf}
 use Rattle.elementary.specs.Log.{logOf}
 use Rattle.layers.specs.declared.Span.{Span}
 use Rattle.places.specs.declared.place.Spine.{Spine}
@@ -149,7 +150,7 @@ unfolding spineIn
 spine-logged xs s e = rw e
 
 pub under-law : (sw0 sw15 : Float) (xs : List Float) (alt : Float) (row l : List Float) (h : Shape) (q : Roots) (a b : Spine)
-    → row ≡ rowUnder sw0 sw15 h a b q alt
+    → row ≡ rowUnder presentOf sw0 sw15 h a b q alt
     → b ≡ spineIn (part 60 24 xs) → a ≡ spineIn (part 36 24 xs) → q ≡ rootsIn (part 0 36 xs) → h ≡ shapeIn (part 0 36 xs)
     → not (lt alt (l ‼ 15)) ≡ false
     → l ≡ pdlT1
@@ -158,7 +159,7 @@ unfolding lowRow
 under-law sw0 sw15 xs alt row l h q a b e0 e1 e2 e3 e4 t el = rw (e0, e1, e2, e3, e4, rw el at t)
 
 pub over-law : (sw0 sw15 : Float) (xs : List Float) (alt : Float) (row l : List Float)
-    → row ≡ rowOver sw0 sw15 (shapeIn (part 0 36 xs)) (rootsIn (part 0 36 xs)) alt
+    → row ≡ rowOver presentOf sw0 sw15 (shapeIn (part 0 36 xs)) (rootsIn (part 0 36 xs)) alt
     → not (lt alt (l ‼ 15)) ≡ true
     → l ≡ pdlT1
     → row ≡ lowRow sw0 sw15 xs alt

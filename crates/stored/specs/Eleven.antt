@@ -13,8 +13,10 @@ use Rattle.acceptance.specs.Acceptance.{withAltOf}
 use Rattle.levels.specs.declared.Need.{Need}
 use Rattle.levels.specs.Levels.{needAt, levelsOf}
 use Rattle.tables.specs.Tables.{pdlT1}
-use Rattle.upper.specs.Upper.{siteOf}
-use Rattle.atmosphere.specs.Atmosphere.{elevenFrom, elevenOf}
+use Rattle.upper.specs.Upper.{siteWith, siteOf}
+use Rattle.parameters.specs.Parameters.{presentOf}
+use Rattle.atmosphere.specs.Atmosphere.{elevenFrom, elevenWith, elevenOf}
+use Rattle.atmosphere.proofs.Laws.{present-mass, site-mass}
 use Rattle.atmosphere.specs.Answers.{Covers, eleven-covered}
 use Rattle.stored_parts.specs.declared.Parts.{Parts}
 use Rattle.stored_parts.specs.Parts.{partsAt}
@@ -101,15 +103,19 @@ module _ (p : Parts) (z : Float) (h : Holds p (partsAt z)) where
 -- nothing of the View and the Site depends on the record's own altitude
 eleven-at : (w : List ℤ) (n : Input) (m : Need) (z : Float) → Covers m (needAt z)
     → elevenFrom ((viewOf w n) .sw) (siteOf ((viewOf w n) .sw) (n .«g_lat») ((viewOf w n) .doy) (n .f107a)) (levelsOf (viewOf w n) m) z ≡ elevenOf w (withAltOf n z)
-unfolding elevenOf withAltOf viewOf turnedOf
+unfolding elevenOf elevenWith siteOf withAltOf viewOf turnedOf
 eleven-at w n m z c =
     let v = viewOf w n in
-    sym (eleven-covered v m (siteOf (v .sw) (n .«g_lat») (v .doy) (n .f107a)) z c)
+    sym (eleven-covered v m (siteOf (v .sw) (n .«g_lat») (v .doy) (n .f107a)) z (site-mass presentOf (v .sw) (n .«g_lat») (v .doy) (n .f107a) _ refl present-mass) c)
+
+present-nine : (sw : List Float) (lat doy f107a : Float) → (siteOf sw lat doy f107a) .nine ≡ presentOf
+unfolding siteOf siteWith
+present-nine sw lat doy f107a = refl
 
 -- The row out of the numbers stored of a record, of the parts p, is the one-altitude call's with that altitude
 pub stored-eleven : (w : List ℤ) (n : Input) (p : Parts) (rec : List Float) (z : Float) → length rec ≡ 14 → le z 2500·0 ≡ true → Holds p (partsAt z)
     → rowStored ((viewOf w n) .sw ‼ 0) ((viewOf w n) .sw ‼ 15) (rec ++ storedOf p ((viewOf w n) .sw) (siteOf ((viewOf w n) .sw) (n .«g_lat») ((viewOf w n) .doy) (n .f107a)) (levelsOf (viewOf w n) (needOf p))) z
     ≡ elevenOf w (withAltOf n z)
 stored-eleven w n p rec z len fits h =
-    stored-told p ((viewOf w n) .sw) (siteOf ((viewOf w n) .sw) (n .«g_lat») ((viewOf w n) .doy) (n .f107a)) (levelsOf (viewOf w n) (needOf p)) rec z len fits h
+    stored-told p ((viewOf w n) .sw) (siteOf ((viewOf w n) .sw) (n .«g_lat») ((viewOf w n) .doy) (n .f107a)) (levelsOf (viewOf w n) (needOf p)) rec z (present-nine _ _ _ _) len fits h
     ∙ eleven-at w n (needOf p) z (need-covers p z h)

@@ -17,7 +17,11 @@ use Rattle.numbers.specs.Literals.{0·0, 0·17, 0·38, 1·0, 4·0, 14·0, 16·0
 use Rattle.elementary.specs.Exp.{expOf}
 use Rattle.elementary.specs.Log.{logOf}
 use Rattle.elementary.specs.Root.{sqrtOf}
-use Rattle.mixing.specs.Limits.{heMixed, oMixed, o2Mixed, arMixed, hMixed, nMixed}
+use Rattle.parameters.specs.Parameters.{presentOf}
+use Rattle.parameters.specs.declared.Parameters.{Parameters}
+use Rattle.mixing.specs.Limits.{mixedAt, someMixed}
+use Rattle.mixing.specs.declared.limits.Mixed.{Mixed}
+use Rattle.mixing.proofs.Some.{o-there, o2-there, ar-there, n-there, four-some, he-some, n2-some, h-some}
 use Rattle.layers.specs.Layers.{firstFive, spanOf, blankOf}
 use Rattle.places.specs.Place.{spineOf, under-place}
 use Rattle.places.specs.Thinning.{place-warmth}
@@ -34,7 +38,6 @@ use Rattle.species.specs.Species.{nodes, densityOf, temperatureOf}
 use Rattle.species.specs.Places.{spineAt, placeAt, Mixes}
 use Rattle.species.specs.Rooted.{Rooted, mixingOf, heliumRootOf, o2RootOf, argonRootOf, hydrogenRootOf, nitrogenRootOf, n2From, heliumFrom, oxygenFrom, o2From, argonFrom, hydrogenFrom, nitrogenFrom, hotFrom, root-is, oxygen-root-is, helium-is, oxygen-is, o2-is, argon-is, hydrogen-is, nitrogen-is}
 use Rattle.species.proofs.Laws.{mixes}
-use Rattle.species.proofs.Order.{mixes-200, mixes-240, mixes-250, mixes-300, mixes-320}
 use Rattle.tables.specs.Tables.{ptmT, pdT0, pdT1, pdT2, pdT4, pdT5, pdT6, pdT7, pdT8, pdmT0, pdmT1, pdmT2, pdmT3, pdmT4, pdmT5, pdmT6, pdmT7, pdlT0, pdlT1}
 use Rattle.upper.specs.declared.Site.{Site}
 use Rattle.upper.specs.declared.Nodes.{Nodes}
@@ -53,6 +56,7 @@ use Rattle.footing.specs.declared.Footing.{Footing}
 use Rattle.footing.specs.Footing.{curvesOf, standingOf, footingOf, rowBelowOf}
 use Rattle.atmosphere.specs.Atmosphere.{elevenFrom}
 use Rattle.atmosphere.specs.Rows.{eleven-above, eleven-below}
+use Rattle.atmosphere.proofs.Laws.{present-mass}
 use Rattle.stored_parts.specs.declared.Parts.{Parts}
 use Rattle.stored_parts.specs.Parts.{partsAt}
 use Rattle.stored_parts.specs.Held.{Holds}
@@ -121,11 +125,17 @@ anywhere : (on : Bool) (h : Shape) (zh db xm alpha r : Float) (q : Root) → Roo
 anywhere on h zh db xm alpha r q a = record { lower = a .lower; upper = λ o. a .upper refl; rate = λ o. a .rate refl }
 
 module _ (sw : List Float) (x : Site) (z : Float) (l : Levels) (h : Shape) (p : Place) (at : p ≡ placeAt h z) where
-  abbrev thins : Thinning
-  thins = mixingOf (nMixed (sw ‼ 15) z) p (pdmT2 ‼ 4)
+  abbrev m : Mixed
+  m = mixedAt (x .nine) (sw ‼ 15) z
 
-  thins-is : Mixes (nMixed (sw ‼ 15) z) p (pdmT2 ‼ 4) thins
-  thins-is = mixes (nMixed (sw ‼ 15) z) p (pdmT2 ‼ 4) thins refl
+  abbrev xmm : Float
+  xmm = x .nine .xmm
+
+  abbrev thins : Thinning
+  thins = mixingOf (someMixed m) p xmm
+
+  thins-is : Mixes (someMixed m) p xmm thins
+  thins-is = mixes (someMixed m) p xmm thins refl
 
   abbrev d : Bases
   d = basesOf (sw ‼ 21) l
@@ -136,59 +146,56 @@ module _ (sw : List Float) (x : Site) (z : Float) (l : Levels) (h : Shape) (p : 
   abbrev zhm : Float
   zhm = pdmT2 ‼ 3 ⊗ pdlT1 ‼ 5
 
-  abbrev xmm : Float
-  xmm = pdmT2 ‼ 4
-
-  n2-told : _≡_ {A = Blend} (record { dens = (n2From (sw ‼ 15) z p thins (q .n2)) .dens; b = q .n2 .b; dm = (n2From (sw ‼ 15) z p thins (q .n2)) .dm }) (told (given l) (n2Plan sw h z (x .zhf)))
+  n2-told : _≡_ {A = Blend} (record { dens = (n2From (m .n2) p thins (q .n2) xmm) .dens; b = q .n2 .b; dm = (n2From (m .n2) p thins (q .n2) xmm) .dm }) (told (given l) (n2Plan sw h (m .n2) z (x .zhf) xmm))
   unfolding rootsOf rootsFrom turbopausesOf basesOf denseBasesOf baseOf
-  n2-told = n2-law sw h z p (placeAt h (pdmT2 ‼ 2 ⊗ x .zhf)) thins (x .zhf) l _ (q .n2) _ pdmT2 pdT2 refl refl refl refl refl (at, refl, thins-is)
+  n2-told = n2-law sw h (m .n2) z p (placeAt h (pdmT2 ‼ 2 ⊗ x .zhf)) thins (x .zhf) xmm l _ (q .n2) _ pdmT2 pdT2 refl refl refl refl refl (at, refl, λ o. thins-is (n2-some m o))
 
-  helium-told : heliumFrom (sw ‼ 15) z p thins (q .he) zhm xmm ≡ told (given l) (heliumPlan sw h z (q .n2 .b) zhm xmm)
+  helium-told : heliumFrom (m .he) z p thins (q .he) zhm xmm ≡ told (given l) (heliumPlan sw h (m .he) z (q .n2 .b) zhm xmm)
   unfolding rootsOf rootsFrom turbopausesOf basesOf thinBasesOf baseOf told heliumPlan _>>=_ heliumRootOf
   helium-told =
-      helium-is h (sw ‼ 15) z p thins (q .he) at (q .n2 .b) (pdmT0 ‼ 0 ⊗ expOf (sw ‼ 21 ⊗ l .pd0) ⊗ pdT0 ‼ 0) zhm xmm (λ o. thins-is (mixes-200 (sw ‼ 15) z o))
-      (anywhere (heMixed (sw ‼ 15) z) h (pdmT0 ‼ 2) (pdmT0 ‼ 0 ⊗ expOf (sw ‼ 21 ⊗ l .pd0) ⊗ pdT0 ‼ 0) (4·0 ⊖ xmm) (neg 0·38 ⊖ 1·0) (logOf (q .n2 .b ⊗ pdmT0 ‼ 1 ⊘ densityOf h (pdmT0 ‼ 2) (pdmT0 ‼ 0 ⊗ expOf (sw ‼ 21 ⊗ l .pd0) ⊗ pdT0 ‼ 0) (4·0 ⊖ xmm) (neg 0·38 ⊖ 1·0))) (q .he)
+      helium-is h (m .he) z p thins (q .he) at (q .n2 .b) (pdmT0 ‼ 0 ⊗ expOf (sw ‼ 21 ⊗ l .pd0) ⊗ pdT0 ‼ 0) zhm xmm (λ o. thins-is (he-some m o))
+      (anywhere (m .he) h (pdmT0 ‼ 2) (pdmT0 ‼ 0 ⊗ expOf (sw ‼ 21 ⊗ l .pd0) ⊗ pdT0 ‼ 0) (4·0 ⊖ xmm) (neg 0·38 ⊖ 1·0) (logOf (q .n2 .b ⊗ pdmT0 ‼ 1 ⊘ densityOf h (pdmT0 ‼ 2) (pdmT0 ‼ 0 ⊗ expOf (sw ‼ 21 ⊗ l .pd0) ⊗ pdT0 ‼ 0) (4·0 ⊖ xmm) (neg 0·38 ⊖ 1·0))) (q .he)
       (root-is true h (pdmT0 ‼ 2) (placeAt h (pdmT0 ‼ 2)) (pdmT0 ‼ 0 ⊗ expOf (sw ‼ 21 ⊗ l .pd0) ⊗ pdT0 ‼ 0) (4·0 ⊖ xmm) (neg 0·38 ⊖ 1·0) (q .n2 .b ⊗ pdmT0 ‼ 1) (q .he) refl (λ o. refl)))
 
-  argon-told : argonFrom (sw ‼ 15) z p thins (q .ar) zhm xmm ≡ told (given l) (argonPlan sw h z (q .n2 .b) zhm xmm)
+  argon-told : argonFrom (m .ar) z p thins (q .ar) zhm xmm ≡ told (given l) (argonPlan sw h (m .ar) z (q .n2 .b) zhm xmm)
   unfolding rootsOf rootsFrom turbopausesOf basesOf denseBasesOf baseOf told argonPlan _>>=_ argonRootOf
   argon-told =
-      argon-is h (sw ‼ 15) z p thins (q .ar) at (q .n2 .b) (pdmT4 ‼ 0 ⊗ expOf (sw ‼ 21 ⊗ l .pd5) ⊗ pdT5 ‼ 0) zhm xmm (λ o. thins-is (mixes-240 (sw ‼ 15) z o))
-      (anywhere (arMixed (sw ‼ 15) z) h (pdmT4 ‼ 2) (pdmT4 ‼ 0 ⊗ expOf (sw ‼ 21 ⊗ l .pd5) ⊗ pdT5 ‼ 0) (40·0 ⊖ xmm) (0·17 ⊖ 1·0) (logOf (q .n2 .b ⊗ pdmT4 ‼ 1 ⊘ densityOf h (pdmT4 ‼ 2) (pdmT4 ‼ 0 ⊗ expOf (sw ‼ 21 ⊗ l .pd5) ⊗ pdT5 ‼ 0) (40·0 ⊖ xmm) (0·17 ⊖ 1·0))) (q .ar)
+      argon-is h (m .ar) z p thins (q .ar) at (q .n2 .b) (pdmT4 ‼ 0 ⊗ expOf (sw ‼ 21 ⊗ l .pd5) ⊗ pdT5 ‼ 0) zhm xmm (λ o. thins-is (four-some m (ar-there m o)))
+      (anywhere (m .ar) h (pdmT4 ‼ 2) (pdmT4 ‼ 0 ⊗ expOf (sw ‼ 21 ⊗ l .pd5) ⊗ pdT5 ‼ 0) (40·0 ⊖ xmm) (0·17 ⊖ 1·0) (logOf (q .n2 .b ⊗ pdmT4 ‼ 1 ⊘ densityOf h (pdmT4 ‼ 2) (pdmT4 ‼ 0 ⊗ expOf (sw ‼ 21 ⊗ l .pd5) ⊗ pdT5 ‼ 0) (40·0 ⊖ xmm) (0·17 ⊖ 1·0))) (q .ar)
       (root-is true h (pdmT4 ‼ 2) (placeAt h (pdmT1 ‼ 2)) (pdmT4 ‼ 0 ⊗ expOf (sw ‼ 21 ⊗ l .pd5) ⊗ pdT5 ‼ 0) (40·0 ⊖ xmm) (0·17 ⊖ 1·0) (q .n2 .b ⊗ pdmT4 ‼ 1) (q .ar) refl (λ o. ap (placeAt h) argon-too)))
 
-  hydrogen-told : hydrogenFrom (sw ‼ 15) z p thins (q .h) zhm xmm ≡ told (given l) (hydrogenPlan sw h z (q .n2 .b) zhm xmm)
+  hydrogen-told : hydrogenFrom (m .h) z p thins (q .h) zhm xmm ≡ told (given l) (hydrogenPlan sw h (m .h) z (q .n2 .b) zhm xmm)
   unfolding rootsOf rootsFrom turbopausesOf basesOf thinBasesOf baseOf told hydrogenPlan _>>=_ hydrogenRootOf
   hydrogen-told =
-      hydrogen-is h (sw ‼ 15) z p thins (q .h) at (q .n2 .b) (pdmT5 ‼ 0 ⊗ expOf (sw ‼ 21 ⊗ l .pd6) ⊗ pdT6 ‼ 0) zhm xmm (λ o. thins-is (mixes-320 (sw ‼ 15) z o))
-      (anywhere (hMixed (sw ‼ 15) z) h (pdmT5 ‼ 2) (pdmT5 ‼ 0 ⊗ expOf (sw ‼ 21 ⊗ l .pd6) ⊗ pdT6 ‼ 0) (1·0 ⊖ xmm) (neg 0·38 ⊖ 1·0) (logOf (q .n2 .b ⊗ pdmT5 ‼ 1 ⊗ sqrtOf (pdlT1 ‼ 17 ⊗ pdlT1 ‼ 17) ⊘ densityOf h (pdmT5 ‼ 2) (pdmT5 ‼ 0 ⊗ expOf (sw ‼ 21 ⊗ l .pd6) ⊗ pdT6 ‼ 0) (1·0 ⊖ xmm) (neg 0·38 ⊖ 1·0))) (q .h)
+      hydrogen-is h (m .h) z p thins (q .h) at (q .n2 .b) (pdmT5 ‼ 0 ⊗ expOf (sw ‼ 21 ⊗ l .pd6) ⊗ pdT6 ‼ 0) zhm xmm (λ o. thins-is (h-some m o))
+      (anywhere (m .h) h (pdmT5 ‼ 2) (pdmT5 ‼ 0 ⊗ expOf (sw ‼ 21 ⊗ l .pd6) ⊗ pdT6 ‼ 0) (1·0 ⊖ xmm) (neg 0·38 ⊖ 1·0) (logOf (q .n2 .b ⊗ pdmT5 ‼ 1 ⊗ sqrtOf (pdlT1 ‼ 17 ⊗ pdlT1 ‼ 17) ⊘ densityOf h (pdmT5 ‼ 2) (pdmT5 ‼ 0 ⊗ expOf (sw ‼ 21 ⊗ l .pd6) ⊗ pdT6 ‼ 0) (1·0 ⊖ xmm) (neg 0·38 ⊖ 1·0))) (q .h)
       (root-is true h (pdmT5 ‼ 2) (placeAt h (pdmT5 ‼ 2)) (pdmT5 ‼ 0 ⊗ expOf (sw ‼ 21 ⊗ l .pd6) ⊗ pdT6 ‼ 0) (1·0 ⊖ xmm) (neg 0·38 ⊖ 1·0) (q .n2 .b ⊗ pdmT5 ‼ 1 ⊗ sqrtOf (pdlT1 ‼ 17 ⊗ pdlT1 ‼ 17)) (q .h) refl (λ o. refl)))
 
-  nitrogen-told : nitrogenFrom (sw ‼ 15) z p thins (q .n) zhm xmm ≡ told (given l) (nitrogenPlan sw h z (q .n2 .b) zhm xmm)
+  nitrogen-told : nitrogenFrom (m .n) z p thins (q .n) zhm xmm ≡ told (given l) (nitrogenPlan sw h (m .n) z (q .n2 .b) zhm xmm)
   unfolding rootsOf rootsFrom turbopausesOf basesOf thinBasesOf baseOf told nitrogenPlan _>>=_ nitrogenRootOf
   nitrogen-told =
-      nitrogen-is h (sw ‼ 15) z p thins (q .n) at (q .n2 .b) (pdmT6 ‼ 0 ⊗ expOf (sw ‼ 21 ⊗ l .pd7) ⊗ pdT7 ‼ 0) zhm xmm (λ o. thins-is o)
-      (anywhere (nMixed (sw ‼ 15) z) h (pdmT6 ‼ 2) (pdmT6 ‼ 0 ⊗ expOf (sw ‼ 21 ⊗ l .pd7) ⊗ pdT7 ‼ 0) (14·0 ⊖ xmm) (0·0 ⊖ 1·0) (logOf (q .n2 .b ⊗ pdmT6 ‼ 1 ⊗ sqrtOf (pdlT0 ‼ 2 ⊗ pdlT0 ‼ 2) ⊘ densityOf h (pdmT6 ‼ 2) (pdmT6 ‼ 0 ⊗ expOf (sw ‼ 21 ⊗ l .pd7) ⊗ pdT7 ‼ 0) (14·0 ⊖ xmm) (0·0 ⊖ 1·0))) (q .n)
+      nitrogen-is h (m .n) z p thins (q .n) at (q .n2 .b) (pdmT6 ‼ 0 ⊗ expOf (sw ‼ 21 ⊗ l .pd7) ⊗ pdT7 ‼ 0) zhm xmm (λ o. thins-is (four-some m (n-there m o)))
+      (anywhere (m .n) h (pdmT6 ‼ 2) (pdmT6 ‼ 0 ⊗ expOf (sw ‼ 21 ⊗ l .pd7) ⊗ pdT7 ‼ 0) (14·0 ⊖ xmm) (0·0 ⊖ 1·0) (logOf (q .n2 .b ⊗ pdmT6 ‼ 1 ⊗ sqrtOf (pdlT0 ‼ 2 ⊗ pdlT0 ‼ 2) ⊘ densityOf h (pdmT6 ‼ 2) (pdmT6 ‼ 0 ⊗ expOf (sw ‼ 21 ⊗ l .pd7) ⊗ pdT7 ‼ 0) (14·0 ⊖ xmm) (0·0 ⊖ 1·0))) (q .n)
       (root-is true h (pdmT6 ‼ 2) (placeAt h (pdmT1 ‼ 2)) (pdmT6 ‼ 0 ⊗ expOf (sw ‼ 21 ⊗ l .pd7) ⊗ pdT7 ‼ 0) (14·0 ⊖ xmm) (0·0 ⊖ 1·0) (q .n2 .b ⊗ pdmT6 ‼ 1 ⊗ sqrtOf (pdlT0 ‼ 2 ⊗ pdlT0 ‼ 2)) (q .n) refl (λ o. ap (placeAt h) nitrogen-too)))
 
-  o2-told : o2From (sw ‼ 15) z p thins (q .o2) (q .rate) zhm xmm ≡ told (given l) (o2Plan sw h z (q .n2 .b) zhm xmm (x .flux))
+  o2-told : o2From (sw ‼ 15) (m .o2) z p thins (q .o2) (q .rate) zhm xmm ≡ told (given l) (o2Plan sw h (m .o2) z (q .n2 .b) zhm xmm (x .flux))
   unfolding rootsOf rootsFrom turbopausesOf basesOf denseBasesOf baseOf told o2Plan _>>=_ o2RootOf
   o2-told =
-      o2-is h (sw ‼ 15) z p thins (q .o2) at (q .n2 .b) (pdmT3 ‼ 0 ⊗ expOf (sw ‼ 21 ⊗ l .pd4) ⊗ pdT4 ‼ 0) zhm xmm (x .flux) (q .rate) (λ o. thins-is (mixes-250 (sw ‼ 15) z o))
-      (anywhere (o2Mixed (sw ‼ 15) z) h (pdmT3 ‼ 2) (pdmT3 ‼ 0 ⊗ expOf (sw ‼ 21 ⊗ l .pd4) ⊗ pdT4 ‼ 0) (32·0 ⊖ xmm) (0·0 ⊖ 1·0) (logOf (q .n2 .b ⊗ pdmT3 ‼ 1 ⊘ densityOf h (pdmT3 ‼ 2) (pdmT3 ‼ 0 ⊗ expOf (sw ‼ 21 ⊗ l .pd4) ⊗ pdT4 ‼ 0) (32·0 ⊖ xmm) (0·0 ⊖ 1·0))) (q .o2)
+      o2-is h (m .o2) z p thins (q .o2) at (sw ‼ 15) (q .n2 .b) (pdmT3 ‼ 0 ⊗ expOf (sw ‼ 21 ⊗ l .pd4) ⊗ pdT4 ‼ 0) zhm xmm (x .flux) (q .rate) (λ o. thins-is (four-some m (o2-there m o)))
+      (anywhere (m .o2) h (pdmT3 ‼ 2) (pdmT3 ‼ 0 ⊗ expOf (sw ‼ 21 ⊗ l .pd4) ⊗ pdT4 ‼ 0) (32·0 ⊖ xmm) (0·0 ⊖ 1·0) (logOf (q .n2 .b ⊗ pdmT3 ‼ 1 ⊘ densityOf h (pdmT3 ‼ 2) (pdmT3 ‼ 0 ⊗ expOf (sw ‼ 21 ⊗ l .pd4) ⊗ pdT4 ‼ 0) (32·0 ⊖ xmm) (0·0 ⊖ 1·0))) (q .o2)
       (root-is true h (pdmT3 ‼ 2) (placeAt h (pdmT1 ‼ 2)) (pdmT3 ‼ 0 ⊗ expOf (sw ‼ 21 ⊗ l .pd4) ⊗ pdT4 ‼ 0) (32·0 ⊖ xmm) (0·0 ⊖ 1·0) (q .n2 .b ⊗ pdmT3 ‼ 1) (q .o2) refl (λ o. ap (placeAt h) o2-too))) refl
 
-  oxygen-told : oxygenFrom (sw ‼ 15) z p thins (q .o) zhm xmm ≡ told (given l) (oxygenPlan sw h z zhm xmm (x .flux))
+  oxygen-told : oxygenFrom (m .o) z p thins (q .o) zhm xmm ≡ told (given l) (oxygenPlan sw h (m .o) z zhm xmm (x .flux))
   unfolding rootsOf rootsFrom turbopausesOf basesOf denseBasesOf baseOf told oxygenPlan _>>=_
   oxygen-told =
-      oxygen-is h (sw ‼ 15) z p thins (q .o) at (pdmT1 ‼ 0 ⊗ expOf (sw ‼ 21 ⊗ l .pd1) ⊗ pdT1 ‼ 0) zhm xmm (x .flux) (λ o. thins-is (mixes-300 (sw ‼ 15) z o))
-      (anywhere (oMixed (sw ‼ 15) z) h (pdmT1 ‼ 2) (pdmT1 ‼ 0 ⊗ expOf (sw ‼ 21 ⊗ l .pd1) ⊗ pdT1 ‼ 0) (16·0 ⊖ xmm) (0·0 ⊖ 1·0) (pdmT1 ‼ 1 ⊗ pdlT1 ‼ 16 ⊗ x .flux) (q .o)
+      oxygen-is h (m .o) z p thins (q .o) at (pdmT1 ‼ 0 ⊗ expOf (sw ‼ 21 ⊗ l .pd1) ⊗ pdT1 ‼ 0) zhm xmm (x .flux) (λ o. thins-is (four-some m (o-there m o)))
+      (anywhere (m .o) h (pdmT1 ‼ 2) (pdmT1 ‼ 0 ⊗ expOf (sw ‼ 21 ⊗ l .pd1) ⊗ pdT1 ‼ 0) (16·0 ⊖ xmm) (0·0 ⊖ 1·0) (pdmT1 ‼ 1 ⊗ pdlT1 ‼ 16 ⊗ x .flux) (q .o)
       (oxygen-root-is true h (placeAt h (pdmT1 ‼ 2)) (pdmT1 ‼ 0 ⊗ expOf (sw ‼ 21 ⊗ l .pd1) ⊗ pdT1 ‼ 0) (x .flux) xmm (q .o) refl (λ o. refl)))
 
-  six-told : sixAt (sw ‼ 15) z q p thins zhm xmm ≡ told (given l) (speciesPlan sw h z (q .n2 .b) (x .flux))
+  six-told : sixAt (sw ‼ 15) m z q p thins zhm xmm ≡ told (given l) (speciesPlan sw h m z (q .n2 .b) (x .flux) xmm)
   unfolding sixAt
   six-told =
-      species-law sw h z (q .n2 .b) (x .flux) l _ _ _ _ _ _ pdlT1 pdmT2
+      species-law sw h m z (q .n2 .b) (x .flux) xmm l _ _ _ _ _ _ pdlT1 pdmT2
       nitrogen-told hydrogen-told argon-told o2-told oxygen-told helium-told refl refl
 
   hot-told : (k : Place) → k ≡ placeAt (anomalousOf h) z → hotFrom z k (q .hot) (q .factor) (pdmT7 ‼ 5) (pdmT7 ‼ 4) ≡ told (given l) (hotPlan sw (anomalousOf h) z)
@@ -197,19 +204,19 @@ module _ (sw : List Float) (x : Site) (z : Float) (l : Levels) (h : Shape) (p : 
 
   -- the row at a place is gts7's
   row-told : (k : Place) (t1 : Float) → k ≡ placeAt (anomalousOf h) z → t1 ≡ temperatureOf h (sqrtOf (z ⊗ z)) → h ≡ told (given l) (shapePlan sw x z)
-      → rowAt (sw ‼ 0) (sw ‼ 15) z (h .tinf) q p k t1 ≡ (aboveOf (told (given l) (gts7Plan sw x z))) .row
+      → rowAt (x .nine) (sw ‼ 0) (sw ‼ 15) z (h .tinf) q p k t1 ≡ (aboveOf (told (given l) (gts7Plan sw x z))) .row
   unfolding rowAt
   row-told k t1 e f g =
-      let b : Blend = record { dens = (n2From (sw ‼ 15) z p thins (q .n2)) .dens; b = q .n2 .b; dm = (n2From (sw ‼ 15) z p thins (q .n2)) .dm } in
-      let y : Six = sixAt (sw ‼ 15) z q p thins zhm xmm in
+      let b : Blend = record { dens = (n2From (m .n2) p thins (q .n2) xmm) .dens; b = q .n2 .b; dm = (n2From (m .n2) p thins (q .n2) xmm) .dm } in
+      let y : Six = sixAt (sw ‼ 15) m z q p thins zhm xmm in
       let o : Float = hotFrom z k (q .hot) (q .factor) (pdmT7 ‼ 5) (pdmT7 ‼ 4) in
       ap (λ (t : Float). rowOf (sw ‼ 0) (h .tinf) (b .dens) y o t) f
       ∙ gathered (sw ‼ 0) h z b y o
-      ∙ ap (λ (u : Upper). (aboveOf u) .row) (gts7-law sw x z l (gatherOf (sw ‼ 0) h z b y o) o (anomalousOf h) y b h refl (hot-told k e) refl six-told n2-told g)
+      ∙ ap (λ (u : Upper). (aboveOf u) .row) (gts7-law sw x z l (gatherOf (sw ‼ 0) h z b y o) o (anomalousOf h) y b m h refl (hot-told k e) refl six-told n2-told refl g)
 
 -- at or above za
 over-told : (sw : List Float) (x : Site) (z : Float) (l : Levels) (h : Shape) → h ≡ told (given l) (shapePlan sw x z)
-    → rowOver (sw ‼ 0) (sw ‼ 15) h (rootsOf h x (basesOf (sw ‼ 21) l)) z ≡ (aboveOf (told (given l) (gts7Plan sw x z))) .row
+    → rowOver (x .nine) (sw ‼ 0) (sw ‼ 15) h (rootsOf h x (basesOf (sw ‼ 21) l)) z ≡ (aboveOf (told (given l) (gts7Plan sw x z))) .row
 unfolding rowOver temperatureOf
 over-told sw x z l h e =
     row-told sw x z l h (placeAt h z) refl (placeAt (anomalousOf h) z) ((placeAt h (sqrtOf (z ⊗ z))) .tz) refl (place-warmth h (sqrtOf (z ⊗ z)) (ptmT ‼ 5) nodes) e
@@ -222,7 +229,7 @@ warm-told h r true e =
 warm-told h r false e = rw e (place-warmth h r (ptmT ‼ 5) nodes)
 
 under-told : (sw : List Float) (x : Site) (z : Float) (l : Levels) (h : Shape) → lt z (pdlT1 ‼ 15) ≡ true → lt (pdlT1 ‼ 15) z ≡ false → h ≡ told (given l) (shapePlan sw x z)
-    → rowUnder (sw ‼ 0) (sw ‼ 15) h (spineAt h) (spineAt (anomalousOf h)) (rootsOf h x (basesOf (sw ‼ 21) l)) z ≡ (aboveOf (told (given l) (gts7Plan sw x z))) .row
+    → rowUnder (x .nine) (sw ‼ 0) (sw ‼ 15) h (spineAt h) (spineAt (anomalousOf h)) (rootsOf h x (basesOf (sw ‼ 21) l)) z ≡ (aboveOf (told (given l) (gts7Plan sw x z))) .row
 unfolding rowUnder anomalousOf
 under-told sw x z l h below not-above e =
     row-told sw x z l h _ (under-place h z (ptmT ‼ 5) nodes below not-above) _ _ (under-place (anomalousOf h) z (ptmT ‼ 5) nodes below not-above)
@@ -249,22 +256,47 @@ shape-plain sw x z l =
     (shape-law sw x z l (shapeOf x (told (given l) (tinfPlan sw z)) (told (given l) (tlbPlan sw)) (told (given l) (gradientPlan sw z)) (told (given l) (nodesPlan sw z))) _ _ _ _ refl refl refl refl refl)
     (nodes-plain sw z l)
 
-shape-back : (h : Shape) (q : Roots) → Plain (h .tn) (h .tgn) → shapeIn (regionNumbers h q) ≡ h
+-- the gas constant of a shape is its site's
+shape-gas : (sw : List Float) (x : Site) (z : Float) (l : Levels) → x .nine ≡ presentOf → (told (given l) (shapePlan sw x z)) .rgas ≡ presentOf .rgas
+unfolding shapeOf
+shape-gas sw x z l e =
+    subst (λ (h : Shape). h .rgas ≡ presentOf .rgas)
+    (shape-law sw x z l (shapeOf x (told (given l) (tinfPlan sw z)) (told (given l) (tlbPlan sw)) (told (given l) (gradientPlan sw z)) (told (given l) (nodesPlan sw z))) _ _ _ _ refl refl refl refl refl)
+    (ap (λ (c : Parameters). c .rgas) e)
+
+shape-back : (h : Shape) (q : Roots) → Plain (h .tn) (h .tgn) → h .rgas ≡ presentOf .rgas → shapeIn (regionNumbers h q) ≡ h
 unfolding shapeIn regionNumbers fiveIn
-shape-back h q e = ap₂ (λ (t g : List Float). record { gsurf = h .gsurf; re = h .re; tinf = h .tinf; tlb = h .tlb; s = h .s; tn = t; tgn = g }) (e .0) (e .1)
+shape-back h q e f =
+    ap₂ (λ (t g : List Float). record { rgas = presentOf .rgas; gsurf = h .gsurf; re = h .re; tinf = h .tinf; tlb = h .tlb; s = h .s; tn = t; tgn = g }) (e .0) (e .1)
+    ∙ ap (λ (r : Float). record { rgas = r; gsurf = h .gsurf; re = h .re; tinf = h .tinf; tlb = h .tlb; s = h .s; tn = h .tn; tgn = h .tgn }) (sym f)
 
 roots-back : (h : Shape) (q : Roots) → rootsIn (regionNumbers h q) ≡ q
 unfolding rootsIn rootIn regionNumbers
 roots-back h q = refl
 
-spine-back : (h : Shape) → spineIn (spineNumbers (spineAt h)) ≡ spineAt h
+spine-back : (h : Shape) → h .rgas ≡ presentOf .rgas → spineIn (spineNumbers (spineAt h)) ≡ spineAt h
 unfolding spineIn spineNumbers fiveIn spineOf firstFive
-spine-back h = refl
+spine-back h e = rw e
 
-footing-back : (sw : List Float) (x : Site) (l : Levels) (tropo : Bool) → footingIn (footingNumbers (footingOf sw x l tropo)) ≡ footingOf sw x l tropo
+-- a footing whose site has other constants
+abbrev withNine : Footing → Parameters → Footing
+withNine f c =
+    record {
+      x = record { gsurf = f .x .gsurf; re = f .x .re; zhf = f .x .zhf; flux = f .x .flux; nine = c };
+      tinf = f .tinf;
+      dm28m = f .dm28m;
+      he = f .he;
+      n2 = f .n2;
+      o2 = f .o2;
+      ar = f .ar;
+      meso = f .meso;
+      curves = f .curves;
+    }
+
+footing-back : (sw : List Float) (x : Site) (l : Levels) (tropo : Bool) → x .nine ≡ presentOf → footingIn (footingNumbers (footingOf sw x l tropo)) ≡ footingOf sw x l tropo
 unfolding footingIn footingNumbers groundNumbers spanNumbers spanIn fiveIn footingOf standingOf curvesOf spanOf firstFive blankOf told mesoNodesPlan _>>=_ mesosphereOf
-footing-back sw x l true = refl
-footing-back sw x l false = refl
+footing-back sw x l true e = ap (λ (c : Parameters). withNine (footingOf sw x l true) c) (sym e)
+footing-back sw x l false e = ap (λ (c : Parameters). withNine (footingOf sw x l false) c) (sym e)
 
 pub footing-length : (on : Bool) (sw : List Float) (x : Site) (l : Levels) (tropo : Bool) → length (footingStored on sw x l tropo) ≡ 53
 unfolding footingStored footingNumbers groundNumbers spanNumbers
@@ -404,14 +436,15 @@ all-length p sw x l rec e =
     (grown (regionStored (p .top) sw x l d 300·0) _ 36 11 (region-length (p .top) sw x l d 300·0) (summit-length (p .summit) sw x l)))))
 
 -- a region's row, read again; y stands for it
-region-told : (sw : List Float) (x : Site) (l : Levels) (alt y : Float) (xs : List Float) → lt 72·5 alt ≡ true
+region-told : (sw : List Float) (x : Site) (l : Levels) (alt y : Float) (xs : List Float) → x .nine ≡ presentOf → lt 72·5 alt ≡ true
     → told (given l) (shapePlan sw x alt) ≡ told (given l) (shapePlan sw x y)
     → xs ≡ regionNumbers (told (given l) (shapePlan sw x y)) (rootsOf (told (given l) (shapePlan sw x y)) x (basesOf (sw ‼ 21) l))
-    → rowOver (sw ‼ 0) (sw ‼ 15) (shapeIn xs) (rootsIn xs) alt ≡ elevenFrom sw x l alt
-region-told sw x l alt y xs e s f =
+    → rowOver presentOf (sw ‼ 0) (sw ‼ 15) (shapeIn xs) (rootsIn xs) alt ≡ elevenFrom sw x l alt
+region-told sw x l alt y xs c e s f =
     let h : Shape = told (given l) (shapePlan sw x y) in
-    ap (λ (r : List Float). rowOver (sw ‼ 0) (sw ‼ 15) (shapeIn r) (rootsIn r) alt) f
-    ∙ ap₂ (λ (g : Shape) (q : Roots). rowOver (sw ‼ 0) (sw ‼ 15) g q alt) (shape-back h _ (shape-plain sw x y l)) (roots-back h _)
+    ap (λ (r : List Float). rowOver presentOf (sw ‼ 0) (sw ‼ 15) (shapeIn r) (rootsIn r) alt) f
+    ∙ ap₂ (λ (g : Shape) (q : Roots). rowOver presentOf (sw ‼ 0) (sw ‼ 15) g q alt) (shape-back h _ (shape-plain sw x y l) (shape-gas sw x y l c)) (roots-back h _)
+    ∙ ap (λ (k : Parameters). rowOver k (sw ‼ 0) (sw ‼ 15) h (rootsOf h x (basesOf (sw ‼ 21) l)) alt) (sym c)
     ∙ over-told sw x alt l h (sym s)
     ∙ above-told sw x l alt e
 
@@ -432,28 +465,34 @@ other : (b t : Bool) (x y r : List Float) → t ≡ b → (t ≡ true → x ≡ 
 other true t x y r e f g = ap (λ (k : Bool). cond k x y) e ∙ f e
 other false t x y r e f g = ap (λ (k : Bool). cond k x y) e ∙ g e
 
+-- anomalous oxygen's shape has the gas constant of the rest
+hot-gas : (h : Shape) → h .rgas ≡ presentOf .rgas → (anomalousOf h) .rgas ≡ presentOf .rgas
+unfolding anomalousOf
+hot-gas h e = e
+
 -- the region up to za
-low-told : (on : Bool) (sw : List Float) (x : Site) (l : Levels) (alt : Float) (below : Bool) → on ≡ true → lt 72·5 alt ≡ true → lt (pdlT1 ‼ 15) alt ≡ false → lt alt (pdlT1 ‼ 15) ≡ below
+low-told : (on : Bool) (sw : List Float) (x : Site) (l : Levels) (alt : Float) (below : Bool) → x .nine ≡ presentOf → on ≡ true → lt 72·5 alt ≡ true → lt (pdlT1 ‼ 15) alt ≡ false → lt alt (pdlT1 ‼ 15) ≡ below
     → told (given l) (shapePlan sw x alt) ≡ told (given l) (shapePlan sw x 100·0)
     → lowRow (sw ‼ 0) (sw ‼ 15) (lowStored on sw x l (basesOf (sw ‼ 21) l)) alt ≡ elevenFrom sw x l alt
 unfolding lowRow lowStored
-low-told on sw x l alt below o over not-above e s =
+low-told on sw x l alt below c o over not-above e s =
     let h : Shape = told (given l) (shapePlan sw x 100·0) in
+    let gas : h .rgas ≡ presentOf .rgas = shape-gas sw x 100·0 l c in
     let q : Roots = rootsOf h x (basesOf (sw ‼ 21) l) in
     let a : List Float = regionNumbers h q in
     let b : List Float = spineNumbers (spineAt h) in
-    let c : List Float = spineNumbers (spineAt (anomalousOf h)) in
-    let first : part 0 36 (a ++ (b ++ c)) ≡ a = take-at a (b ++ c) 36 (numbers-36 h q) in
-    let second : part 36 24 (a ++ (b ++ c)) ≡ b = ap (take 24) (drop-at a (b ++ c) 36 (numbers-36 h q)) ∙ take-at b c 24 (numbers-24 (spineAt h)) in
-    let third : part 60 24 (a ++ (b ++ c)) ≡ c =
-    ap (take 24) (skip a (b ++ c) 36 24 (numbers-36 h q) ∙ drop-at b c 24 (numbers-24 (spineAt h))) ∙ whole c 24 (numbers-24 (spineAt (anomalousOf h))) in
-    let shape : shapeIn (part 0 36 (a ++ (b ++ c))) ≡ h = ap shapeIn first ∙ shape-back h q (shape-plain sw x 100·0 l) in
-    let roots : rootsIn (part 0 36 (a ++ (b ++ c))) ≡ q = ap rootsIn first ∙ roots-back h q in
-    let spine : spineIn (part 36 24 (a ++ (b ++ c))) ≡ spineAt h = ap spineIn second ∙ spine-back h in
-    let hot : spineIn (part 60 24 (a ++ (b ++ c))) ≡ spineAt (anomalousOf h) = ap spineIn third ∙ spine-back (anomalousOf h) in
+    let g : List Float = spineNumbers (spineAt (anomalousOf h)) in
+    let first : part 0 36 (a ++ (b ++ g)) ≡ a = take-at a (b ++ g) 36 (numbers-36 h q) in
+    let second : part 36 24 (a ++ (b ++ g)) ≡ b = ap (take 24) (drop-at a (b ++ g) 36 (numbers-36 h q)) ∙ take-at b g 24 (numbers-24 (spineAt h)) in
+    let third : part 60 24 (a ++ (b ++ g)) ≡ g =
+    ap (take 24) (skip a (b ++ g) 36 24 (numbers-36 h q) ∙ drop-at b g 24 (numbers-24 (spineAt h))) ∙ whole g 24 (numbers-24 (spineAt (anomalousOf h))) in
+    let shape : shapeIn (part 0 36 (a ++ (b ++ g))) ≡ h = ap shapeIn first ∙ shape-back h q (shape-plain sw x 100·0 l) gas in
+    let roots : rootsIn (part 0 36 (a ++ (b ++ g))) ≡ q = ap rootsIn first ∙ roots-back h q in
+    let spine : spineIn (part 36 24 (a ++ (b ++ g))) ≡ spineAt h = ap spineIn second ∙ spine-back h gas in
+    let hot : spineIn (part 60 24 (a ++ (b ++ g))) ≡ spineAt (anomalousOf h) = ap spineIn third ∙ spine-back (anomalousOf h) (hot-gas h gas) in
     rw o (one-of below (lt alt (pdlT1 ‼ 15)) _ _ _ e
-    (λ t. rw (shape, roots) (over-told sw x alt l h (sym s) ∙ above-told sw x l alt over))
-    (λ t. rw (shape, roots, spine, hot) (under-told sw x alt l h t not-above (sym s) ∙ above-told sw x l alt over)))
+    (λ t. rw (shape, roots) (ap (λ (k : Parameters). rowOver k (sw ‼ 0) (sw ‼ 15) h q alt) (sym c) ∙ over-told sw x alt l h (sym s) ∙ above-told sw x l alt over))
+    (λ t. rw (shape, roots, spine, hot) (ap (λ (k : Parameters). rowUnder k (sw ‼ 0) (sw ‼ 15) h (spineAt h) (spineAt (anomalousOf h)) q alt) (sym c) ∙ under-told sw x alt l h t not-above (sym s) ∙ above-told sw x l alt over)))
 
 -- ---- an altitude that is not above za lies below 300 km
 
@@ -489,24 +528,24 @@ below-300 z h e = fall z _ _ _ _ (omega arith) (λ a c p q. omega (arith, p, q))
 both : (a b : Bool) → a ≡ true → b ≡ true → (a && b) ≡ true
 both a b e f = rw (e, f)
 
--- The row out of the stored numbers is gtd7's, at every altitude whose part is stored
-pub stored-told : (p : Parts) (sw : List Float) (x : Site) (l : Levels) (rec : List Float) (alt : Float) → length rec ≡ 14 → le alt 2500·0 ≡ true → Holds p (partsAt alt)
+-- With the present nine the row out of the stored numbers is gtd7's, at every altitude whose part is stored
+pub stored-told : (p : Parts) (sw : List Float) (x : Site) (l : Levels) (rec : List Float) (alt : Float) → x .nine ≡ presentOf → length rec ≡ 14 → le alt 2500·0 ≡ true → Holds p (partsAt alt)
     → rowStored (sw ‼ 0) (sw ‼ 15) (rec ++ storedOf p sw x l) alt ≡ elevenFrom sw x l alt
 unfolding rowStored partsAt footingStored
-stored-told p sw x l rec alt len fits h =
+stored-told p sw x l rec alt c len fits h =
     one-of (lt 72·5 alt) (lt 72·5 alt) _ _ _ refl
     (λ e. other (le 72·5 alt) (le 72·5 alt) _ _ _ refl
     (λ f. summit-part p sw x l rec len ∙ summit-told sw x l alt (p .summit) (h .summit (both (le 72·5 alt) (not (lt 72·5 alt)) f (ap not e))) e f)
     (λ f. ap (λ (xs : List Float). rowBelowOf (sw ‼ 0) (footingIn xs) alt) (footing-part p sw x l rec len)
     ∙ ap (λ (b : Bool). rowBelowOf (sw ‼ 0) (footingIn (footingStored b sw x l (p .tropo))) alt) (h .below (ap not f))
-    ∙ ap (λ (g : Footing). rowBelowOf (sw ‼ 0) g alt) (footing-back sw x l (p .tropo))
-    ∙ eleven-below sw x l alt (p .tropo) (footingOf sw x l (p .tropo)) (rowBelowOf (sw ‼ 0) (footingOf sw x l (p .tropo)) alt) refl refl (h .tropo) f))
+    ∙ ap (λ (g : Footing). rowBelowOf (sw ‼ 0) g alt) (footing-back sw x l (p .tropo) c)
+    ∙ eleven-below sw x l alt (p .tropo) (footingOf sw x l (p .tropo)) (rowBelowOf (sw ‼ 0) (footingOf sw x l (p .tropo)) alt) (ap (λ (k : Parameters). eq (k .xmm) 0·0) c ∙ present-mass) refl refl (h .tropo) f))
     (λ e. one-of (lt (pdlT1 ‼ 15) alt) (lt (pdlT1 ‼ 15) alt) _ _ _ refl
     (λ f. ap (λ (xs : List Float). lowRow (sw ‼ 0) (sw ‼ 15) xs alt) (low-part p sw x l rec len)
-    ∙ low-told (p .low) sw x l alt (lt alt (pdlT1 ‼ 15)) (h .low (both (lt 72·5 alt) (not (lt (pdlT1 ‼ 15) alt)) e (ap not f))) e f refl
+    ∙ low-told (p .low) sw x l alt (lt alt (pdlT1 ‼ 15)) c (h .low (both (lt 72·5 alt) (not (lt (pdlT1 ‼ 15) alt)) e (ap not f))) e f refl
     (shape-alike sw x alt 100·0 (f ∙ sym above-100) (e ∙ sym over-100) (below-300 alt f fits ∙ sym under-100) l))
     (λ f. other (lt alt 300·0) (lt alt 300·0) _ _ _ refl
-    (λ g. region-told sw x l alt 200·0 _ e (shape-alike sw x alt 200·0 (f ∙ sym above-200) (e ∙ sym over-200) (g ∙ sym under-200) l)
+    (λ g. region-told sw x l alt 200·0 _ c e (shape-alike sw x alt 200·0 (f ∙ sym above-200) (e ∙ sym over-200) (g ∙ sym under-200) l)
     (mid-part p sw x l rec len ∙ stored-region (p .mid) sw x l 200·0 (h .mid (both (lt (pdlT1 ‼ 15) alt) (lt alt 300·0) f g))))
-    (λ g. region-told sw x l alt 300·0 _ e (shape-alike sw x alt 300·0 (f ∙ sym above-300) (e ∙ sym over-300) (g ∙ sym under-300) l)
+    (λ g. region-told sw x l alt 300·0 _ c e (shape-alike sw x alt 300·0 (f ∙ sym above-300) (e ∙ sym over-300) (g ∙ sym under-300) l)
     (top-part p sw x l rec len ∙ stored-region (p .top) sw x l 300·0 (h .top (both (lt (pdlT1 ‼ 15) alt) (not (lt alt 300·0)) f (ap not g)))))))

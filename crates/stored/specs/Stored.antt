@@ -1,4 +1,5 @@
--- What a station stores of a record and a switch row, as a list of numbers, and the row of an altitude out of that list.
+-- What a station stores of a record and a switch row, as a list of numbers, and the row of an altitude out of that list. The nine constants are the
+-- present ones and are not stored.
 use Prim.Native.Nat.{ℕ, _+_}
 use mathlib.Core.Bool.{Bool, cond, not, _||_}
 use mathlib.Core.List.{List, [], _∷_, _++_}
@@ -6,6 +7,7 @@ use lib.ListN.{take, drop, replicate}
 use lib.Ieee.{Float, lt}
 use Rattle.numbers.specs.Arithmetic.{_‼_}
 use Rattle.numbers.specs.Literals.{0·0, 72·5, 100·0, 200·0, 300·0}
+use Rattle.parameters.specs.Parameters.{presentOf}
 use Rattle.elementary.specs.Log.{logOf}
 use Rattle.layers.specs.declared.Span.{Span}
 use Rattle.places.specs.declared.place.Spine.{Spine}
@@ -112,7 +114,7 @@ fiveIn xs at = (xs ‼ at) ∷ (xs ‼ (at + 1)) ∷ (xs ‼ (at + 2)) ∷ (xs �
 
 unfoldable pub shapeIn : List Float → Shape
 shapeIn xs =
-    record { gsurf = xs ‼ 0; re = xs ‼ 1; tinf = xs ‼ 2; tlb = xs ‼ 3; s = xs ‼ 4; tn = fiveIn xs 5; tgn = (xs ‼ 10) ∷ (xs ‼ 11) ∷ [] }
+    record { rgas = presentOf .rgas; gsurf = xs ‼ 0; re = xs ‼ 1; tinf = xs ‼ 2; tlb = xs ‼ 3; s = xs ‼ 4; tn = fiveIn xs 5; tgn = (xs ‼ 10) ∷ (xs ‼ 11) ∷ [] }
 
 unfoldable pub rootIn : List Float → ℕ → Root
 rootIn xs at = record { db = xs ‼ at; b = xs ‼ (at + 1); r = xs ‼ (at + 2) }
@@ -137,6 +139,7 @@ spineIn xs =
     record {
       base = xs ‼ 0;
       k = xs ‼ 1;
+      rgas = presentOf .rgas;
       s = xs ‼ 2;
       zg2 = xs ‼ 3;
       tt = xs ‼ 4;
@@ -156,7 +159,7 @@ spanIn xs = record { t1 = xs ‼ 0; zgdif = xs ‼ 1; gamm = xs ‼ 2; xs = five
 unfoldable pub footingIn : List Float → Footing
 footingIn xs =
     record {
-      x = record { gsurf = xs ‼ 0; re = xs ‼ 1; zhf = xs ‼ 2; flux = xs ‼ 3 };
+      x = record { gsurf = xs ‼ 0; re = xs ‼ 1; zhf = xs ‼ 2; flux = xs ‼ 3; nine = presentOf };
       tinf = xs ‼ 4;
       dm28m = xs ‼ 5;
       he = xs ‼ 6;
@@ -172,8 +175,8 @@ footingIn xs =
 -- above 72.5 km up to za
 unfoldable pub lowRow : Float → Float → List Float → Float → List Float
 lowRow sw0 sw15 xs alt =
-    cond (not (lt alt (pdlT1 ‼ 15))) (rowOver sw0 sw15 (shapeIn (part 0 36 xs)) (rootsIn (part 0 36 xs)) alt)
-    (rowUnder sw0 sw15 (shapeIn (part 0 36 xs)) (spineIn (part 36 24 xs)) (spineIn (part 60 24 xs)) (rootsIn (part 0 36 xs)) alt)
+    cond (not (lt alt (pdlT1 ‼ 15))) (rowOver presentOf sw0 sw15 (shapeIn (part 0 36 xs)) (rootsIn (part 0 36 xs)) alt)
+    (rowUnder presentOf sw0 sw15 (shapeIn (part 0 36 xs)) (spineIn (part 36 24 xs)) (spineIn (part 60 24 xs)) (rootsIn (part 0 36 xs)) alt)
 
 -- xs has the record's fourteen numbers first
 unfoldable pub rowStored : Float → Float → List Float → Float → List Float
@@ -182,5 +185,5 @@ rowStored sw0 sw15 xs alt =
     (cond (fromSummit alt) (part 223 11 xs) (rowBelowOf sw0 (footingIn (part 14 53 xs)) alt))
     (cond (not (aboveZa alt)) (lowRow sw0 sw15 (part 67 84 xs) alt)
     (cond (below300 alt)
-    (rowOver sw0 sw15 (shapeIn (part 151 36 xs)) (rootsIn (part 151 36 xs)) alt)
-    (rowOver sw0 sw15 (shapeIn (part 187 36 xs)) (rootsIn (part 187 36 xs)) alt)))
+    (rowOver presentOf sw0 sw15 (shapeIn (part 151 36 xs)) (rootsIn (part 151 36 xs)) alt)
+    (rowOver presentOf sw0 sw15 (shapeIn (part 187 36 xs)) (rootsIn (part 187 36 xs)) alt)))

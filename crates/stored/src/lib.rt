@@ -4,6 +4,7 @@ ghost use mathlib.Core.Path.{_≡_};
 ghost use mathlib.Core.List.{_++_};
 ghost use Prim.Native.Nat.{_+_, _≤_};
 ghost use lib.ListN.{length, take, drop};
+ghost use Rattle.parameters.specs.Parameters.{presentOf};
 ghost use Rattle.region.specs.Region.{rowOver};
 ghost use Rattle.stored.specs.Stored.{needOf, regionNumbers, spineNumbers, spanNumbers, groundNumbers, fiveIn, shapeIn, rootIn, rootsIn, spineIn, spanIn, footingIn, regionStored, lowStored, footingStored, summitStored, storedOf, lowRow, rowStored};
 use atmosphere::row_above;
@@ -15,6 +16,8 @@ use footing::row_below;
 use layers::Span;
 use levels::Need;
 use lower::Meso;
+use numbers::RGAS;
+use parameters::present;
 use places::place::Spine;
 use plan::Levels;
 use profile::unchecked::Shape;
@@ -207,6 +210,7 @@ pub fn shape_from(s: &[f64]) -> Shape
 {
     let a = five_at(s, 5);
     Shape {
+        rgas: RGAS,
         gsurf: s[0],
         re: s[1],
         tinf: s[2],
@@ -265,6 +269,7 @@ pub fn spine_from(s: &[f64]) -> Spine
     Spine {
         base: s[0],
         k: s[1],
+        rgas: RGAS,
         s: s[2],
         zg2: s[3],
         tt: s[4],
@@ -302,11 +307,13 @@ pub fn footing_from(s: &[f64]) -> Footing
 {
     let u = span_from(&s[17..35]);
     let v = span_from(&s[35..53]);
+    let c = present();
     let x = Site {
         gsurf: s[0],
         re: s[1],
         zhf: s[2],
         flux: s[3],
+        nine: c,
     };
     let m = Meso {
         tn2: [s[10], s[11], s[12], s[13]],
@@ -444,7 +451,7 @@ pub fn eleven_from(s: &[f64]) -> [f64; 11]
 // At or above za in a region.
 pub fn over_from(sw0: f64, sw15: f64, s: &[f64], alt: f64) -> [f64; 11]
     requires { ⌜ length (now s) ≡ 36 ⌝ }
-    ensures { λ r. ⌜ r ≡ rowOver sw0 sw15 (shapeIn (now (s .entry))) (rootsIn (now (s .entry))) alt ⌝ }
+    ensures { λ r. ⌜ r ≡ rowOver presentOf sw0 sw15 (shapeIn (now (s .entry))) (rootsIn (now (s .entry))) alt ⌝ }
 {
     let h = shape_from(s);
     let q = roots_from(s);

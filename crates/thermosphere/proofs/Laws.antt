@@ -6,10 +6,11 @@ use lib.Ieee.{Float, lt}
 use Rattle.numbers.specs.Arithmetic.{_⊕_, _⊖_, _⊗_, _‼_}
 use Rattle.numbers.specs.Literals.{0·0, 1·0, 2·0, 300·0}
 use Rattle.elementary.specs.Pow.{powOf}
+use Rattle.mixing.specs.Limits.{mixedAt}
+use Rattle.mixing.specs.declared.limits.Mixed.{Mixed}
 use Rattle.profile.specs.declared.unchecked.Shape.{Shape}
 use Rattle.places.specs.declared.place.Place.{Place}
 use Rattle.places.specs.declared.thinning.Thinning.{Thinning}
-use Rattle.places.specs.Thinning.{thinningOf}
 use Rattle.species.specs.Places.{placeAt, Turbopause, Mixes}
 use Rattle.species.specs.declared.Blend.{Blend}
 use Rattle.species.specs.declared.Mixture.{Mixture}
@@ -69,37 +70,37 @@ shape-law sw x z l h n tlb g tinf e0 e1 e2 e3 e4 =
     ∙ then (given l) (nodesPlan sw z) _ n e1
     ∙ last (given l) _)
 
-pub species-law : (sw : List Float) (h : Shape) (z b28 flux : Float) (l : Levels) (n hy ar o2 o he : Mixture) (d m : List Float)
-    → n ≡ told (given l) (nitrogenPlan sw h z b28 (m ‼ 3 ⊗ d ‼ 5) (m ‼ 4))
-    → hy ≡ told (given l) (hydrogenPlan sw h z b28 (m ‼ 3 ⊗ d ‼ 5) (m ‼ 4))
-    → ar ≡ told (given l) (argonPlan sw h z b28 (m ‼ 3 ⊗ d ‼ 5) (m ‼ 4))
-    → o2 ≡ told (given l) (o2Plan sw h z b28 (m ‼ 3 ⊗ d ‼ 5) (m ‼ 4) flux)
-    → o ≡ told (given l) (oxygenPlan sw h z (m ‼ 3 ⊗ d ‼ 5) (m ‼ 4) flux)
-    → he ≡ told (given l) (heliumPlan sw h z b28 (m ‼ 3 ⊗ d ‼ 5) (m ‼ 4))
+pub species-law : (sw : List Float) (h : Shape) (k : Mixed) (z b28 flux xmm : Float) (l : Levels) (n hy ar o2 o he : Mixture) (d m : List Float)
+    → n ≡ told (given l) (nitrogenPlan sw h (k .n) z b28 (m ‼ 3 ⊗ d ‼ 5) xmm)
+    → hy ≡ told (given l) (hydrogenPlan sw h (k .h) z b28 (m ‼ 3 ⊗ d ‼ 5) xmm)
+    → ar ≡ told (given l) (argonPlan sw h (k .ar) z b28 (m ‼ 3 ⊗ d ‼ 5) xmm)
+    → o2 ≡ told (given l) (o2Plan sw h (k .o2) z b28 (m ‼ 3 ⊗ d ‼ 5) xmm flux)
+    → o ≡ told (given l) (oxygenPlan sw h (k .o) z (m ‼ 3 ⊗ d ‼ 5) xmm flux)
+    → he ≡ told (given l) (heliumPlan sw h (k .he) z b28 (m ‼ 3 ⊗ d ‼ 5) xmm)
     → d ≡ pdlT1
     → m ≡ pdmT2
-    → _≡_ {A = Six} (record { he = he; o = o; o2 = o2; ar = ar; h = hy; n = n }) (told (given l) (speciesPlan sw h z b28 flux))
+    → _≡_ {A = Six} (record { he = he; o = o; o2 = o2; ar = ar; h = hy; n = n }) (told (given l) (speciesPlan sw h k z b28 flux xmm))
 unfolding speciesPlan
-species-law sw h z b28 flux l n hy ar o2 o he d m e1 e2 e3 e4 e5 e6 e7 e8 =
+species-law sw h k z b28 flux xmm l n hy ar o2 o he d m e1 e2 e3 e4 e5 e6 e7 e8 =
     sym
-    (then (given l) (heliumPlan sw h z b28 (pdmT2 ‼ 3 ⊗ pdlT1 ‼ 5) (pdmT2 ‼ 4)) _ he (rw (e8, e7) at e6)
-    ∙ then (given l) (oxygenPlan sw h z (pdmT2 ‼ 3 ⊗ pdlT1 ‼ 5) (pdmT2 ‼ 4) flux) _ o (rw (e8, e7) at e5)
-    ∙ then (given l) (o2Plan sw h z b28 (pdmT2 ‼ 3 ⊗ pdlT1 ‼ 5) (pdmT2 ‼ 4) flux) _ o2 (rw (e8, e7) at e4)
-    ∙ then (given l) (argonPlan sw h z b28 (pdmT2 ‼ 3 ⊗ pdlT1 ‼ 5) (pdmT2 ‼ 4)) _ ar (rw (e8, e7) at e3)
-    ∙ then (given l) (hydrogenPlan sw h z b28 (pdmT2 ‼ 3 ⊗ pdlT1 ‼ 5) (pdmT2 ‼ 4)) _ hy (rw (e8, e7) at e2)
-    ∙ then (given l) (nitrogenPlan sw h z b28 (pdmT2 ‼ 3 ⊗ pdlT1 ‼ 5) (pdmT2 ‼ 4)) _ n (rw (e8, e7) at e1)
+    (then (given l) (heliumPlan sw h (k .he) z b28 (pdmT2 ‼ 3 ⊗ pdlT1 ‼ 5) xmm) _ he (rw (e8, e7) at e6)
+    ∙ then (given l) (oxygenPlan sw h (k .o) z (pdmT2 ‼ 3 ⊗ pdlT1 ‼ 5) xmm flux) _ o (rw (e8, e7) at e5)
+    ∙ then (given l) (o2Plan sw h (k .o2) z b28 (pdmT2 ‼ 3 ⊗ pdlT1 ‼ 5) xmm flux) _ o2 (rw (e8, e7) at e4)
+    ∙ then (given l) (argonPlan sw h (k .ar) z b28 (pdmT2 ‼ 3 ⊗ pdlT1 ‼ 5) xmm) _ ar (rw (e8, e7) at e3)
+    ∙ then (given l) (hydrogenPlan sw h (k .h) z b28 (pdmT2 ‼ 3 ⊗ pdlT1 ‼ 5) xmm) _ hy (rw (e8, e7) at e2)
+    ∙ then (given l) (nitrogenPlan sw h (k .n) z b28 (pdmT2 ‼ 3 ⊗ pdlT1 ‼ 5) xmm) _ n (rw (e8, e7) at e1)
     ∙ last (given l) _)
 
--- what a stage asks, from the shared places: m is the row of PDM that has xmm
-pub stage-ready : (h : Shape) (z : Float) (p w : Place) (t : Thinning) (on mix : Bool) (zh zh' : Float) (m : List Float)
+-- what a stage asks where its species is mixed, from the shared places
+pub stage-ready : (h : Shape) (z : Float) (p w : Place) (t : Thinning) (own on mix : Bool) (zh zh' xmm : Float)
+    → (own ≡ true → on ≡ true)
+    → (own ≡ true → mix ≡ true)
     → p ≡ placeAt h z
     → Turbopause h on zh w
     → zh ≡ zh'
-    → Mixes mix p (pdmT2 ‼ 4) t
-    → m ≡ pdmT2
-    → (p ≡ placeAt h z) × Turbopause h on zh' w × Mixes mix p (m ‼ 4) t
-stage-ready h z p w t on mix zh zh' m e f q g k =
-    (e, λ o. f o ∙ ap (placeAt h) q, λ o. g o ∙ ap (λ (x : List Float). thinningOf p (x ‼ 4) 0·0) (sym k))
+    → Mixes mix p xmm t
+    → (p ≡ placeAt h z) × Turbopause h own zh' w × Mixes own p xmm t
+stage-ready h z p w t own on mix zh zh' xmm there some e f q g = (e, λ o. f (there o) ∙ ap (placeAt h) q, λ o. g (some o))
 
 pub o2-too : pdmT1 ‼ 2 ≡ pdmT3 ‼ 2
 unfolding pdmT1 pdmT3
@@ -116,24 +117,22 @@ nitrogen-too = refl
 pub in-row : (h : Shape) (on : Bool) (w : Place) (m row : List Float) → Turbopause h on (m ‼ 2) w → m ≡ row → Turbopause h on (row ‼ 2) w
 in-row h on w m row f e = λ o. f o ∙ ap (λ (x : List Float). placeAt h (x ‼ 2)) e
 
-pub mixes-row : (mix : Bool) (p : Place) (t : Thinning) (m : List Float) → Mixes mix p (m ‼ 4) t → m ≡ pdmT2 → Mixes mix p (pdmT2 ‼ 4) t
-mixes-row mix p t m f e = λ o. f o ∙ ap (λ (x : List Float). thinningOf p (x ‼ 4) 0·0) e
-
-pub gts7-law : (sw : List Float) (x : Site) (z : Float) (l : Levels) (u : Upper) (o : Float) (k : Shape) (y : Six) (b : Blend) (h : Shape)
+pub gts7-law : (sw : List Float) (x : Site) (z : Float) (l : Levels) (u : Upper) (o : Float) (k : Shape) (y : Six) (b : Blend) (m : Mixed) (h : Shape)
     → u ≡ gatherOf (sw ‼ 0) h z b y o
     → o ≡ told (given l) (hotPlan sw k z)
     → k ≡ anomalousOf h
-    → y ≡ told (given l) (speciesPlan sw h z (b .b) (x .flux))
-    → b ≡ told (given l) (n2Plan sw h z (x .zhf))
+    → y ≡ told (given l) (speciesPlan sw h m z (b .b) (x .flux) (x .nine .xmm))
+    → b ≡ told (given l) (n2Plan sw h (m .n2) z (x .zhf) (x .nine .xmm))
+    → m ≡ mixedAt (x .nine) (sw ‼ 15) z
     → h ≡ told (given l) (shapePlan sw x z)
     → u ≡ told (given l) (gts7Plan sw x z)
 unfolding gts7Plan
-gts7-law sw x z l u o k y b h e0 e1 e2 e3 e4 e6 =
+gts7-law sw x z l u o k y b m h e0 e1 e2 e3 e4 e5 e6 =
     e0
     ∙ sym
     (then (given l) (shapePlan sw x z) _ h e6
-    ∙ then (given l) (n2Plan sw h z (x .zhf)) _ b e4
-    ∙ then (given l) (speciesPlan sw h z (b .b) (x .flux)) _ y e3
+    ∙ then (given l) (n2Plan sw h ((mixedAt (x .nine) (sw ‼ 15) z) .n2) z (x .zhf) (x .nine .xmm)) _ b (rw e5 at e4)
+    ∙ then (given l) (speciesPlan sw h (mixedAt (x .nine) (sw ‼ 15) z) z (b .b) (x .flux) (x .nine .xmm)) _ y (rw e5 at e3)
     ∙ then (given l) (hotPlan sw (anomalousOf h) z) _ o (rw e2 at e1)
     ∙ told-keep (given l) _ _
     ∙ last (given l) _)

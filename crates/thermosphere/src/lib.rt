@@ -1,12 +1,15 @@
 // gts7: its stages in order, proved against its plan.
 ghost use mathlib.Core.Path.{_≡_};
 ghost use Rattle.plan.specs.Plan.{told, given};
-ghost use Rattle.numbers.specs.Arithmetic.{_‼_};
-ghost use Rattle.species.specs.Places.{spineAt, placeAt, mixesAt, Mixes};
-ghost use Rattle.tables.specs.Tables.{pdmT2};
+ghost use Rattle.mixing.specs.Limits.{someMixed};
+ghost use Rattle.species.specs.Places.{spineAt, placeAt, Mixes};
 ghost use Rattle.thermosphere.specs.Turbopauses.{Apart};
 ghost use Rattle.stages.specs.Stages.{nodesPlan, shapePlan, speciesPlan, gts7Plan};
 use elementary::power::pow;
+use mixing::limits::Mixed;
+use mixing::limits::mixed_at;
+use mixing::limits::oxygens_mixed;
+use mixing::limits::some_mixed;
 use places::place::Place;
 use places::place::Spine;
 use places::thinning::Thinning;
@@ -88,18 +91,18 @@ pub struct Turbopauses {
     pub h: Place,
 }
 
-// The places of the turbopauses where a species is mixed at z, the place of z.
-pub fn turbopauses_of(sw: [f64; 24], h: Shape, s: Spine, z: f64, p: Place) -> Turbopauses
+// The places of the turbopauses whose species m says to be mixed; elsewhere p, which nothing reads.
+pub fn turbopauses_of(m: Mixed, h: Shape, s: Spine, p: Place) -> Turbopauses
     requires { ⌜ s ≡ spineAt h ⌝ }
-    ensures { λ r. ⌜ Apart sw h z r ⌝ }
+    ensures { λ r. ⌜ Apart m h r ⌝ }
 {
     let m0 = pdm0();
     let m1 = pdm1();
     let m5 = pdm5();
-    let on = sw[15] != 0.0;
-    let he = turbopause(h, s, on & (z < 200.0), m0[2], p);
-    let o = turbopause(h, s, on & (z <= 450.0), m1[2], p);
-    let hy = turbopause(h, s, on & (z <= 320.0), m5[2], p);
+    let four = oxygens_mixed(m);
+    let he = turbopause(h, s, m.he, m0[2], p);
+    let o = turbopause(h, s, four, m1[2], p);
+    let hy = turbopause(h, s, m.h, m5[2], p);
     Turbopauses {
         he: he,
         o: o,
@@ -107,35 +110,36 @@ pub fn turbopauses_of(sw: [f64; 24], h: Shape, s: Spine, z: f64, p: Place) -> Tu
     }
 }
 
-// The six species that blend with N2; s is the spine of h, p the place of z, t thins out what is mixed there.
+// The six species that blend with N2, those mixed that m says; s is the spine of h, p the place of z, t thins out what is mixed there.
 pub fn species_stage(
     sw: [f64; 24],
     h: Shape,
     s: Spine,
+    m: Mixed,
     z: f64,
     p: Place,
     t: Thinning,
     b28: f64,
     flux: f64,
+    xmm: f64,
     l: Levels,
 ) -> Six
-    requires { ⌜ (s ≡ spineAt h) × (p ≡ placeAt h z) × Mixes (mixesAt (sw ‼ 15) z) p (pdmT2 ‼ 4) t ⌝ }
-    ensures { λ r. ⌜ r ≡ told (given l) (speciesPlan sw h z b28 flux) ⌝ }
+    requires { ⌜ (s ≡ spineAt h) × (p ≡ placeAt h z) × Mixes (someMixed m) p xmm t ⌝ }
+    ensures { λ r. ⌜ r ≡ told (given l) (speciesPlan sw h m z b28 flux xmm) ⌝ }
 {
-    let m = pdm2();
+    let a = pdm2();
     let d = pdl1();
-    let zhm = m[3] * d[5];
-    let xmm = m[4];
-    let w = turbopauses_of(sw, h, s, z, p);
+    let zhm = a[3] * d[5];
+    let w = turbopauses_of(m, h, s, p);
     let whe = w.he;
     let wo = w.o;
     let wh = w.h;
-    let he = helium_stage(sw, h, z, p, whe, t, b28, zhm, xmm, l);
-    let o = oxygen_stage(sw, h, z, p, wo, t, zhm, xmm, flux, l);
-    let o2 = o2_stage(sw, h, z, p, wo, t, b28, zhm, xmm, flux, l);
-    let ar = argon_stage(sw, h, z, p, wo, t, b28, zhm, xmm, l);
-    let hy = hydrogen_stage(sw, h, z, p, wh, t, b28, zhm, xmm, l);
-    let n = nitrogen_stage(sw, h, z, p, wo, t, b28, zhm, xmm, l);
+    let he = helium_stage(sw, h, m.he, z, p, whe, t, b28, zhm, xmm, l);
+    let o = oxygen_stage(sw, h, m.o, z, p, wo, t, zhm, xmm, flux, l);
+    let o2 = o2_stage(sw, h, m.o2, z, p, wo, t, b28, zhm, xmm, flux, l);
+    let ar = argon_stage(sw, h, m.ar, z, p, wo, t, b28, zhm, xmm, l);
+    let hy = hydrogen_stage(sw, h, m.h, z, p, wh, t, b28, zhm, xmm, l);
+    let n = nitrogen_stage(sw, h, m.n, z, p, wo, t, b28, zhm, xmm, l);
     Six {
         he: he,
         o: o,
@@ -155,10 +159,13 @@ pub fn gts7_stage(sw: [f64; 24], x: Site, z: f64, l: Levels) -> Upper
     let p = place_at(h, s, z);
     let m = pdm2();
     let w = place_at(h, s, m[2] * x.zhf);
-    let t = mixing((sw[15] != 0.0) & (z <= 450.0), p, m[4]);
-    let b = n2_stage(sw, h, z, p, w, t, x.zhf, l);
-    let y = species_stage(sw, h, s, z, p, t, b.b, x.flux, l);
-    let k = anomalous(h);
-    let o = hot_stage(sw, k, z, l);
+    let c = x.nine;
+    let k = mixed_at(c, sw[15], z);
+    let on = some_mixed(k);
+    let t = mixing(on, p, c.xmm);
+    let b = n2_stage(sw, h, k.n2, z, p, w, t, x.zhf, c.xmm, l);
+    let y = species_stage(sw, h, s, k, z, p, t, b.b, x.flux, c.xmm, l);
+    let g = anomalous(h);
+    let o = hot_stage(sw, g, z, l);
     gather(sw[0], h, s, z, b, y, o)
 }

@@ -1,4 +1,4 @@
-// gts7's row where nothing is mixed, above 450 km or where switch 15 is off: no turbopause is read there.
+// gts7's row where nothing is mixed, above every altitude at which mixing ends or where switch 15 is off: no turbopause is read there.
 ghost use mathlib.Core.Path.{_≡_};
 ghost use mathlib.Core.Bool.{false};
 ghost use lib.Ieee.{Float};
@@ -6,13 +6,15 @@ ghost use Rattle.numbers.specs.Arithmetic.{_⊗_, _‼_};
 ghost use Rattle.numbers.specs.Literals.{0·0, 28·0};
 ghost use Rattle.elementary.specs.Exp.{expOf};
 ghost use Rattle.tables.specs.Tables.{pdT2, pdmT2};
+ghost use Rattle.mixing.specs.Limits.{mixedAt, someMixed};
 ghost use Rattle.plan.specs.Plan.{told, given};
 ghost use Rattle.species.specs.Species.{densityOf, temperatureOf};
-ghost use Rattle.species.specs.Places.{placeAt, mixesAt};
+ghost use Rattle.species.specs.Places.{placeAt};
 ghost use Rattle.stages.specs.Stages.{speciesPlan, gts7Plan};
 ghost use Rattle.lower.specs.Lower.{aboveOf};
 use elementary::exponential::exp;
 use elementary::root::sqrt;
+use mixing::limits::Mixed;
 use places::place::Place;
 use places::thinning::Thinning;
 use plan::Levels;
@@ -47,14 +49,22 @@ pub fn n2_alone(sw: [f64; 24], h: Shape, z: f64, p: Place, l: Levels) -> f64
 }
 
 // The six other species, none of them mixed: whatever N2's density at its turbopause is, they do not read it.
-pub fn six_alone(sw: [f64; 24], h: Shape, z: f64, p: Place, flux: f64, l: Levels) -> Six
-    requires { ⌜ (p ≡ placeAt h z) × (mixesAt (sw ‼ 15) z ≡ false) ⌝ }
-    ensures { λ r. ⌜ ((b : Float) → r ≡ told (given l) (speciesPlan sw h z b flux)) ⌝ }
+pub fn six_alone(
+    sw: [f64; 24],
+    h: Shape,
+    m: Mixed,
+    z: f64,
+    p: Place,
+    flux: f64,
+    xmm: f64,
+    l: Levels,
+) -> Six
+    requires { ⌜ (p ≡ placeAt h z) × (someMixed m ≡ false) ⌝ }
+    ensures { λ r. ⌜ ((b : Float) → r ≡ told (given l) (speciesPlan sw h m z b flux xmm)) ⌝ }
 {
-    let m = pdm2();
+    let a = pdm2();
     let d = pdl1();
-    let zhm = m[3] * d[5];
-    let xmm = m[4];
+    let zhm = a[3] * d[5];
     let t = Thinning {
         none: true,
         under: false,
@@ -64,12 +74,12 @@ pub fn six_alone(sw: [f64; 24], h: Shape, z: f64, p: Place, flux: f64, l: Levels
         q: 0.0,
         k: 0.0,
     };
-    let he = helium_stage(sw, h, z, p, p, t, 0.0, zhm, xmm, l);
-    let o = oxygen_stage(sw, h, z, p, p, t, zhm, xmm, flux, l);
-    let o2 = o2_stage(sw, h, z, p, p, t, 0.0, zhm, xmm, flux, l);
-    let ar = argon_stage(sw, h, z, p, p, t, 0.0, zhm, xmm, l);
-    let hy = hydrogen_stage(sw, h, z, p, p, t, 0.0, zhm, xmm, l);
-    let n = nitrogen_stage(sw, h, z, p, p, t, 0.0, zhm, xmm, l);
+    let he = helium_stage(sw, h, m.he, z, p, p, t, 0.0, zhm, xmm, l);
+    let o = oxygen_stage(sw, h, m.o, z, p, p, t, zhm, xmm, flux, l);
+    let o2 = o2_stage(sw, h, m.o2, z, p, p, t, 0.0, zhm, xmm, flux, l);
+    let ar = argon_stage(sw, h, m.ar, z, p, p, t, 0.0, zhm, xmm, l);
+    let hy = hydrogen_stage(sw, h, m.h, z, p, p, t, 0.0, zhm, xmm, l);
+    let n = nitrogen_stage(sw, h, m.n, z, p, p, t, 0.0, zhm, xmm, l);
     Six {
         he: he,
         o: o,
@@ -88,14 +98,16 @@ pub fn temperature_alone(h: Shape, z: f64) -> f64
     p.tz
 }
 
-pub fn unmixed_row(sw: [f64; 24], x: Site, z: f64, l: Levels) -> [f64; 11]
-    requires { ⌜ mixesAt (sw ‼ 15) z ≡ false ⌝ }
+// m says which species are mixed: none.
+pub fn unmixed_row(sw: [f64; 24], x: Site, m: Mixed, z: f64, l: Levels) -> [f64; 11]
+    requires { ⌜ (m ≡ mixedAt (x .nine) (sw ‼ 15) z) × (someMixed m ≡ false) ⌝ }
     ensures { λ r. ⌜ r ≡ aboveOf (told (given l) (gts7Plan sw x z)) .row ⌝ }
 {
     let h = shape_stage(sw, x, z, l);
     let p = place_alone_at(h, z);
     let n2 = n2_alone(sw, h, z, p, l);
-    let y = six_alone(sw, h, z, p, x.flux, l);
+    let c = x.nine;
+    let y = six_alone(sw, h, m, z, p, x.flux, c.xmm, l);
     let k = anomalous(h);
     let oh = hot_stage(sw, k, z, l);
     let r = sqrt(z * z);

@@ -1,10 +1,13 @@
 -- The arithmetic of gts7 around its expansions and species, as the Rust writes it.
-use mathlib.Core.Bool.{cond, not}
+use mathlib.Core.Path.{_≡_}
+use mathlib.Core.Bool.{false, cond, not}
 use mathlib.Core.List.{List, [], _∷_}
 use lib.Ieee.{Float, eq, ne}
 use Rattle.numbers.specs.Arithmetic.{_⊕_, _⊖_, _⊗_, _⊘_, _‼_}
 use Rattle.numbers.specs.Literals.{0·0, 1·0, 1·66E-24, 4·0, 14·0, 16·0, 28·0, 32·0, 40·0, 45·0, 150·0, 1000·0, 1·0E6}
 use Rattle.numbers.specs.Constants.{dgtr, dr}
+use Rattle.parameters.specs.Parameters.{presentOf}
+use Rattle.parameters.specs.declared.Parameters.{Parameters}
 use Rattle.elementary.specs.Trig.{sinOf, cosOf}
 use Rattle.elementary.specs.Root.{sqrtOf}
 use Rattle.profile.specs.Gravity.{glatfOf}
@@ -17,16 +20,25 @@ use Rattle.upper.specs.declared.Nodes.{Nodes}
 use Rattle.upper.specs.declared.Six.{Six}
 use Rattle.upper.specs.declared.Upper.{Upper}
 
--- what gts7 and gtd7 read of the record besides the altitude: glatf at xlat, zhf, and the factor of the flux in O and O2
-unfoldable pub siteOf : List Float → Float → Float → Float → Site
-siteOf sw lat doy f107a =
+-- what gts7 and gtd7 read besides the altitude: glatf at xlat, zhf, the factor of the flux in O and O2, and the nine constants
+unfoldable pub siteWith : Parameters → List Float → Float → Float → Float → Site
+siteWith c sw lat doy f107a =
     let g = glatfOf (cond (eq (sw ‼ 2) 0·0) 45·0 lat) in
     record {
       gsurf = g .gsurf;
       re = g .re;
       zhf = pdlT1 ‼ 24 ⊗ (1·0 ⊕ sw ‼ 5 ⊗ pdlT0 ‼ 24 ⊗ sinOf (dgtr ⊗ lat) ⊗ cosOf (dr ⊗ (doy ⊖ ptT ‼ 13)));
       flux = 1·0 ⊕ sw ‼ 1 ⊗ pdlT0 ‼ 23 ⊗ (f107a ⊖ 150·0);
+      nine = c;
     }
+
+-- the same with the present nine
+unfoldable pub siteOf : List Float → Float → Float → Float → Site
+siteOf sw lat doy f107a = siteWith presentOf sw lat doy f107a
+
+-- the mass of mixed air is not 0, for which densm would give a temperature
+abbrev pub HasMass : Site → Type 0
+HasMass x = eq (x .nine .xmm) 0·0 ≡ false
 
 -- meso_tn1 and meso_tgn1 below 300 km: m is PTM, p0 to p8 the first coefficients, k the last denominator, a to g the answers
 unfoldable pub variedOf : List Float → Float → Float → Float → Float → Float → Float → Float → Float → Float → Float → Float → Nodes
@@ -42,13 +54,13 @@ meanOf m p0 p1 p2 p3 p8 k =
 
 unfoldable pub shapeOf : Site → Float → Float → Float → Nodes → Shape
 shapeOf x tinf tlb g n =
-    record { gsurf = x .gsurf; re = x .re; tinf = tinf; tlb = tlb; s = g ⊘ (tinf ⊖ tlb); tn = n .tn; tgn = n .tgn }
+    record { rgas = x .nine .rgas; gsurf = x .gsurf; re = x .re; tinf = tinf; tlb = tlb; s = g ⊘ (tinf ⊖ tlb); tn = n .tn; tgn = n .tgn }
 
 -- tho in the place of tinf and tlb
 unfoldable pub anomalousOf : Shape → Shape
 anomalousOf h =
     let tho = pdmT7 ‼ 9 ⊗ pdlT0 ‼ 6 in
-    record { gsurf = h .gsurf; re = h .re; tinf = tho; tlb = tho; s = h .s; tn = h .tn; tgn = h .tgn }
+    record { rgas = h .rgas; gsurf = h .gsurf; re = h .re; tinf = tho; tlb = tho; s = h .s; tn = h .tn; tgn = h .tgn }
 
 -- d[5]
 unfoldable pub massOf : Float → Float → Float → Float → Float → Float → Float → Float

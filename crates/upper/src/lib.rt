@@ -1,13 +1,15 @@
 // The arithmetic of gts7 around its expansions and species: place, temperatures, nodes, totals.
 ghost use mathlib.Core.Path.{_≡_};
 ghost use Rattle.species.specs.Places.{spineAt};
-ghost use Rattle.upper.specs.Upper.{siteOf, variedOf, meanOf, shapeOf, anomalousOf, massOf, unitsOf, rowOf, gatherOf};
+ghost use Rattle.upper.specs.Upper.{siteWith, siteOf, variedOf, meanOf, shapeOf, anomalousOf, massOf, unitsOf, rowOf, gatherOf};
 use elementary::root::sqrt;
 use elementary::trigonometry::cos;
 use elementary::trigonometry::sin;
 use numbers::DGTR;
 use numbers::DR;
 use numbers::pick;
+use parameters::Parameters;
+use parameters::present;
 use places::place::Spine;
 use profile::gravity::glatf;
 use profile::unchecked::Shape;
@@ -19,12 +21,13 @@ use tables::pdl1;
 use tables::pdm7;
 use tables::pt;
 
-// What gts7 and gtd7 read of the record besides the altitude: gravity, the turbopause's factor, the flux factor.
+// What gts7 and gtd7 read besides the altitude: of the record gravity, the turbopause's factor and the flux factor; and the nine constants.
 pub struct Site {
     pub gsurf: f64,
     pub re: f64,
     pub zhf: f64,
     pub flux: f64,
+    pub nine: Parameters,
 }
 
 // The temperature nodes tn1 and gradients tgn1, element 0 not set.
@@ -53,8 +56,8 @@ pub struct Upper {
 }
 
 // Gravity at the latitude, or at 45 degrees where switch 2 is off; zhf; and 1 + sw[1] * PDL[0][23] * (f107a - 150).
-pub fn site_of(sw: [f64; 24], lat: f64, doy: f64, f107a: f64) -> Site
-    ensures { λ r. ⌜ r ≡ siteOf sw lat doy f107a ⌝ }
+pub fn site_with(c: Parameters, sw: [f64; 24], lat: f64, doy: f64, f107a: f64) -> Site
+    ensures { λ r. ⌜ r ≡ siteWith c sw lat doy f107a ⌝ }
 {
     let k = pdl0();
     let l = pdl1();
@@ -68,7 +71,16 @@ pub fn site_of(sw: [f64; 24], lat: f64, doy: f64, f107a: f64) -> Site
         re: g.re,
         zhf: l[24] * (1.0 + sw[5] * k[24] * a * b),
         flux: 1.0 + sw[1] * k[23] * (f107a - 150.0),
+        nine: c,
     }
+}
+
+// The same with the present nine.
+pub fn site_of(sw: [f64; 24], lat: f64, doy: f64, f107a: f64) -> Site
+    ensures { λ r. ⌜ r ≡ siteOf sw lat doy f107a ⌝ }
+{
+    let c = present();
+    site_with(c, sw, lat, doy, f107a)
 }
 
 // The nodes below 300 km, from five expansions.
@@ -112,6 +124,7 @@ pub fn shape_of(x: Site, tinf: f64, tlb: f64, g: f64, n: Nodes) -> Shape
     let a = n.tn;
     let b = n.tgn;
     Shape {
+        rgas: x.nine.rgas,
         gsurf: x.gsurf,
         re: x.re,
         tinf: tinf,

@@ -8,8 +8,8 @@ returns-2 : tie.Need-returns-2
 returns-2 c =
     let A = c .before .before .args in
     let k = c .before .before .pre (c .before .if1 .left) in
-    eleven-below (A .t1) (A .x) (A .l) (A .alt) (k .0) (A .f) (c .row-below .result)
-    (c .row-below .ensures) (k .1) (k .2) (c .before .if1 .left)
+    eleven-below (A .t1) (A .x) (A .l) (A .alt) (k .1) (A .f) (c .row-below .result)
+    (k .0) (c .row-below .ensures) (k .2) (k .3) (c .before .if1 .left)
 
 pub eleven-spec : {M : Type 1} → statement M
 eleven-spec =

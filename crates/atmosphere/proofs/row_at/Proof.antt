@@ -10,7 +10,7 @@ use Rattle.atmosphere.proofs.row_at.Tie as tie
 row-on-requires : tie.Need-row-on-requires
 row-on-requires c κs =
     let made = c .before in
-    (search needs, λ t. (lt (made .before .before .args .alt) 32·5, made .footing-where .ensures (ap not t), λ e. e))
+    (search needs, λ t. (made .before .before .pre .1, lt (made .before .before .args .alt) 32·5, made .footing-where .ensures (ap not t), λ e. e))
 
 returns : tie.Need-returns
 returns c = c .before .before .row-on .ensures

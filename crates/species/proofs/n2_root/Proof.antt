@@ -6,7 +6,7 @@ use Rattle.species.proofs.n2_root.Tie as tie
 
 returns : tie.Need-returns
 unfolding n2RootOf
-returns c = simp (c .gas .ensures, c .before .pdm2 .ensures)
+returns c = simp (c .gas .ensures)
 
 pub n2-root-spec : {M : Type 1} → statement M
-n2-root-spec = tie.close (tie.spec (λ c κs. search needs) (λ c. search needs) (λ c κs. search needs) returns)
+n2-root-spec = tie.close (tie.spec (λ c κs. search needs) returns)

@@ -1,6 +1,5 @@
 -- `hydrogen_stage` meets its contract.
 use Rattle.numbers.specs.Arithmetic.{_‼_}
-use Rattle.mixing.specs.Limits.{hMixed}
 use Rattle.tables.specs.Tables.{pdmT5}
 use Rattle.species.proofs.Laws.{logged-at}
 use Rattle.stages.proofs.Laws.{logged-there, hydrogen-law}
@@ -9,19 +8,18 @@ use Rattle.stages.proofs.hydrogen_stage.Statement.{statement}
 use Rattle.stages.proofs.hydrogen_stage.Tie as tie
 
 hydrogen-root-requires : tie.Need-hydrogen-root-requires
-hydrogen-root-requires c κs = let A = c .before .before .before .before .before .args in
-    logged-there (A .h) (pdmT5 ‼ 2) (A .w) _ (hMixed (A .t1 ‼ 15) (A .z)) (hMixed (A .t1 ‼ 15) (A .z)) (c .before .before .before .before .before .pre .1) (λ o. o) (c .h-mixes .ensures)
+hydrogen-root-requires c κs = let A = c .before .before .before .before .args in logged-there (A .h) (pdmT5 ‼ 2) (A .w) (A .on) (c .before .before .before .before .pre .1)
 
 hydrogen-requires : tie.Need-hydrogen-requires
-hydrogen-requires c κs = let A = c .before .before .before .before .before .before .args in logged-at (A .h) (A .z) (A .p) (c .before .before .before .before .before .before .pre .0)
+hydrogen-requires c κs = let A = c .before .before .before .before .before .args in logged-at (A .h) (A .z) (A .p) (c .before .before .before .before .before .pre .0)
 
 returns : tie.Need-returns
-returns c = let A = c .before .before .before .before .before .before .before .args in
+returns c = let A = c .before .before .before .before .before .before .args in
     hydrogen-law (A .t1) (A .h) (A .z) (A .p) (A .w) (A .t) (A .b28) (A .zhm) (A .xmm) (A .l)
-    (c .hydrogen .result) (c .before .hydrogen-root .result) (c .before .before .h-mixes .result) (c .before .before .before .exp .result) (c .before .before .before .before .before .pdm5 .result) (c .before .before .before .before .before .before .pd6 .result)
-    (c .hydrogen .ensures) (c .before .hydrogen-root .ensures) (c .before .before .h-mixes .ensures) (c .before .before .before .exp .ensures) (c .before .before .before .before .before .pdm5 .ensures) (c .before .before .before .before .before .before .pd6 .ensures) (c .before .before .before .before .before .before .before .pre)
+    (c .hydrogen .result) (c .before .hydrogen-root .result) (A .on) (c .before .before .exp .result) (c .before .before .before .before .pdm5 .result) (c .before .before .before .before .before .pd6 .result)
+    (c .hydrogen .ensures) (c .before .hydrogen-root .ensures) (c .before .before .exp .ensures) (c .before .before .before .before .pdm5 .ensures) (c .before .before .before .before .before .pd6 .ensures) (c .before .before .before .before .before .before .pre)
 
 pub hydrogen-stage-spec : {M : Type 1} → statement M
 hydrogen-stage-spec =
     tie.close
-    (tie.spec (λ c κs. search needs) (λ c κs. search needs) (λ c. search needs) (λ c κs. search needs) (λ c. search needs) (λ c κs. search needs) (λ c. search needs) (λ c. search needs) hydrogen-root-requires (λ c. search needs) hydrogen-requires returns)
+    (tie.spec (λ c κs. search needs) (λ c κs. search needs) (λ c. search needs) (λ c κs. search needs) (λ c. search needs) (λ c. search needs) hydrogen-root-requires hydrogen-requires returns)

@@ -16,7 +16,7 @@ n2-requires c κs = let A = c .before .before .before .before .before .args in l
 
 returns : tie.Need-returns
 returns c = let A = c .before .before .before .before .before .before .args in
-    n2-law (A .t1) (A .h) (A .z) (A .p) (A .w) (A .t) (A .zhf) (A .l)
+    n2-law (A .t1) (A .h) (A .on) (A .z) (A .p) (A .w) (A .t) (A .zhf) (A .xmm) (A .l)
     (c .n2 .result) (c .before .n2-root .result) (c .before .before .exp .result) (c .before .before .before .before .pdm2 .result) (c .before .before .before .before .before .pd2 .result)
     (c .n2 .ensures) (c .before .n2-root .ensures) (c .before .before .exp .ensures) (c .before .before .before .before .pdm2 .ensures) (c .before .before .before .before .before .pd2 .ensures)
     (c .before .before .before .before .before .before .pre)
@@ -25,4 +25,4 @@ pub n2-stage-spec : {M : Type 1} → statement M
 n2-stage-spec =
     tie.close
     (tie.spec (λ c κs. search needs) (λ c κs. search needs) (λ c. search needs) (λ c κs. search needs) (λ c. search needs) (λ c. search needs)
-    n2-root-requires (λ c. search needs) n2-requires returns)
+    n2-root-requires n2-requires returns)

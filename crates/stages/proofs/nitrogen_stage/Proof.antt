@@ -1,8 +1,6 @@
 -- `nitrogen_stage` meets its contract.
 use Rattle.numbers.specs.Arithmetic.{_‼_}
-use Rattle.mixing.specs.Limits.{nMixed}
 use Rattle.tables.specs.Tables.{pdmT6}
-use Rattle.species.specs.Places.{mixesAt}
 use Rattle.species.proofs.Laws.{logged-at}
 use Rattle.stages.proofs.Laws.{logged-there, nitrogen-law}
 use borrow.Author.Needs.{needs}
@@ -10,19 +8,18 @@ use Rattle.stages.proofs.nitrogen_stage.Statement.{statement}
 use Rattle.stages.proofs.nitrogen_stage.Tie as tie
 
 nitrogen-root-requires : tie.Need-nitrogen-root-requires
-nitrogen-root-requires c κs = let A = c .before .before .before .before .before .args in
-    logged-there (A .h) (pdmT6 ‼ 2) (A .w) _ (nMixed (A .t1 ‼ 15) (A .z)) (mixesAt (A .t1 ‼ 15) (A .z)) (c .before .before .before .before .before .pre .1) (λ o. o) (c .n-mixes .ensures)
+nitrogen-root-requires c κs = let A = c .before .before .before .before .args in logged-there (A .h) (pdmT6 ‼ 2) (A .w) (A .on) (c .before .before .before .before .pre .1)
 
 nitrogen-requires : tie.Need-nitrogen-requires
-nitrogen-requires c κs = let A = c .before .before .before .before .before .before .args in logged-at (A .h) (A .z) (A .p) (c .before .before .before .before .before .before .pre .0)
+nitrogen-requires c κs = let A = c .before .before .before .before .before .args in logged-at (A .h) (A .z) (A .p) (c .before .before .before .before .before .pre .0)
 
 returns : tie.Need-returns
-returns c = let A = c .before .before .before .before .before .before .before .args in
+returns c = let A = c .before .before .before .before .before .before .args in
     nitrogen-law (A .t1) (A .h) (A .z) (A .p) (A .w) (A .t) (A .b28) (A .zhm) (A .xmm) (A .l)
-    (c .nitrogen .result) (c .before .nitrogen-root .result) (c .before .before .n-mixes .result) (c .before .before .before .exp .result) (c .before .before .before .before .before .pdm6 .result) (c .before .before .before .before .before .before .pd7 .result)
-    (c .nitrogen .ensures) (c .before .nitrogen-root .ensures) (c .before .before .n-mixes .ensures) (c .before .before .before .exp .ensures) (c .before .before .before .before .before .pdm6 .ensures) (c .before .before .before .before .before .before .pd7 .ensures) (c .before .before .before .before .before .before .before .pre)
+    (c .nitrogen .result) (c .before .nitrogen-root .result) (A .on) (c .before .before .exp .result) (c .before .before .before .before .pdm6 .result) (c .before .before .before .before .before .pd7 .result)
+    (c .nitrogen .ensures) (c .before .nitrogen-root .ensures) (c .before .before .exp .ensures) (c .before .before .before .before .pdm6 .ensures) (c .before .before .before .before .before .pd7 .ensures) (c .before .before .before .before .before .before .pre)
 
 pub nitrogen-stage-spec : {M : Type 1} → statement M
 nitrogen-stage-spec =
     tie.close
-    (tie.spec (λ c κs. search needs) (λ c κs. search needs) (λ c. search needs) (λ c κs. search needs) (λ c. search needs) (λ c κs. search needs) (λ c. search needs) (λ c. search needs) nitrogen-root-requires (λ c. search needs) nitrogen-requires returns)
+    (tie.spec (λ c κs. search needs) (λ c κs. search needs) (λ c. search needs) (λ c κs. search needs) (λ c. search needs) (λ c. search needs) nitrogen-root-requires nitrogen-requires returns)

@@ -1,10 +1,8 @@
 -- `helium_step` meets its contract.
 use mathlib.Core.Path.{ap}
-use mathlib.Core.Bool.{_&&_}
 use mathlib.Core.List.{List}
-use lib.Ieee.{Float, lt, ne}
+use lib.Ieee.{Float}
 use Rattle.numbers.specs.Arithmetic.{_‼_}
-use Rattle.numbers.specs.Literals.{0·0, 200·0}
 use Rattle.plan.specs.Fields.{setDm04}
 use Rattle.species.specs.declared.Mixture.{Mixture}
 use Rattle.stages.specs.Stages.{heliumPlan}
@@ -19,9 +17,9 @@ helium-stage-requires c κs = c .before .pre
 
 returns : tie.Need-returns
 returns c = let A = c .before .before .before .before .args in
-    species-step (A .l) (heliumPlan (A .t1) (A .h) (A .z) (A .b28) (A .zhm) (A .xmm)) (A .h) (A .z) (pdmT0 ‼ 2) (c .before .before .before .pdm0 .result)
-    (ne (A .t1 ‼ 15) 0·0 && lt (A .z) 200·0) (λ (x : Mixture). setDm04 (x .dm)) (A .s) (c .before .species-sets .result) (c .set-dm04 .result) (c .before .before .helium-stage .result)
-    (helium-sets (A .t1) (A .h) (A .z) (A .b28) (A .zhm) (A .xmm) (A .l)) (c .before .before .helium-stage .ensures) (c .set-dm04 .ensures) (c .before .species-sets .ensures) (ap (λ (m : List Float). m ‼ 2) (c .before .before .before .pdm0 .ensures))
+    species-step (A .l) (heliumPlan (A .sw) (A .h) (A .on) (A .z) (A .b28) (A .zhm) (A .xmm)) (A .h) (A .z) (pdmT0 ‼ 2) (c .before .before .before .pdm0 .result)
+    (A .on) (λ (x : Mixture). setDm04 (x .dm)) (A .s) (c .before .species-sets .result) (c .set-dm04 .result) (c .before .before .helium-stage .result)
+    (helium-sets (A .sw) (A .h) (A .on) (A .z) (A .b28) (A .zhm) (A .xmm) (A .l)) (c .before .before .helium-stage .ensures) (c .set-dm04 .ensures) (c .before .species-sets .ensures) (ap (λ (m : List Float). m ‼ 2) (c .before .before .before .pdm0 .ensures))
 
 pub helium-step-spec : {M : Type 1} → statement M
 helium-step-spec =
@@ -29,7 +27,6 @@ helium-step-spec =
     (tie.spec
     (λ c κs. search needs)
     helium-stage-requires
-    (λ c. search needs)
     (λ c. search needs)
     (λ c κs. search needs)
     (λ c κs. search needs)

@@ -9,7 +9,7 @@ n2-stage-requires c κs = c .before .pre
 
 returns : tie.Need-returns
 returns c = let A = c .before .before .before .before .before .before .args in
-    n2-step-law (A .t1) (A .h) (A .z) (A .zhf) (A .l) (A .s)
+    n2-step-law (A .sw) (A .h) (A .on) (A .z) (A .zhf) (A .xmm) (A .l) (A .s)
     (c .before .before .before .densu-sets .result) (c .before .before .densu-sets2 .result) (c .before .densu-where .result) (c .set-dm28 .result) (c .before .before .before .before .n2-stage .result) (c .before .before .before .before .before .pdm2 .result)
     (c .set-dm28 .ensures) (c .before .densu-where .ensures) (c .before .before .densu-sets2 .ensures) (c .before .before .before .densu-sets .ensures) (c .before .before .before .before .n2-stage .ensures) (c .before .before .before .before .before .pdm2 .ensures)
 
@@ -19,7 +19,6 @@ n2-step-spec =
     (tie.spec
     (λ c κs. search needs)
     n2-stage-requires
-    (λ c. search needs)
     (λ c κs. search needs)
     (λ c. search needs)
     (λ c κs. search needs)

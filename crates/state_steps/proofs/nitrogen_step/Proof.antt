@@ -1,10 +1,8 @@
 -- `nitrogen_step` meets its contract.
 use mathlib.Core.Path.{ap}
-use mathlib.Core.Bool.{_&&_}
 use mathlib.Core.List.{List}
-use lib.Ieee.{Float, le, ne}
+use lib.Ieee.{Float}
 use Rattle.numbers.specs.Arithmetic.{_‼_}
-use Rattle.numbers.specs.Literals.{0·0, 450·0}
 use Rattle.plan.specs.Fields.{setDm14}
 use Rattle.species.specs.declared.Mixture.{Mixture}
 use Rattle.stages.specs.Stages.{nitrogenPlan}
@@ -19,9 +17,9 @@ nitrogen-stage-requires c κs = c .before .pre
 
 returns : tie.Need-returns
 returns c = let A = c .before .before .before .before .args in
-    species-step (A .l) (nitrogenPlan (A .t1) (A .h) (A .z) (A .b28) (A .zhm) (A .xmm)) (A .h) (A .z) (pdmT6 ‼ 2) (c .before .before .before .pdm6 .result)
-    (ne (A .t1 ‼ 15) 0·0 && le (A .z) 450·0) (λ (x : Mixture). setDm14 (x .dm)) (A .s) (c .before .species-sets .result) (c .set-dm14 .result) (c .before .before .nitrogen-stage .result)
-    (nitrogen-sets (A .t1) (A .h) (A .z) (A .b28) (A .zhm) (A .xmm) (A .l)) (c .before .before .nitrogen-stage .ensures) (c .set-dm14 .ensures) (c .before .species-sets .ensures) (ap (λ (m : List Float). m ‼ 2) (c .before .before .before .pdm6 .ensures))
+    species-step (A .l) (nitrogenPlan (A .sw) (A .h) (A .on) (A .z) (A .b28) (A .zhm) (A .xmm)) (A .h) (A .z) (pdmT6 ‼ 2) (c .before .before .before .pdm6 .result)
+    (A .on) (λ (x : Mixture). setDm14 (x .dm)) (A .s) (c .before .species-sets .result) (c .set-dm14 .result) (c .before .before .nitrogen-stage .result)
+    (nitrogen-sets (A .sw) (A .h) (A .on) (A .z) (A .b28) (A .zhm) (A .xmm) (A .l)) (c .before .before .nitrogen-stage .ensures) (c .set-dm14 .ensures) (c .before .species-sets .ensures) (ap (λ (m : List Float). m ‼ 2) (c .before .before .before .pdm6 .ensures))
 
 pub nitrogen-step-spec : {M : Type 1} → statement M
 nitrogen-step-spec =
@@ -29,7 +27,6 @@ nitrogen-step-spec =
     (tie.spec
     (λ c κs. search needs)
     nitrogen-stage-requires
-    (λ c. search needs)
     (λ c. search needs)
     (λ c κs. search needs)
     (λ c κs. search needs)

@@ -1,10 +1,8 @@
 -- `oxygen_step` meets its contract.
 use mathlib.Core.Path.{ap}
-use mathlib.Core.Bool.{_&&_}
 use mathlib.Core.List.{List}
-use lib.Ieee.{Float, le, ne}
+use lib.Ieee.{Float}
 use Rattle.numbers.specs.Arithmetic.{_‼_}
-use Rattle.numbers.specs.Literals.{0·0, 300·0}
 use Rattle.plan.specs.Fields.{setDm16}
 use Rattle.species.specs.declared.Mixture.{Mixture}
 use Rattle.stages.specs.Stages.{oxygenPlan}
@@ -19,9 +17,9 @@ oxygen-stage-requires c κs = c .before .pre
 
 returns : tie.Need-returns
 returns c = let A = c .before .before .before .before .args in
-    species-step (A .l) (oxygenPlan (A .t1) (A .h) (A .z) (A .zhm) (A .xmm) (A .flux)) (A .h) (A .z) (pdmT1 ‼ 2) (c .before .before .before .pdm1 .result)
-    (ne (A .t1 ‼ 15) 0·0 && le (A .z) 300·0) (λ (x : Mixture). setDm16 (x .dm)) (A .s) (c .before .species-sets .result) (c .set-dm16 .result) (c .before .before .oxygen-stage .result)
-    (oxygen-sets (A .t1) (A .h) (A .z) (A .zhm) (A .xmm) (A .flux) (A .l)) (c .before .before .oxygen-stage .ensures) (c .set-dm16 .ensures) (c .before .species-sets .ensures) (ap (λ (m : List Float). m ‼ 2) (c .before .before .before .pdm1 .ensures))
+    species-step (A .l) (oxygenPlan (A .sw) (A .h) (A .on) (A .z) (A .zhm) (A .xmm) (A .flux)) (A .h) (A .z) (pdmT1 ‼ 2) (c .before .before .before .pdm1 .result)
+    (A .on) (λ (x : Mixture). setDm16 (x .dm)) (A .s) (c .before .species-sets .result) (c .set-dm16 .result) (c .before .before .oxygen-stage .result)
+    (oxygen-sets (A .sw) (A .h) (A .on) (A .z) (A .zhm) (A .xmm) (A .flux) (A .l)) (c .before .before .oxygen-stage .ensures) (c .set-dm16 .ensures) (c .before .species-sets .ensures) (ap (λ (m : List Float). m ‼ 2) (c .before .before .before .pdm1 .ensures))
 
 pub oxygen-step-spec : {M : Type 1} → statement M
 oxygen-step-spec =
@@ -29,7 +27,6 @@ oxygen-step-spec =
     (tie.spec
     (λ c κs. search needs)
     oxygen-stage-requires
-    (λ c. search needs)
     (λ c. search needs)
     (λ c κs. search needs)
     (λ c κs. search needs)

@@ -1,67 +1,47 @@
 -- `species_stage` meets its contract.
 use mathlib.Core.Path.{refl}
-use mathlib.Core.Bool.{_&&_}
-use lib.Ieee.{lt, le, ne}
 use Rattle.numbers.specs.Arithmetic.{_‼_}
-use Rattle.numbers.specs.Literals.{0·0, 200·0, 320·0}
-use Rattle.species.specs.Places.{mixesAt}
+use Rattle.mixing.specs.Limits.{oxygensMixed, someMixed}
+use Rattle.mixing.proofs.Some.{o-there, o2-there, ar-there, n-there, four-some, he-some, h-some}
 use Rattle.tables.specs.Tables.{pdmT0, pdmT1, pdmT3, pdmT4, pdmT5, pdmT6}
 use Rattle.thermosphere.proofs.Laws.{species-law, stage-ready, o2-too, argon-too, nitrogen-too}
 use borrow.Author.Needs.{needs}
 use Rattle.thermosphere.proofs.species_stage.Statement.{statement}
 use Rattle.thermosphere.proofs.species_stage.Tie as tie
 
-pdm2-requires : tie.Need-pdm2-requires
-pdm2-requires c κs = search needs
-
-pdl1-requires : tie.Need-pdl1-requires
-pdl1-requires c κs = search needs
-
-array-read-zhm : tie.Need-array-read-zhm
-array-read-zhm c = search needs
-
-array-read-zhm-2 : tie.Need-array-read-zhm-2
-array-read-zhm-2 c = search needs
-
-array-read-xmm : tie.Need-array-read-xmm
-array-read-xmm c = search needs
-
-turbopauses-of-requires : tie.Need-turbopauses-of-requires
-turbopauses-of-requires c κs = c .before .before .pre .0
-
 helium-stage-requires : tie.Need-helium-stage-requires
 helium-stage-requires c κs = let A = (c .before .before .before .before .before .before .args) in
-    stage-ready (A .h) (A .z) (A .p) (c .before .before .before .turbopauses-of .result .he) (A .t) (ne (A .sw ‼ 15) 0·0 && lt (A .z) 200·0) (mixesAt (A .sw ‼ 15) (A .z)) (pdmT0 ‼ 2) (pdmT0 ‼ 2) _
-    (c .before .before .before .before .before .before .pre .1) (c .before .before .before .turbopauses-of .ensures .0) refl (c .before .before .before .before .before .before .pre .2) (c .before .before .before .before .before .pdm2 .ensures)
+    stage-ready (A .h) (A .z) (A .p) (c .before .before .before .turbopauses-of .result .he) (A .t) (A .m .he) (A .m .he) (someMixed (A .m)) (pdmT0 ‼ 2) (pdmT0 ‼ 2) (A .xmm)
+    (λ o. o) (he-some (A .m)) (c .before .before .before .before .before .before .pre .1) (c .before .before .before .turbopauses-of .ensures .0) refl (c .before .before .before .before .before .before .pre .2)
 
 oxygen-stage-requires : tie.Need-oxygen-stage-requires
 oxygen-stage-requires c κs = let A = (c .before .before .before .before .before .before .before .args) in
-    stage-ready (A .h) (A .z) (A .p) (c .before .before .before .before .turbopauses-of .result .o) (A .t) (mixesAt (A .sw ‼ 15) (A .z)) (mixesAt (A .sw ‼ 15) (A .z)) (pdmT1 ‼ 2) (pdmT1 ‼ 2) _
-    (c .before .before .before .before .before .before .before .pre .1) (c .before .before .before .before .turbopauses-of .ensures .1) refl (c .before .before .before .before .before .before .before .pre .2) (c .before .before .before .before .before .before .pdm2 .ensures)
+    stage-ready (A .h) (A .z) (A .p) (c .before .before .before .before .turbopauses-of .result .o) (A .t) (A .m .o) (oxygensMixed (A .m)) (someMixed (A .m)) (pdmT1 ‼ 2) (pdmT1 ‼ 2) (A .xmm)
+    (o-there (A .m)) (λ o. four-some (A .m) (o-there (A .m) o)) (c .before .before .before .before .before .before .before .pre .1) (c .before .before .before .before .turbopauses-of .ensures .1) refl (c .before .before .before .before .before .before .before .pre .2)
 
 o2-stage-requires : tie.Need-o2-stage-requires
 o2-stage-requires c κs = let A = (c .before .before .before .before .before .before .before .before .args) in
-    stage-ready (A .h) (A .z) (A .p) (c .before .before .before .before .before .turbopauses-of .result .o) (A .t) (mixesAt (A .sw ‼ 15) (A .z)) (mixesAt (A .sw ‼ 15) (A .z)) (pdmT1 ‼ 2) (pdmT3 ‼ 2) _
-    (c .before .before .before .before .before .before .before .before .pre .1) (c .before .before .before .before .before .turbopauses-of .ensures .1) o2-too (c .before .before .before .before .before .before .before .before .pre .2) (c .before .before .before .before .before .before .before .pdm2 .ensures)
+    stage-ready (A .h) (A .z) (A .p) (c .before .before .before .before .before .turbopauses-of .result .o) (A .t) (A .m .o2) (oxygensMixed (A .m)) (someMixed (A .m)) (pdmT1 ‼ 2) (pdmT3 ‼ 2) (A .xmm)
+    (o2-there (A .m)) (λ o. four-some (A .m) (o2-there (A .m) o)) (c .before .before .before .before .before .before .before .before .pre .1) (c .before .before .before .before .before .turbopauses-of .ensures .1) o2-too (c .before .before .before .before .before .before .before .before .pre .2)
 
 argon-stage-requires : tie.Need-argon-stage-requires
 argon-stage-requires c κs = let A = (c .before .before .before .before .before .before .before .before .before .args) in
-    stage-ready (A .h) (A .z) (A .p) (c .before .before .before .before .before .before .turbopauses-of .result .o) (A .t) (mixesAt (A .sw ‼ 15) (A .z)) (mixesAt (A .sw ‼ 15) (A .z)) (pdmT1 ‼ 2) (pdmT4 ‼ 2) _
-    (c .before .before .before .before .before .before .before .before .before .pre .1) (c .before .before .before .before .before .before .turbopauses-of .ensures .1) argon-too (c .before .before .before .before .before .before .before .before .before .pre .2) (c .before .before .before .before .before .before .before .before .pdm2 .ensures)
+    stage-ready (A .h) (A .z) (A .p) (c .before .before .before .before .before .before .turbopauses-of .result .o) (A .t) (A .m .ar) (oxygensMixed (A .m)) (someMixed (A .m)) (pdmT1 ‼ 2) (pdmT4 ‼ 2) (A .xmm)
+    (ar-there (A .m)) (λ o. four-some (A .m) (ar-there (A .m) o)) (c .before .before .before .before .before .before .before .before .before .pre .1) (c .before .before .before .before .before .before .turbopauses-of .ensures .1) argon-too (c .before .before .before .before .before .before .before .before .before .pre .2)
 
 hydrogen-stage-requires : tie.Need-hydrogen-stage-requires
 hydrogen-stage-requires c κs = let A = (c .before .before .before .before .before .before .before .before .before .before .args) in
-    stage-ready (A .h) (A .z) (A .p) (c .before .before .before .before .before .before .before .turbopauses-of .result .h) (A .t) (ne (A .sw ‼ 15) 0·0 && le (A .z) 320·0) (mixesAt (A .sw ‼ 15) (A .z)) (pdmT5 ‼ 2) (pdmT5 ‼ 2) _
-    (c .before .before .before .before .before .before .before .before .before .before .pre .1) (c .before .before .before .before .before .before .before .turbopauses-of .ensures .2) refl (c .before .before .before .before .before .before .before .before .before .before .pre .2) (c .before .before .before .before .before .before .before .before .before .pdm2 .ensures)
+    stage-ready (A .h) (A .z) (A .p) (c .before .before .before .before .before .before .before .turbopauses-of .result .h) (A .t) (A .m .h) (A .m .h) (someMixed (A .m)) (pdmT5 ‼ 2) (pdmT5 ‼ 2) (A .xmm)
+    (λ o. o) (h-some (A .m)) (c .before .before .before .before .before .before .before .before .before .before .pre .1) (c .before .before .before .before .before .before .before .turbopauses-of .ensures .2) refl (c .before .before .before .before .before .before .before .before .before .before .pre .2)
 
 nitrogen-stage-requires : tie.Need-nitrogen-stage-requires
 nitrogen-stage-requires c κs = let A = (c .before .before .before .before .before .before .before .before .before .before .before .args) in
-    stage-ready (A .h) (A .z) (A .p) (c .before .before .before .before .before .before .before .before .turbopauses-of .result .o) (A .t) (mixesAt (A .sw ‼ 15) (A .z)) (mixesAt (A .sw ‼ 15) (A .z)) (pdmT1 ‼ 2) (pdmT6 ‼ 2) _
-    (c .before .before .before .before .before .before .before .before .before .before .before .pre .1) (c .before .before .before .before .before .before .before .before .turbopauses-of .ensures .1) nitrogen-too (c .before .before .before .before .before .before .before .before .before .before .before .pre .2) (c .before .before .before .before .before .before .before .before .before .before .pdm2 .ensures)
+    stage-ready (A .h) (A .z) (A .p) (c .before .before .before .before .before .before .before .before .turbopauses-of .result .o) (A .t) (A .m .n) (oxygensMixed (A .m)) (someMixed (A .m)) (pdmT1 ‼ 2) (pdmT6 ‼ 2) (A .xmm)
+    (n-there (A .m)) (λ o. four-some (A .m) (n-there (A .m) o)) (c .before .before .before .before .before .before .before .before .before .before .before .pre .1) (c .before .before .before .before .before .before .before .before .turbopauses-of .ensures .1) nitrogen-too (c .before .before .before .before .before .before .before .before .before .before .before .pre .2)
 
 returns : tie.Need-returns
 returns c = let A = (c .before .before .before .before .before .before .before .before .before .before .before .before .args) in
-    species-law (A .sw) (A .h) (A .z) (A .b28) (A .flux) (A .l)
+    species-law (A .sw) (A .h) (A .m) (A .z) (A .b28) (A .flux) (A .xmm) (A .l)
     (c .nitrogen-stage .result)
     (c .before .hydrogen-stage .result)
     (c .before .before .argon-stage .result)
@@ -82,17 +62,5 @@ returns c = let A = (c .before .before .before .before .before .before .before .
 pub species-stage-spec : {M : Type 1} → statement M
 species-stage-spec =
     tie.close
-    (tie.spec
-    pdm2-requires
-    pdl1-requires
-    array-read-zhm
-    array-read-zhm-2
-    array-read-xmm
-    turbopauses-of-requires
-    helium-stage-requires
-    oxygen-stage-requires
-    o2-stage-requires
-    argon-stage-requires
-    hydrogen-stage-requires
-    nitrogen-stage-requires
-    returns)
+    (tie.spec (λ c κs. search needs) (λ c κs. search needs) (λ c. search needs) (λ c. search needs) (λ c κs. c .before .before .pre .0)
+    helium-stage-requires oxygen-stage-requires o2-stage-requires argon-stage-requires hydrogen-stage-requires nitrogen-stage-requires returns)

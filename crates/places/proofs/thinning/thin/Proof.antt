@@ -30,15 +30,15 @@ pick-requires-2 : tie.Need-pick-requires-2
 pick-requires-2 c κs = search needs
 
 pow-with-requires-2 : tie.Need-pow-with-requires-2
-pow-with-requires-2 c κs = let w = (c .before .before .before .before .before .before .before .before .before .before .before .before .before .before .before .before .before .args .w) in
-    chosen (w .under) (w .l1) (logOf (w .r1)) 0·0 (c .before .before .before .before .before .before .before .before .before .before .before .before .before .before .before .before .before .pre .1) (c .before .before .before .before .before .before .if1 .left)
+pow-with-requires-2 c κs = let w = (c .before .before .before .before .before .before .before .before .before .before .before .before .before .before .before .before .before .before .args .w) in
+    chosen (w .under) (w .l1) (logOf (w .r1)) 0·0 (c .before .before .before .before .before .before .before .before .before .before .before .before .before .before .before .before .before .before .pre .1) (c .before .before .before .before .before .before .before .if1 .left)
 
 exp-requires-2 : tie.Need-exp-requires-2
 exp-requires-2 c κs = search needs
 
 returns-2 : tie.Need-returns-2
 unfolding thinningOf
-returns-2 c = simp (← c .exp2 .ensures, ← c .before .pow-with2 .ensures, ← c .before .before .pick2 .ensures, ← c .before .before .before .before .capped2 .ensures, ← c .before .before .before .before .before .before .before .before .before .before .pow-with .ensures, ← c .before .before .before .before .before .before .before .before .before .before .before .pick .ensures, ← c .before .before .before .before .before .before .before .before .before .before .before .before .before .capped .ensures, ← c .before .before .before .before .before .before .before .before .before .before .before .before .before .before .exp .ensures) (simp (c .before .before .before .before .before .before .before .before .if1 .left))
+returns-2 c = simp (← c .exp2 .ensures, ← c .before .pow-with2 .ensures, ← c .before .before .pick2 .ensures, ← c .before .before .before .before .capped2 .ensures, ← c .before .before .before .before .before .before .before .before .before .before .before .pow-with .ensures, ← c .before .before .before .before .before .before .before .before .before .before .before .before .pick .ensures, ← c .before .before .before .before .before .before .before .before .before .before .before .before .before .before .capped .ensures, ← c .before .before .before .before .before .before .before .before .before .before .before .before .before .before .before .exp .ensures) (simp (c .before .before .before .before .before .before .before .before .before .if1 .left))
 
 pub thin-spec : {M : Type 1} → statement M
 thin-spec =

@@ -1,0 +1,2 @@
+-- Laws about where species are mixed.
+pub mod Some
