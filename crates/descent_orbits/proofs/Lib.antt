@@ -1,0 +1,2 @@
+-- What the proofs of this crate, and of the one over it, share.
+pub mod Laws

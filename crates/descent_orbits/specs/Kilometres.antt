@@ -1,0 +1,1 @@
+-- Altitudes in km.
