@@ -22,7 +22,7 @@ use Rattle.acceptance.specs.declared.Answer.the-variants.{Accepted, Refused}
 use Rattle.descent_orbits.specs.declared.Orbit.{Orbit}
 use Rattle.descent_orbits.specs.declared.End.{End}
 use Rattle.descent_orbits.specs.Lent.{endNumbers}
-use Rattle.descent_orbits.specs.DescentOrbits.{wholePart, noDensityOf, orbitOf, withinOf, startWithin, millimetresOf, settingWithin, unfitFrom, unfitOf, descentRefusal}
+use Rattle.descent_orbits.specs.DescentOrbits.{wholePart, noDensityOf, afterOf, orbitOf, withinOf, startWithin, millimetresOf, settingWithin, unfitFrom, unfitOf, descentRefusal}
 
 -- ---- ranges; x is the number as the machine reads it
 
@@ -120,20 +120,20 @@ whole-fits (fin false m e) h =
 
 -- ---- an orbit
 
--- y is the product as it was worked out
-module _ (a : ℕ) (y x : Float) (p : y ≡ x) (t : Bool) (e : t ≡ noDensityOf y) where
-  pub thin : t ≡ true → _≡_ {A = Orbit} (record { ending = 1; last = a; loss = 0 }) (orbitOf a x)
+-- y is the product as it was worked out, o what was answered
+module _ (a : ℕ) (y x : Float) (p : y ≡ x) (t : Bool) (e : t ≡ noDensityOf y) (o : Orbit) where
+  pub thin : t ≡ true → o ≡ afterOf 1 a 0 → o ≡ orbitOf a x
   unfolding orbitOf
-  thin h = rw (← p) (simp (← e) (simp h))
+  thin h q = q ∙ rw (← p) (simp (← e) (simp h))
 
   module _ (f : t ≡ false) (l : ℕ) (g : l ≡ wholePart y) where
-    pub arrives : a < 200000000 + l → _≡_ {A = Orbit} (record { ending = 2; last = a; loss = 0 }) (orbitOf a x)
+    pub arrives : a < 200000000 + l → o ≡ afterOf 2 a 0 → o ≡ orbitOf a x
     unfolding orbitOf
-    arrives h = rw (← p, ← g) (simp (← e, lt-ltb _ _ h) (simp f))
+    arrives h q = q ∙ rw (← p, ← g) (simp (← e, lt-ltb _ _ h) (simp f))
 
-    pub sinks : 200000000 + l ≤ a → _≡_ {A = Orbit} (record { ending = 0; last = a - l; loss = l }) (orbitOf a x)
+    pub sinks : 200000000 + l ≤ a → o ≡ afterOf 0 a l → o ≡ orbitOf a x
     unfolding orbitOf
-    sinks h = rw (← p, ← g) (simp (← e, le-ltb _ _ h) (simp f))
+    sinks h q = q ∙ rw (← p, ← g) (simp (← e, le-ltb _ _ h) (simp f))
 
 -- ---- the settings
 

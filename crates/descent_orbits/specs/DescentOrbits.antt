@@ -52,13 +52,17 @@ reached = 2
 abbrev pub spent : ℕ
 spent = 3
 
+-- what an orbit leaves that takes a loss of l millimetres at a
+abbrev pub afterOf : ℕ → ℕ → ℕ → Orbit
+afterOf e a l = record { ending = e; last = a - l; loss = l }
+
 -- the orbit at a millimetres with the product x: 'no density when the product is negative, NaN or above 1E9; else as reached when the loss would take
 -- it below 200 km, without taking that loss'
 unfoldable pub orbitOf : ℕ → Float → Orbit
 orbitOf a x =
-    cond (noDensityOf x) (record { ending = noDensity; last = a; loss = 0 })
-    (cond (ltb a (lowest + wholePart x)) (record { ending = reached; last = a; loss = 0 })
-    (record { ending = onward; last = a - wholePart x; loss = wholePart x }))
+    cond (noDensityOf x) (afterOf noDensity a 0)
+    (cond (ltb a (lowest + wholePart x)) (afterOf reached a 0)
+    (afterOf onward a (wholePart x)))
 
 -- ---- the descent
 

@@ -15,14 +15,14 @@ use Rattle.acceptance.specs.declared.Answer.{Answer}
 use Rattle.acceptance.specs.declared.Answer.the-variants.{Accepted, Refused}
 use Rattle.acceptance.specs.Acceptance.{acceptedOf}
 use Rattle.descent_orbits.specs.declared.Orbit.{Orbit}
-use Rattle.descent_orbits.specs.DescentOrbits.{lowest, highest, productOf, noDensityOf, wholePart, spent, orbitOf, Descent, ended, lost, descentFrom, startWithin, unfitOf, descentRefusal}
+use Rattle.descent_orbits.specs.DescentOrbits.{lowest, highest, productOf, noDensityOf, wholePart, onward, noDensity, reached, spent, afterOf, orbitOf, Descent, ended, lost, descentFrom, startWithin, unfitOf, descentRefusal}
 
 -- ---- an orbit
 
 -- the orbit at a with the loss l, by the two tests
 abbrev chosen : ℕ → ℕ → Bool → Bool → Orbit
 chosen a l thin low =
-    cond thin (record { ending = 1; last = a; loss = 0 }) (cond low (record { ending = 2; last = a; loss = 0 }) (record { ending = 0; last = a - l; loss = l }))
+    cond thin (afterOf noDensity a 0) (cond low (afterOf reached a 0) (afterOf onward a l))
 
 -- an orbit that goes on takes its loss and stays at or above 200 km
 taken : (a l : ℕ) (thin low : Bool) → ltb a (lowest + l) ≡ low → eqb ((chosen a l thin low) .ending) 0 ≡ true
@@ -33,8 +33,8 @@ taken a l false false e f = let h = ltb-false a (lowest + l) e in (omega (arith,
 
 -- one that ends the descent stays where it is, and is not the spent one
 stays : (a l : ℕ) (thin low : Bool) → eqb ((chosen a l thin low) .ending) 0 ≡ false → ((chosen a l thin low) .last ≡ a) × ((chosen a l thin low) .ending ≤ 2)
-stays a l true low f = (refl, omega arith)
-stays a l false true f = (refl, omega arith)
+stays a l true low f = (omega arith, omega arith)
+stays a l false true f = (omega arith, omega arith)
 stays a l false false f = absurd (true≢false f)
 
 module _ (a : ℕ) (x : Float) where

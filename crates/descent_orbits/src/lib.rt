@@ -4,7 +4,7 @@ ghost use mathlib.Core.Bool.{true, false};
 ghost use Prim.Native.Nat.{_≤_, _<_};
 ghost use lib.IntN.{pos};
 ghost use lib.ListN.{length, set};
-ghost use Rattle.descent_orbits.specs.DescentOrbits.{wholePart, productOf, noDensityOf, orbitOf, kilometresOf, startWithin, millimetresOf, settingWithin, unfitOf, descentRefusal};
+ghost use Rattle.descent_orbits.specs.DescentOrbits.{wholePart, productOf, noDensityOf, afterOf, orbitOf, kilometresOf, startWithin, millimetresOf, settingWithin, unfitOf, descentRefusal};
 ghost use Rattle.descent_orbits.specs.Lent.{endNumbers};
 use acceptance::Answer;
 use fixed_point::scaled;
@@ -54,31 +54,31 @@ pub fn whole_part(x: f64) -> u64
     scaled(x, 0)
 }
 
+// What an orbit leaves with a loss taken at an altitude of a millimetres.
+pub fn after(ending: u64, a: u64, loss: u64) -> Orbit
+    requires { ⌜ loss ≤ a ⌝ }
+    ensures { λ r. ⌜ r ≡ afterOf ending a loss ⌝ }
+{
+    Orbit {
+        ending: ending,
+        last: a - loss,
+        loss: loss,
+    }
+}
+
 // The orbit at an altitude of a millimetres, from d[5] there and its setting.
 pub fn orbit_at(a: u64, d: f64, s: i32) -> Orbit
     ensures { λ r. ⌜ r ≡ orbitOf a (productOf d s) ⌝ }
 {
     let x = product(d, s);
     if no_density(x) {
-        return Orbit {
-            ending: 1,
-            last: a,
-            loss: 0,
-        };
+        return after(1, a, 0);
     }
     let loss = whole_part(x);
     if a < 200000000 + loss {
-        return Orbit {
-            ending: 2,
-            last: a,
-            loss: 0,
-        };
+        return after(2, a, 0);
     }
-    Orbit {
-        ending: 0,
-        last: a - loss,
-        loss: loss,
-    }
+    after(0, a, loss)
 }
 
 // ---- the refusals
@@ -119,7 +119,7 @@ pub fn setting_within(s: i32) -> bool
 
 // The index of the first setting outside 1 to 4, or how many there are.
 pub fn unfit(settings: &[i32]) -> usize
-    ensures { λ r. ⌜ r ≡ unfitOf (now (settings .entry)) ⌝ }
+    ensures { λ r. ⌜ (r ≡ unfitOf (now (settings .entry))) × (r ≤ length (now (settings .entry))) ⌝ }
 {
     let mut i: usize = 0;
     while i < settings.len() {
@@ -141,8 +141,9 @@ pub fn refusal(start: i64, settings: &[i32], room: usize) -> Answer
     }
     let count = settings.len();
     let k = unfit(settings);
+    let orbit = k + 1;
     if k < count {
-        return Answer::Refused(18, k + 1);
+        return Answer::Refused(18, orbit);
     }
     if 10000 < count {
         return Answer::Refused(19, 10000);

@@ -16,7 +16,7 @@ returns-2 c =
     let test = c .before .before in
     let A = test .before .before .args in
     ill-set (A .start) (A .settings .now) (A .room) _ (toZ-ofZ {w = w64} {z = A .start} (search needs)) _ (test .before .start-within .ensures) (test .if1 .left) _
-    (c .before .unfit .ensures) (c .if2 .taken)
+    (c .before .unfit .ensures .0) (c .if2 .taken)
 
 returns-3 : tie.Need-returns-3
 returns-3 c =
@@ -24,7 +24,7 @@ returns-3 c =
     let test = k .before .before in
     let A = test .before .before .args in
     too-many (A .start) (A .settings .now) (A .room) _ (toZ-ofZ {w = w64} {z = A .start} (search needs)) _ (test .before .start-within .ensures) (test .if1 .left) _
-    (k .before .unfit .ensures) (k .if2 .left) (c .if3 .taken)
+    (k .before .unfit .ensures .0) (k .if2 .left) (c .if3 .taken)
 
 returns-4 : tie.Need-returns-4
 returns-4 c =
@@ -32,7 +32,7 @@ returns-4 c =
     let test = k .before .before in
     let A = test .before .before .args in
     no-room (A .start) (A .settings .now) (A .room) _ (toZ-ofZ {w = w64} {z = A .start} (search needs)) _ (test .before .start-within .ensures) (test .if1 .left) _
-    (k .before .unfit .ensures) (k .if2 .left) (c .before .if3 .left) (c .if4 .taken)
+    (k .before .unfit .ensures .0) (k .if2 .left) (c .before .if3 .left) (c .if4 .taken)
 
 returns-5 : tie.Need-returns-5
 returns-5 c =
@@ -40,7 +40,7 @@ returns-5 c =
     let test = k .before .before in
     let A = test .before .before .args in
     all-well (A .start) (A .settings .now) (A .room) _ (toZ-ofZ {w = w64} {z = A .start} (search needs)) _ (test .before .start-within .ensures) (test .if1 .left) _
-    (k .before .unfit .ensures) (k .if2 .left) (c .before .if3 .left) (c .if4 .left)
+    (k .before .unfit .ensures .0) (k .if2 .left) (c .before .if3 .left) (c .if4 .left)
 
 pub refusal-spec : {M : Type 1} → statement M
 refusal-spec =

@@ -28,7 +28,7 @@ returns c =
     let at = test .before .loop in
     let S = test .before .before .args .settings .now in
     let e = within .ensures ∙ ap settingWithin (toZ-ofZ {w = w32} {z = getD S (at .i) (pos 0)} (search needs)) in
-    unfit-here S (at .i) (within .result) (test .loop-test .taken) e (c .if1 .taken) ∙ at .inv .1
+    (unfit-here S (at .i) (within .result) (test .loop-test .taken) e (c .if1 .taken) ∙ at .inv .1, at .inv .0)
 
 loop-again : tie.Need-loop-again Inv-loop μ-loop
 loop-again c =
@@ -42,7 +42,7 @@ loop-again c =
 returns-2 : tie.Need-returns-2 Inv-loop μ-loop
 returns-2 c =
     let at = c .before .loop in
-    all-fit _ _ (omega arith) ∙ at .inv .1
+    (all-fit _ _ (omega arith) ∙ at .inv .1, at .inv .0)
 
 pub unfit-spec : {M : Type 1} → statement M
 unfit-spec =
