@@ -4,7 +4,7 @@ use mathlib.Core.Path.{_≡_, refl, sym, ap, _∙_}
 use mathlib.Core.Bool.{Bool, true, false, cond, not, false≢true}
 use mathlib.Core.List.{List}
 use native.Mathlib.Omega.{arith}
-use borrow.Author.Tests.{eq-eqb, ne-eqb}
+use borrow.Author.Tests.{eq-eqb, ne-eqb, not-false}
 use lib.IntN.{ℤ, pos}
 use lib.ListN.{length, replicate}
 use lib.Ieee.{Float}
@@ -101,11 +101,12 @@ passed : (a b : Answer) → acceptedOf (cond (not (acceptedOf a)) a b) ≡ true 
 passed Accepted b e = (refl, e)
 passed (Refused n k) b e = absurd (false≢true e)
 
-pub checked-passed : (w : List ℤ) (n : Input) (start : ℤ) (ss : List ℤ) (room : ℕ) → acceptedOf (checkedOf w n start ss room) ≡ true
+-- v says whether the answer a of the checks is accepted
+pub checked-passed : (w : List ℤ) (n : Input) (start : ℤ) (ss : List ℤ) (room : ℕ) (a : Answer) (v : Bool) → a ≡ checkedOf w n start ss room → v ≡ acceptedOf a → not v ≡ false
     → (judgedOf w (withAltOf n 0·0) ≡ Accepted) × Met start ss room
 unfolding checkedOf
-checked-passed w n start ss room h =
-    let p = passed (judgedOf w (withAltOf n 0·0)) (descentRefusal start ss room) h in
+checked-passed w n start ss room a v e f t =
+    let p = passed (judgedOf w (withAltOf n 0·0)) (descentRefusal start ss room) (sym (ap acceptedOf e) ∙ (sym f ∙ not-false v t)) in
     (p .0, accepted-met start ss room (p .1))
 
 -- the three numbers fit their places

@@ -25,7 +25,7 @@ use Rattle.descent.specs.Descent.{unitRow, densityAt, descentOf, checked
 -- ---- the descent
 
 module _ (w : List ℤ) (n : Input) (a : ℕ) (ss : List ℤ) where
-  r : Descent
+  abbrev r : Descent
   r = descentOf w n (pos a) ss
 
   -- 'Start minus end equals the sum of the losses listed', and it never ends above its start

@@ -4,7 +4,6 @@ use mir.Syntax.{w64}
 use mir.Facts.{toZ-ofZ}
 use borrow.Author.Needs.{needs}
 use borrow.Author.Tests.{not-true, not-false}
-use Rattle.station.proofs.Laws.{verdict}
 use Rattle.descent.proofs.Laws.{checked-passed, end-fits, no-three, refused, answered}
 use Rattle.descent.proofs.descent.Statement.{statement}
 use Rattle.descent.proofs.descent.Tie as tie
@@ -28,7 +27,7 @@ flown-requires : tie.Need-flown-requires
 flown-requires c κs =
     let accepted = c .before .before in
     let checked = accepted .before in
-    let p = checked-passed _ _ _ _ _ (verdict (checked .checked .ensures) (accepted .accepted .ensures) (not-false _ (c .before .if2 .left))) in
+    let p = checked-passed _ _ _ _ _ _ _ (checked .checked .ensures) (accepted .accepted .ensures) (c .before .if2 .left) in
     (p .0, p .1 .within, p .1 .fits)
 
 put-end-requires : tie.Need-put-end-requires
@@ -37,7 +36,7 @@ put-end-requires c κs =
     let accepted = flown .before .before .before in
     let checked = accepted .before in
     let row = checked .before in
-    let p = checked-passed _ _ _ _ _ (verdict (checked .checked .ensures) (accepted .accepted .ensures) (not-false _ (flown .before .before .if2 .left))) in
+    let p = checked-passed _ _ _ _ _ _ _ (checked .checked .ensures) (accepted .accepted .ensures) (flown .before .before .if2 .left) in
     let e = end-fits _ _ _ _ _ (p .1) (flown .flown .ensures .0) in
     (row .before .if1 .left, e .0, e .1, e .2)
 
