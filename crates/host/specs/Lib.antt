@@ -3,3 +3,4 @@ pub mod Host
 pub mod Crossings
 pub mod Bands
 pub mod Boards
+pub mod Descents

@@ -1,7 +1,8 @@
 // What the host links: the elementary functions, the one-altitude call, also for drag and in bands of switch rows, the column, where its density passes a
-// level, the station and the boards' logs, on numbers and slices.
+// level, the station, a descent and the boards' logs, on numbers and slices.
 pub mod banded;
 pub mod boards;
+pub mod descents;
 pub mod listing;
 pub mod stations;
 
