@@ -1,5 +1,5 @@
--- What holds of every descent: start minus end is the sum of the losses, it never rises and never falls below 200 km, it can be flown in two parts; and
--- what an accepted call's start, settings and list are.
+-- What holds of every descent: start minus end is the sum of the losses, it never rises and never falls below 200 km, it can be flown in two parts; 18's
+-- place; and what an accepted call's start, settings and list are.
 use Prim.Native.Nat.{ℕ, zero, suc, _+_, _-_, _<_, _≤_}
 use mathlib.Core.Path.{_≡_, refl, sym, ap, ap₂, _∙_, subst}
 use mathlib.Core.Bool.{Bool, true, false, cond, not, true≢false, false≢true}
@@ -8,14 +8,14 @@ use native.Mathlib.Nat.{le-refl, le-trans}
 use native.Mathlib.Omega.{arith}
 use borrow.Author.Tests.{ltb-false, eq-eqb, ne-eqb}
 use lib.Dec.{eqb, ltb}
-use lib.IntN.{ℤ}
-use lib.ListN.{length, length-append}
+use lib.IntN.{ℤ, pos}
+use lib.ListN.{length, getD}
 use lib.Ieee.{Float}
 use Rattle.acceptance.specs.declared.Answer.{Answer}
 use Rattle.acceptance.specs.declared.Answer.the-variants.{Accepted, Refused}
 use Rattle.acceptance.specs.Acceptance.{acceptedOf}
 use Rattle.descent_orbits.specs.declared.Orbit.{Orbit}
-use Rattle.descent_orbits.specs.DescentOrbits.{lowest, highest, productOf, noDensityOf, wholePart, onward, noDensity, reached, spent, afterOf, orbitOf, Descent, ended, lost, descentFrom, startWithin, unfitOf, descentRefusal}
+use Rattle.descent_orbits.specs.DescentOrbits.{lowest, highest, productOf, noDensityOf, wholePart, onward, noDensity, reached, spent, afterOf, orbitOf, Descent, ended, lost, descentFrom, startWithin, settingWithin, unfitFrom, unfitOf, descentRefusal}
 
 -- ---- an orbit
 
@@ -198,6 +198,53 @@ none false n k x e = (refl, e)
 positive : (b : Bool) → not b ≡ false → b ≡ true
 positive true e = refl
 positive false e = absurd (true≢false e)
+
+-- the settings from the i-th on, u the index that is found among them
+abbrev Before : ℕ → List ℤ → ℕ → Type 0
+Before i ss u = (k : ℕ) → i + k < u → settingWithin (getD ss k (pos 0)) ≡ true
+
+abbrev There : ℕ → List ℤ → ℕ → Type 0
+There i ss u = u < i + length ss → settingWithin (getD ss (u - i) (pos 0)) ≡ false
+
+first-from : (ss : List ℤ) (i : ℕ) → (i ≤ unfitFrom i ss) × Before i ss (unfitFrom i ss) × There i ss (unfitFrom i ss)
+unfolding unfitFrom
+first-from [] i = (le-refl i, (λ k h. absurd (no k h)), (λ h. absurd (over h)))
+  where
+    no : (k : ℕ) → i + k < i → ⊥
+    no k h = omega arith
+
+    over : i < i + 0 → ⊥
+    over h = omega arith
+first-from (s ∷ ss) i = go (settingWithin s) refl (first-from ss (i + 1))
+  where
+    go : (b : Bool) → settingWithin s ≡ b → (i + 1 ≤ unfitFrom (i + 1) ss) × Before (i + 1) ss (unfitFrom (i + 1) ss) × There (i + 1) ss (unfitFrom (i + 1) ss)
+        → (i ≤ cond (not b) i (unfitFrom (i + 1) ss)) × Before i (s ∷ ss) (cond (not b) i (unfitFrom (i + 1) ss)) × There i (s ∷ ss) (cond (not b) i (unfitFrom (i + 1) ss))
+    go true e r = (omega (arith, r .0), earlier, there)
+      where
+        earlier : Before i (s ∷ ss) (unfitFrom (i + 1) ss)
+        earlier zero h = e
+        earlier (suc k) h = r .1 k (omega arith)
+
+        there : There i (s ∷ ss) (unfitFrom (i + 1) ss)
+        there h =
+            let m : unfitFrom (i + 1) ss - i ≡ suc (unfitFrom (i + 1) ss - (i + 1)) = omega (arith, r .0) in
+            rw m (r .2 (omega arith))
+    go false e r = (le-refl i, (λ k h. absurd (no k h)), (λ h. rw zeroed e))
+      where
+        no : (k : ℕ) → i + k < i → ⊥
+        no k h = omega arith
+
+        zeroed : i - i ≡ 0
+        zeroed = omega arith
+
+-- 18's place, less one: every setting before it is from 1 to 4, and the one there is not.
+pub before-unfit : (ss : List ℤ) (k : ℕ) → k < unfitOf ss → settingWithin (getD ss k (pos 0)) ≡ true
+before-unfit ss k h = first-from ss 0 .1 k (omega arith)
+
+pub first-unfit : (ss : List ℤ) → unfitOf ss < length ss → settingWithin (getD ss (unfitOf ss) (pos 0)) ≡ false
+first-unfit ss h =
+    let z : unfitOf ss - 0 ≡ unfitOf ss = omega arith in
+    rw z at (first-from ss 0 .2 (omega arith))
 
 -- what is met by no refusal of the descent's own
 pub record Met (start : ℤ) (ss : List ℤ) (room : ℕ) : Type 0 where
