@@ -5,7 +5,7 @@ use mathlib.Core.Bool.{Bool, true, false, cond, not, false≢true}
 use mathlib.Core.List.{List}
 use native.Mathlib.Omega.{arith}
 use borrow.Author.Tests.{eq-eqb, ne-eqb, not-false}
-use lib.IntN.{ℤ, pos}
+use lib.IntN.{ℤ}
 use lib.ListN.{length, replicate}
 use lib.Ieee.{Float}
 use Rattle.numbers.specs.Arithmetic.{_‼_}
@@ -25,7 +25,7 @@ use Rattle.descent_orbits.specs.DescentOrbits.{lowest, highest, productOf, orbi
 use Rattle.descent_orbits.specs.Lent.{endOf, endNumbers, lossesAfter}
 use Rattle.descent_orbits.specs.Kilometres.{km-finite, km-within, km-mixed}
 use Rattle.descent_orbits.specs.Theorems.{same-descent, never-rises, losses-few, ending-known, Met, accepted-met}
-use Rattle.descent_orbits.proofs.Laws.{Started, started}
+use Rattle.descent_orbits.proofs.Laws.{started}
 use Rattle.descent_orbits.proofs.Turns.{Answered}
 use Rattle.descent.specs.Descent.{unitRow, densityAt, descentOf, checkedOf, descentAnswer, descentLosses, descentEnd}
 use Rattle.descent.specs.Stored.{stationDensity}

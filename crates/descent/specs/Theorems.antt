@@ -2,24 +2,22 @@
 -- two parts; the lent memory; and the part of demand 3.
 use Prim.Native.Nat.{ℕ, _+_, _≤_}
 use mathlib.Core.Path.{_≡_, refl, sym, ap, _∙_, subst, fun-ext}
-use mathlib.Core.Bool.{Bool, true, cond}
+use mathlib.Core.Bool.{Bool}
 use mathlib.Core.List.{List, [], _∷_, _++_}
 use lib.IntN.{ℤ, pos}
-use lib.ListN.{length, set, getD}
+use lib.ListN.{length}
 use lib.Ieee.{Float}
 use Rattle.numbers.specs.Arithmetic.{_‼_}
 use Rattle.numbers.specs.Literals.{0·0}
 use Rattle.setting.specs.declared.Input.{Input}
 use Rattle.setting.specs.ApHistory.{lacksHistoryOf, asksHistoryOf}
-use Rattle.acceptance.specs.declared.Answer.{Answer}
 use Rattle.acceptance.specs.declared.Answer.the-variants.{Accepted, Refused}
-use Rattle.acceptance.specs.Acceptance.{judgedOf, acceptedOf, withAltOf}
-use Rattle.atmosphere.specs.Atmosphere.{elevenOf}
+use Rattle.acceptance.specs.Acceptance.{judgedOf, withAltOf}
 use Rattle.shutoff.specs.Shut.{shut, AlikeBut, Alike}
 use Rattle.shutoff.specs.Theorems.{Known, known, known-at, alike-at, eleven≡}
-use Rattle.descent_orbits.specs.DescentOrbits.{lowest, spent, startWithin, kilometresOf, millimetresOf, Descent, descentFrom}
+use Rattle.descent_orbits.specs.DescentOrbits.{lowest, spent, kilometresOf, Descent}
 use Rattle.descent_orbits.specs.Lent.{endOf, endNumbers, lossesAfter}
-use Rattle.descent_orbits.specs.Theorems.{total, start-minus-end, never-rises, stays-above, losses-few, all-done, joined, spent-then, ended-then}
+use Rattle.descent_orbits.specs.Theorems.{total, start-minus-end, never-rises, stays-above, all-done, joined, spent-then, ended-then}
 use Rattle.descent.specs.Descent.{unitRow, densityAt, descentOf, checkedOf, descentAnswer, descentLosses, descentEnd}
 
 -- ---- the descent

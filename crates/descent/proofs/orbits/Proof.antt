@@ -1,5 +1,5 @@
 -- `orbits` meets its contract: the first i orbits are flown, down to a.
-use mathlib.Core.Path.{_≡_, refl, _∙_}
+use mathlib.Core.Path.{_≡_, refl}
 use Prim.Native.Nat.{_≤_, _-_}
 use mir.Syntax.{w32}
 use mir.Facts.{toZ-ofZ}

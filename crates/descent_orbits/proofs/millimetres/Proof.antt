@@ -3,7 +3,7 @@ use mir.Syntax.{w64}
 use mir.Facts.{toZ-ofZ}
 use native.Mathlib.Omega.{arith}
 use borrow.Author.Needs.{needs}
-use Rattle.descent_orbits.proofs.Laws.{Started, started}
+use Rattle.descent_orbits.proofs.Laws.{started}
 use Rattle.descent_orbits.proofs.millimetres.Statement.{statement}
 use Rattle.descent_orbits.proofs.millimetres.Tie as tie
 
