@@ -101,6 +101,18 @@ uint64_t potirehu_station_g_long(int32_t *whole, size_t n_whole, double *numbers
 /* Changes f107a and f107 together, in the same way. */
 uint64_t potirehu_station_fluxes(int32_t *whole, size_t n_whole, double *numbers, size_t n_numbers, double f107a, double f107);
 
+/* Simulates a descent, orbit by orbit: start in whole millimetres, a setting of 1 to 4 for each orbit. The density d[5] is potirehu_gtd7's at millimetres
+   / 1E6 km with switch 0 taken as 1, the record's own altitude not looked at. Each orbit loses the whole part of (d[5] * 1E15) * setting millimetres; it
+   ends as 1, no density, where that product is negative, NaN or above 1E9; else as 2, reached, where the loss would take it below 200 km, and that
+   loss is not taken; as 3, spent, when all orbits are done. Answers 0 and writes the losses taken at the start of losses, the rest stays as it was, and
+   in end the ending, the last altitude in millimetres and how many losses were taken: start minus that altitude is their sum. Or leaves both as they
+   were and answers 4 at the length needed, for end of another length than 3, for fields, ap_array or switches, in this order; what potirehu_gtd7 refuses of
+   the record; 17 at 0 for a start outside 200,000,000 to 1,000,000,000; 18 at the first orbit, counted from 1, with a setting outside 1 to 4; 19 at 10,000
+   for more settings than that, else at the length needed for losses shorter than settings. */
+uint64_t potirehu_descent(int32_t year, int32_t doy, const double *fields, size_t n_fields, const double *ap_array, size_t n_ap,
+                          const int32_t *switches, size_t n_switches, int64_t start, const int32_t *settings, size_t n_settings, int64_t *losses,
+                          size_t n_losses, int64_t *end, size_t n_end);
+
 /* A table of bands has a switch row for each height band: an array of the caller's, of this length. What it holds is the library's own; it may
    be copied and moved, and need not be given back. What is said here of a table holds for one that potirehu_bands gave. */
 #define POTIREHU_BANDS 1601

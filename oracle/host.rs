@@ -65,6 +65,23 @@ extern "C" {
 
 extern "C" {
     #[allow(dead_code)]
+    fn potirehu_descent(
+        year: i32,
+        doy: i32,
+        fields: *const f64,
+        n_fields: usize,
+        ap_array: *const f64,
+        n_ap: usize,
+        switches: *const i32,
+        n_switches: usize,
+        start: i64,
+        settings: *const i32,
+        n_settings: usize,
+        losses: *mut i64,
+        n_losses: usize,
+        end: *mut i64,
+        n_end: usize,
+    ) -> u64;
     fn potirehu_gtd7_with(
         nine: *const f64,
         n_nine: usize,
@@ -171,6 +188,30 @@ pub fn crossings(year: i32, doy: i32, fields: &[f64], ap: &[f64], w: &[i32], alt
             level,
             list.as_mut_ptr(),
             list.len(),
+        )
+    })
+}
+
+// A descent; the record's slices as they are handed over, so that they may have any length.
+#[allow(dead_code)]
+pub fn descent(year: i32, doy: i32, fields: &[f64], ap: &[f64], w: &[i32], start: i64, settings: &[i32], losses: &mut [i64], end: &mut [i64]) -> (u64, u64) {
+    parted(unsafe {
+        potirehu_descent(
+            year,
+            doy,
+            fields.as_ptr(),
+            fields.len(),
+            ap.as_ptr(),
+            ap.len(),
+            w.as_ptr(),
+            w.len(),
+            start,
+            settings.as_ptr(),
+            settings.len(),
+            losses.as_mut_ptr(),
+            losses.len(),
+            end.as_mut_ptr(),
+            end.len(),
         )
     })
 }

@@ -1,0 +1,3 @@
+-- What the proofs of this crate, and of the one over it, share.
+pub mod Laws
+pub mod Turns

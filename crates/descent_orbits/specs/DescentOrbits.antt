@@ -1,0 +1,123 @@
+-- Document 02, W-212, over a given density at each altitude in whole millimetres: what an orbit does, the descent, and refusals 17, 18 and 19.
+use Prim.Native.Nat.{ℕ, _+_, _-_, _*_, _/_}
+use mathlib.Core.Bool.{Bool, false, cond, not, _&&_, _||_}
+use mathlib.Core.List.{List, [], _∷_}
+use lib.Dec.{eqb, leb, ltb}
+use lib.IntN.{ℤ, pos, negsuc}
+use lib.ListN.{length}
+use lib.Ieee.{Float, nan, inf, fin, binary64, up, down, lt, isNan, ofInt}
+use Rattle.numbers.specs.Arithmetic.{_⊗_, _⊘_}
+use Rattle.numbers.specs.Literals.{0·0, 1·0E6, 1·0E9, 1·0E15}
+use Rattle.acceptance.specs.declared.Answer.{Answer}
+use Rattle.acceptance.specs.declared.Answer.the-variants.{Accepted, Refused}
+use Rattle.descent_orbits.specs.declared.Orbit.{Orbit}
+
+-- ---- an orbit
+
+-- 200 km and 1,000 km in millimetres
+abbrev pub lowest : ℕ
+lowest = 200000000
+
+abbrev pub highest : ℕ
+highest = 1000000000
+
+-- 'The density is taken at millimetres / 1E6 km'
+unfoldable pub kilometresOf : ℕ → Float
+kilometresOf a = ofInt binary64 (pos a) ⊘ 1·0E6
+
+-- '(d[5] × 1E15) × setting'
+abbrev pub productOf : Float → ℤ → Float
+productOf d s = (d ⊗ 1·0E15) ⊗ ofInt binary64 s
+
+-- 'negative, NaN or above 1E9'; -0 is not negative
+unfoldable pub noDensityOf : Float → Bool
+noDensityOf x = (lt x 0·0 || isNan x) || lt 1·0E9 x
+
+-- 'the whole part' of a finite number that is not negative: a number m · 2 ^ e is a fraction of two whole ones, divided with the rest dropped
+abbrev pub wholePart : Float → ℕ
+wholePart nan = 0
+wholePart (inf s) = 0
+wholePart (fin s m e) = m * up e / down e
+
+-- the endings by their numbers in the C call, and 0 where the descent goes on
+abbrev pub onward : ℕ
+onward = 0
+
+abbrev pub noDensity : ℕ
+noDensity = 1
+
+abbrev pub reached : ℕ
+reached = 2
+
+abbrev pub spent : ℕ
+spent = 3
+
+-- what an orbit leaves that takes a loss of l millimetres at a
+abbrev pub afterOf : ℕ → ℕ → ℕ → Orbit
+afterOf e a l = record { ending = e; last = a - l; loss = l }
+
+-- the orbit at a millimetres with the product x: 'no density when the product is negative, NaN or above 1E9; else as reached when the loss would take
+-- it below 200 km, without taking that loss'
+unfoldable pub orbitOf : ℕ → Float → Orbit
+orbitOf a x =
+    cond (noDensityOf x) (afterOf noDensity a 0)
+    (cond (ltb a (lowest + wholePart x)) (afterOf reached a 0)
+    (afterOf onward a (wholePart x)))
+
+-- ---- the descent
+
+-- 'the ending, the last altitude' and the losses taken, first orbit first
+pub record Descent : Type 0 where
+  pub ending : ℕ
+  pub last : ℕ
+  pub losses : List ℕ
+
+abbrev pub ended : ℕ → ℕ → Descent
+ended e a = record { ending = e; last = a; losses = [] }
+
+abbrev pub lost : ℕ → Descent → Descent
+lost l r = record { ending = r .ending; last = r .last; losses = l ∷ r .losses }
+
+-- the descent from a millimetres with a setting for each orbit, 'spent only when all orbits are done'; d is d[5] at an altitude in millimetres
+unfoldable pub descentFrom : (ℕ → Float) → ℕ → List ℤ → Descent
+descentFrom d a [] = ended spent a
+descentFrom d a (s ∷ ss) =
+    let o = orbitOf a (productOf (d a) s) in
+    cond (eqb (o .ending) onward) (lost (o .loss) (descentFrom d (o .last) ss)) (ended (o .ending) (o .last))
+
+-- ---- refusals
+
+-- from lo to hi, both included
+abbrev pub withinOf : ℕ → ℕ → ℤ → Bool
+withinOf lo hi (pos a) = leb lo a && leb a hi
+withinOf lo hi (negsuc a) = false
+
+-- 'a start outside 200 to 1,000 km' is refused
+abbrev pub startWithin : ℤ → Bool
+startWithin start = withinOf lowest highest start
+
+-- its millimetres; one below 0 is refused
+abbrev pub millimetresOf : ℤ → ℕ
+millimetresOf (pos a) = a
+millimetresOf (negsuc a) = 0
+
+-- 'a setting 1 to 4'
+abbrev pub settingWithin : ℤ → Bool
+settingWithin s = withinOf 1 4 s
+
+-- the index of the first setting outside 1 to 4, or how many settings there are; i were passed
+unfoldable pub unfitFrom : ℕ → List ℤ → ℕ
+unfitFrom i [] = i
+unfitFrom i (s ∷ ss) = cond (not (settingWithin s)) i (unfitFrom (i + 1) ss)
+
+abbrev pub unfitOf : List ℤ → ℕ
+unfitOf ss = unfitFrom 0 ss
+
+-- '17, a start outside 200 to 1,000 km (place 0), then 18, the first setting outside 1 to 4 (place, its orbit from 1), then 19, more than 10,000
+-- settings (place 10,000), else a loss list shorter than the settings (place, the length needed)'
+unfoldable pub descentRefusal : ℤ → List ℤ → ℕ → Answer
+descentRefusal start ss room =
+    cond (not (startWithin start)) (Refused 17 0)
+    (cond (ltb (unfitOf ss) (length ss)) (Refused 18 (unfitOf ss + 1))
+    (cond (ltb 10000 (length ss)) (Refused 19 10000)
+    (cond (ltb room (length ss)) (Refused 19 (length ss)) Accepted)))

@@ -1,0 +1,42 @@
+// A descent, orbit by orbit, on the host.
+ghost use mathlib.Core.Path.{_≡_};
+ghost use lib.ListN.{length};
+ghost use Rattle.host_record.specs.Record.{codeOf};
+ghost use Rattle.host.specs.Descents.{hostDescent, hostLosses, hostEnd};
+use acceptance::Answer;
+use acceptance::accepted;
+use descent::descent;
+use host_record::code;
+use host_record::lengths;
+use host_record::record_of;
+use host_record::switch_row;
+
+// Simulates a descent from start millimetres with a setting for each orbit: the losses at the start of their list, and in end how it ended.
+#[no_mangle]
+pub extern "C" fn potirehu_descent(
+    year: i32,
+    doy: i32,
+    fields: &[f64],
+    ap_array: &[f64],
+    switches: &[i32],
+    start: i64,
+    settings: &[i32],
+    losses: &mut [i64],
+    end: &mut [i64],
+) -> u64
+    ensures { λ r. ⌜ (r ≡ codeOf (hostDescent year doy (now (fields .entry)) (now («ap_array» .entry)) (now (switches .entry)) start (now (settings .entry)) (length (now (losses .entry))) (length (now (end .entry)))))
+        × (now (losses .exit) ≡ hostLosses year doy (now (fields .entry)) (now («ap_array» .entry)) (now (switches .entry)) start (now (settings .entry)) (now (losses .entry)) (length (now (end .entry))))
+        × (now (end .exit) ≡ hostEnd year doy (now (fields .entry)) (now («ap_array» .entry)) (now (switches .entry)) start (now (settings .entry)) (length (now (losses .entry))) (now (end .entry))) ⌝ }
+{
+    if end.len() != 3 {
+        return code(Answer::Refused(4, 3));
+    }
+    let l = lengths(fields, ap_array, switches);
+    if !accepted(l) {
+        return code(l);
+    }
+    let w = switch_row(switches);
+    let n = record_of(year, doy, fields, ap_array);
+    let a = descent(w, n, start, settings, losses, end);
+    code(a)
+}
