@@ -1,0 +1,62 @@
+-- Rows whose entries 1 to 14 have the same effects have these entries of sw and of swc in common.
+use Prim.Native.Nat.{ℕ, zero, suc, _+_, _≤_, _<_}
+use mathlib.Core.Path.{_≡_, refl, sym, ap, ap₂, _∙_}
+use mathlib.Core.Bool.{Bool, true, false, cond, not, _&&_, _||_, false≢true}
+use mathlib.Core.List.{List}
+use native.Mathlib.Nat.{not-suc-le-zero}
+use native.Mathlib.Omega.{arith}
+use borrow.Author.Tests.{eqb-true}
+use lib.Dec.{eqb}
+use lib.IntN.{ℤ, pos, negsuc}
+use lib.Ieee.{Float, binary64, ofInt}
+use Rattle.setting.specs.Switches.{given, isOne, aboveZero, onOff, swAt, swcAt}
+use Rattle.switch_rows.specs.Rows.{alike, sameNumber, sameAt, sameFrom, sameExpansions}
+
+is-alike : (a b : Bool) → alike a b ≡ true → a ≡ b
+is-alike true true e = refl
+is-alike true false e = absurd (false≢true e)
+is-alike false true e = absurd (false≢true e)
+is-alike false false e = refl
+
+pub is-same : (x y : ℤ) → sameNumber x y ≡ true → x ≡ y
+is-same (pos m) (pos n) e = ap pos (eqb-true m n e)
+is-same (pos m) (negsuc n) e = absurd (false≢true e)
+is-same (negsuc m) (pos n) e = absurd (false≢true e)
+is-same (negsuc m) (negsuc n) e = ap negsuc (eqb-true m n e)
+
+both : (a b : Bool) → (a && b) ≡ true → (a ≡ true) × (b ≡ true)
+both true b e = (refl, e)
+both false b e = absurd (false≢true e)
+
+first : (t r : Bool) → cond (not t) false r ≡ true → (t ≡ true) × (r ≡ true)
+first true r e = (refl, e)
+first false r e = absurd (false≢true e)
+
+-- the effects of a switch, by whether it is switch 9
+by-nine : (nine : Bool) (x y : ℤ) → cond nine (sameNumber x y) (alike (isOne x) (isOne y) && alike (aboveZero x) (aboveZero y)) ≡ true
+    → (cond nine (ofInt binary64 x) (onOff (isOne x)) ≡ cond nine (ofInt binary64 y) (onOff (isOne y)))
+    × (cond nine (ofInt binary64 x) (onOff (aboveZero x)) ≡ cond nine (ofInt binary64 y) (onOff (aboveZero y)))
+by-nine true x y e = (ap (ofInt binary64) (is-same x y e), ap (ofInt binary64) (is-same x y e))
+by-nine false x y e =
+    let p = both (alike (isOne x) (isOne y)) (alike (aboveZero x) (aboveZero y)) e in
+    (ap onOff (is-alike (isOne x) (isOne y) (p .0)), ap onOff (is-alike (aboveZero x) (aboveZero y) (p .1)))
+
+pub same-effects : (a b : List ℤ) (i : ℕ) → sameAt a b i ≡ true → (swAt a i ≡ swAt b i) × (swcAt a i ≡ swcAt b i)
+unfolding sameAt
+same-effects a b i e = by-nine (eqb i 9) (given a i) (given b i) e
+
+-- each of the entries that are gone through
+among : (m : ℕ) (a b : List ℤ) (i k : ℕ) → sameFrom m a b i ≡ true → k < m → sameAt a b (i + k) ≡ true
+unfolding sameFrom
+among zero a b i k e q = absurd (not-suc-le-zero q)
+among (suc m) a b i zero e q =
+    let none : i + 0 ≡ i = omega arith in
+    ap (sameAt a b) none ∙ (first (sameAt a b i) (sameFrom m a b (i + 1)) e) .0
+among (suc m) a b i (suc k) e q =
+    let moved : i + suc k ≡ i + 1 + k = omega arith in
+    ap (sameAt a b) moved ∙ among m a b (i + 1) k ((first (sameAt a b i) (sameFrom m a b (i + 1)) e) .1) (omega (arith, q))
+
+-- The entries 1 to 14 of sw and of swc: entry 1 + k
+pub same-rows : (a b : List ℤ) → sameExpansions a b ≡ true → (k : ℕ) → k < 14 → (swAt a (1 + k) ≡ swAt b (1 + k)) × (swcAt a (1 + k) ≡ swcAt b (1 + k))
+unfolding sameExpansions
+same-rows a b e k q = same-effects a b (1 + k) (among 14 a b 1 k e q)
