@@ -1,4 +1,4 @@
--- The record of a prepared station in its two slices, and document 02's refusals of its calls in order (W-201).
+-- The record of a prepared station in its two slices, and document 02's refusals of its calls in order (W-201, W-213).
 use Prim.Native.Nat.{ℕ}
 use mathlib.Core.Bool.{cond, not}
 use mathlib.Core.List.{List, [], _∷_}
@@ -16,9 +16,9 @@ use Rattle.setting.specs.ApHistory.{absentOf}
 use Rattle.setting.specs.Switches.{isOne, onOff}
 use Rattle.acceptance.specs.declared.Answer.{Answer}
 use Rattle.acceptance.specs.declared.Answer.the-variants.{Accepted, Refused}
-use Rattle.acceptance.specs.Acceptance.{withinOf, judgedOf, unmixedOf, withAltOf}
+use Rattle.acceptance.specs.Acceptance.{withinOf, judgedOf, acceptedOf, unmixedOf, withAltOf}
 
--- ---- what the two slices hold: 27 whole numbers and 259 numbers
+-- ---- what the two slices hold: 27 whole numbers and 259 numbers, the record's fourteen first
 
 -- 1 where the history is there
 unfoldable pub markOf : History → ℤ
@@ -113,3 +113,16 @@ changeAnswer c whole xs =
     cond (not (eqb (length whole) 27)) (Refused 4 27)
     (cond (not (eqb (length xs) 259)) (Refused 4 259)
     (judgedOf (drop 3 whole) (changeOf c (recordIn whole xs))))
+
+-- ---- a new switch row (W-213)
+
+-- 4 for the slices, then what the station's record meets under the new row
+unfoldable pub switchesAnswer : List ℤ → List ℤ → List Float → Answer
+switchesAnswer w whole xs =
+    cond (not (eqb (length whole) 27)) (Refused 4 27)
+    (cond (not (eqb (length xs) 259)) (Refused 4 259)
+    (judgedOf w (recordIn whole xs)))
+
+-- the whole numbers with the row w, where the record is accepted under it
+unfoldable pub rowTaken : List ℤ → Input → List ℤ → List ℤ
+rowTaken w n whole = cond (acceptedOf (judgedOf w n)) (wholeOf w n) whole

@@ -3,9 +3,11 @@ ghost use mathlib.Core.Path.{_≡_};
 ghost use Prim.Native.Nat.{_<_};
 ghost use lib.IntN.{pos};
 ghost use lib.ListN.{length, drop, getD};
+ghost use Rattle.acceptance.specs.Acceptance.{judgedOf};
 ghost use Rattle.setting.specs.Switches.{isOne, onOff};
-ghost use Rattle.station_record.specs.Record.{markOf, historyIn, wholeOf, recordNumbers, recordIn, unitsIn, mixingIn, withSecOf, withLstOf, withLongOf, withFluxesOf, toSec, toLst, toLong, toFluxes, changeOf, stationAnswer, altitudeAnswer};
+ghost use Rattle.station_record.specs.Record.{markOf, historyIn, wholeOf, recordNumbers, recordIn, unitsIn, mixingIn, withSecOf, withLstOf, withLongOf, withFluxesOf, toSec, toLst, toLong, toFluxes, changeOf, stationAnswer, altitudeAnswer, rowTaken};
 use acceptance::Answer;
+use acceptance::accepted;
 use acceptance::judge;
 use acceptance::unmixed;
 use acceptance::with_alt;
@@ -311,4 +313,19 @@ pub fn altitude_answer(len: usize, whole: &[i32], count: usize, alt: f64) -> Ans
         return Answer::Refused(10, 3);
     }
     Answer::Accepted
+}
+
+// ---- a new switch row
+
+// The record judged under the row w, which then stands in the whole numbers; refused, the old row stays.
+pub fn take_row(w: [i32; 24], n: Input, whole: &mut [i32]) -> Answer
+    requires { ⌜ length (now whole) ≡ 27 ⌝ }
+    ensures { λ r. ⌜ (r ≡ judgedOf w n) × (now (whole .exit) ≡ rowTaken w n (now (whole .entry))) ⌝ }
+{
+    let a = judge(w, n);
+    if !accepted(a) {
+        return a;
+    }
+    put_whole(w, n, whole);
+    a
 }
