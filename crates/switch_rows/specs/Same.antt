@@ -1,7 +1,7 @@
 -- Rows whose entries 1 to 14 have the same effects have these entries of sw and of swc in common.
-use Prim.Native.Nat.{ℕ, zero, suc, _+_, _≤_, _<_}
-use mathlib.Core.Path.{_≡_, refl, sym, ap, ap₂, _∙_}
-use mathlib.Core.Bool.{Bool, true, false, cond, not, _&&_, _||_, false≢true}
+use Prim.Native.Nat.{ℕ, zero, suc, _+_, _<_}
+use mathlib.Core.Path.{_≡_, refl, sym, ap, _∙_}
+use mathlib.Core.Bool.{Bool, true, false, cond, not, _&&_, false≢true}
 use mathlib.Core.List.{List}
 use native.Mathlib.Nat.{not-suc-le-zero}
 use native.Mathlib.Omega.{arith}
@@ -9,7 +9,8 @@ use borrow.Author.Tests.{eqb-true}
 use lib.Dec.{eqb}
 use lib.IntN.{ℤ, pos, negsuc}
 use lib.Ieee.{Float, binary64, ofInt}
-use Rattle.setting.specs.Switches.{given, isOne, aboveZero, onOff, swAt, swcAt}
+use Rattle.numbers.specs.Arithmetic.{_‼_}
+use Rattle.setting.specs.Switches.{given, isOne, aboveZero, onOff, swAt, swcAt, filled, swOf, swcOf}
 use Rattle.switch_rows.specs.Rows.{alike, sameNumber, sameAt, sameFrom, sameExpansions}
 
 is-alike : (a b : Bool) → alike a b ≡ true → a ≡ b
@@ -56,7 +57,30 @@ among (suc m) a b i (suc k) e q =
     let moved : i + suc k ≡ i + 1 + k = omega arith in
     ap (sameAt a b) moved ∙ among m a b (i + 1) k ((first (sameAt a b i) (sameFrom m a b (i + 1)) e) .1) (omega (arith, q))
 
+-- an entry of the lists: 1 + k
+entry : (w : List ℤ) (k : ℕ) → k < 14 → (swOf w ‼ (1 + k) ≡ swAt w (1 + k)) × (swcOf w ‼ (1 + k) ≡ swcAt w (1 + k))
+unfolding swOf swcOf filled
+entry w zero q = (refl, refl)
+entry w (suc zero) q = (refl, refl)
+entry w (suc (suc zero)) q = (refl, refl)
+entry w (suc (suc (suc zero))) q = (refl, refl)
+entry w (suc (suc (suc (suc zero)))) q = (refl, refl)
+entry w (suc (suc (suc (suc (suc zero))))) q = (refl, refl)
+entry w (suc (suc (suc (suc (suc (suc zero)))))) q = (refl, refl)
+entry w (suc (suc (suc (suc (suc (suc (suc zero))))))) q = (refl, refl)
+entry w (suc (suc (suc (suc (suc (suc (suc (suc zero)))))))) q = (refl, refl)
+entry w (suc (suc (suc (suc (suc (suc (suc (suc (suc zero))))))))) q = (refl, refl)
+entry w (suc (suc (suc (suc (suc (suc (suc (suc (suc (suc zero)))))))))) q = (refl, refl)
+entry w (suc (suc (suc (suc (suc (suc (suc (suc (suc (suc (suc zero))))))))))) q = (refl, refl)
+entry w (suc (suc (suc (suc (suc (suc (suc (suc (suc (suc (suc (suc zero)))))))))))) q = (refl, refl)
+entry w (suc (suc (suc (suc (suc (suc (suc (suc (suc (suc (suc (suc (suc zero))))))))))))) q = (refl, refl)
+entry w (suc (suc (suc (suc (suc (suc (suc (suc (suc (suc (suc (suc (suc (suc k)))))))))))))) q = absurd (omega (arith, q))
+
 -- The entries 1 to 14 of sw and of swc: entry 1 + k
-pub same-rows : (a b : List ℤ) → sameExpansions a b ≡ true → (k : ℕ) → k < 14 → (swAt a (1 + k) ≡ swAt b (1 + k)) × (swcAt a (1 + k) ≡ swcAt b (1 + k))
+pub same-rows : (a b : List ℤ) → sameExpansions a b ≡ true → (k : ℕ) → k < 14 → (swOf a ‼ (1 + k) ≡ swOf b ‼ (1 + k)) × (swcOf a ‼ (1 + k) ≡ swcOf b ‼ (1 + k))
 unfolding sameExpansions
-same-rows a b e k q = same-effects a b (1 + k) (among 14 a b 1 k e q)
+same-rows a b e k q =
+    let s = same-effects a b (1 + k) (among 14 a b 1 k e q) in
+    let x = entry a k q in
+    let y = entry b k q in
+    (x .0 ∙ s .0 ∙ sym (y .0), x .1 ∙ s .1 ∙ sym (y .1))

@@ -9,4 +9,4 @@ unfolding levelsNumbers
 returns c = refl
 
 pub levels-numbers-spec : {M : Type 1} → statement M
-levels-numbers-spec = tie.close (tie.spec  returns)
+levels-numbers-spec = tie.close (tie.spec returns)
