@@ -1,6 +1,6 @@
 -- The numbers of a station in their three parts, and that under a new row they are what preparing with that row gives.
-use Prim.Native.Nat.{ℕ}
-use mathlib.Core.Path.{_≡_, refl, sym, ap, ap₂, _∙_}
+use Prim.Native.Nat.{ℕ, _+_, _<_}
+use mathlib.Core.Path.{_≡_, refl, sym, ap, _∙_}
 use mathlib.Core.Bool.{Bool, true, false, cond}
 use mathlib.Core.List.{List, _++_, append-assoc}
 use lib.IntN.{ℤ}
@@ -8,10 +8,10 @@ use lib.ListN.{length, take, drop}
 use lib.Seq.{take-at, drop-at, take-length}
 use lib.Ieee.{Float}
 use Rattle.setting.specs.declared.Input.{Input}
-use Rattle.setting.specs.Switches.{swOf, swcOf}
+use Rattle.setting.specs.Switches.{given, swOf, swcOf}
 use Rattle.setting.specs.View.{viewOf}
 use Rattle.switch_rows.specs.Rows.{sameExpansions}
-use Rattle.switch_rows.specs.Same.{same-rows}
+use Rattle.switch_rows.specs.Same.{same-rows, outer-entries}
 use Rattle.levels.specs.Levels.{levelsOf}
 use Rattle.plan.specs.declared.Levels.{Levels}
 use Rattle.station_levels.specs.StationLevels.{levelsNumbers, levelsIn, levels-back}
@@ -85,3 +85,8 @@ one-of false x y h = refl
 pub renewed-told : (w u : List ℤ) (n : Input) → renewedOf w u n (numbersOf w n) ≡ numbersOf u n
 unfolding renewedOf
 renewed-told w u n = one-of (sameExpansions w u) _ _ (λ e. refilled-told w u n e)
+
+-- A row that differs in entries 0 and 15 to 23 alone is carried over with no expansion worked out again, whatever the station holds
+pub outer-row : (w u : List ℤ) (n : Input) (xs : List Float) → ((k : ℕ) → k < 14 → given w (1 + k) ≡ given u (1 + k)) → renewedOf w u n xs ≡ refilledOf u n xs
+unfolding renewedOf
+outer-row w u n xs h = rw (outer-entries w u h)

@@ -4,22 +4,16 @@ use mathlib.Core.Path.{_≡_, refl, sym, ap, _∙_}
 use mathlib.Core.Bool.{Bool, true, false}
 use mathlib.Core.List.{List}
 use native.Mathlib.Omega.{arith}
-use borrow.Author.Tests.{eq-eqb}
-use lib.Dec.{eqb}
 use lib.IntN.{ℤ, pos, negsuc}
 use mir.Syntax.{w32}
 use mir.Val.{ofZ, toZ}
 use Rattle.switch_rows.specs.Rows.{sameNumber, sameAt, sameFrom, sameExpansions}
-use Rattle.switch_rows.specs.Same.{is-same}
-
-itself : (x : ℤ) → sameNumber x x ≡ true
-itself (pos n) = eq-eqb n n refl
-itself (negsuc n) = eq-eqb n n refl
+use Rattle.switch_rows.specs.Same.{is-same, same-itself}
 
 pub equal : (x y : ℤ) → toZ w32 (ofZ w32 x) ≡ x → toZ w32 (ofZ w32 y) ≡ y → ofZ w32 x ≡ ofZ w32 y → sameNumber x y ≡ true
 equal x y f g e =
     let s : x ≡ y = sym f ∙ ap (toZ w32) e ∙ g in
-    ap (λ (z : ℤ). sameNumber z y) s ∙ itself y
+    ap (λ (z : ℤ). sameNumber z y) s ∙ same-itself y
 
 decided : (b : Bool) → (b ≡ true → ⊥) → b ≡ false
 decided true h = absurd (h refl)

@@ -5,7 +5,7 @@ use mathlib.Core.Bool.{Bool, true, false, cond, not, _&&_, false≢true}
 use mathlib.Core.List.{List}
 use native.Mathlib.Nat.{not-suc-le-zero}
 use native.Mathlib.Omega.{arith}
-use borrow.Author.Tests.{eqb-true}
+use borrow.Author.Tests.{eqb-true, eq-eqb}
 use lib.Dec.{eqb}
 use lib.IntN.{ℤ, pos, negsuc}
 use lib.Ieee.{Float, binary64, ofInt}
@@ -84,3 +84,37 @@ same-rows a b e k q =
     let x = entry a k q in
     let y = entry b k q in
     (x .0 ∙ s .0 ∙ sym (y .0), x .1 ∙ s .1 ∙ sym (y .1))
+
+-- ---- rows that have entries 1 to 14 in common as they are given
+
+alike-itself : (b : Bool) → alike b b ≡ true
+alike-itself true = refl
+alike-itself false = refl
+
+pub same-itself : (x : ℤ) → sameNumber x x ≡ true
+same-itself (pos n) = eq-eqb n n refl
+same-itself (negsuc n) = eq-eqb n n refl
+
+by-nine-itself : (nine : Bool) (x : ℤ) → cond nine (sameNumber x x) (alike (isOne x) (isOne x) && alike (aboveZero x) (aboveZero x)) ≡ true
+by-nine-itself true x = same-itself x
+by-nine-itself false x = rw (alike-itself (isOne x), alike-itself (aboveZero x))
+
+same-given : (a b : List ℤ) (i : ℕ) → given a i ≡ given b i → sameAt a b i ≡ true
+unfolding sameAt
+same-given a b i e = rw e (by-nine-itself (eqb i 9) (given b i))
+
+all-given : (m : ℕ) (a b : List ℤ) (i : ℕ) → ((k : ℕ) → k < m → given a (i + k) ≡ given b (i + k)) → sameFrom m a b i ≡ true
+unfolding sameFrom
+all-given zero a b i h = refl
+all-given (suc m) a b i h =
+    let none : i + 0 ≡ i = omega arith in
+    let first-is : given a i ≡ given b i = rw none at (h 0 (omega arith)) in
+    let rest : (k : ℕ) → k < m → given a (i + 1 + k) ≡ given b (i + 1 + k) = λ k q.
+    let moved : i + suc k ≡ i + 1 + k = omega arith in
+    rw moved at (h (suc k) (omega (arith, q))) in
+    rw (same-given a b i first-is) (all-given m a b (i + 1) rest)
+
+-- Rows that differ in entries 0 and 15 to 23 alone have the same expansions
+pub outer-entries : (a b : List ℤ) → ((k : ℕ) → k < 14 → given a (1 + k) ≡ given b (1 + k)) → sameExpansions a b ≡ true
+unfolding sameExpansions
+outer-entries a b h = all-given 14 a b 1 h

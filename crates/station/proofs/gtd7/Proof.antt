@@ -29,12 +29,7 @@ row-on-requires c κs =
     (length-take-le 234 (at .before .before .before .before .before .args .numbers .now) (omega (arith, f .2)), f .0)
 
 returns-2 : tie.Need-returns-2
-returns-2 c =
-    let on = c .before .before in
-    let mix = on .before .before .before in
-    let at = mix .before .before in
-    let j = at .before .before .altitude-answer in
-    (j .ensures, altitude-given _ _ _ _ _ (mix .before .units-in .result) (mix .mixing-in .result) (verdict (j .ensures) (at .before .accepted .ensures) (not-false _ (at .if1 .left))) (on .row-on .ensures) (mix .before .units-in .ensures) (mix .mixing-in .ensures))
+returns-2 c = (c .before .before .before .before .before .before .before .before .before .altitude-answer .ensures, altitude-given _ _ _ _ _ (c .before .before .before .before .before .before .units-in .result) (c .before .before .before .before .before .mixing-in .result) (verdict (c .before .before .before .before .before .before .before .before .before .altitude-answer .ensures) (c .before .before .before .before .before .before .before .before .accepted .ensures) (not-false _ (c .before .before .before .before .before .before .before .if1 .left))) (c .before .before .row-on .ensures) (c .before .before .before .before .before .before .units-in .ensures) (c .before .before .before .before .before .mixing-in .ensures))
 
 pub gtd7-spec : {M : Type 1} → statement M
 gtd7-spec =
