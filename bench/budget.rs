@@ -6,7 +6,7 @@
 mod host;
 #[path = "../oracle/random.rs"]
 mod random;
-use host::{crossings, numbers, ours, ours_column, station, station_change, station_gtd7, Change, NUMBERS, WHOLE};
+use host::{crossings, numbers, ours, ours_column, station, station_change, station_gtd7, station_switches, Change, NUMBERS, WHOLE};
 use random::Random;
 use std::arch::asm;
 use std::collections::{BTreeSet, HashMap};
@@ -86,8 +86,15 @@ impl Station {
         station_gtd7(&self.whole, &self.numbers, alt, row)
     }
 
-    fn change(&mut self, change: Change) -> (u64, u64) {
-        station_change(&mut self.whole, &mut self.numbers, change)
+    fn turn(&mut self, c: &Case, turn: Turn) -> (u64, u64) {
+        match turn {
+            Field(change) => station_change(&mut self.whole, &mut self.numbers, change),
+            Entry(i) => {
+                let mut row = c.row;
+                row[i] = (row[i] != 1) as i32;
+                station_switches(&mut self.whole, &mut self.numbers, &row)
+            }
+        }
     }
 }
 
@@ -96,10 +103,24 @@ fn accepted(answer: (u64, u64)) -> f64 {
     0.0
 }
 
-const CHANGES: [(&str, Change); 4] =
-    [("sec", Change::Sec(12345.0)), ("lst", Change::Lst(3.5)), ("g_long", Change::Long(-12.5)), ("fluxes", Change::Fluxes(120.0, 130.0))];
+// What changes a station: a change of the record, or the row it was prepared with and another value in one entry.
+#[derive(Clone, Copy)]
+enum Turn {
+    Field(Change),
+    Entry(usize),
+}
+use Turn::{Entry, Field};
 
-// The altitude whose records a station's preparing and changes are told of; they do not look at it.
+const TURNS: [(&str, Turn); 6] = [
+    ("sec", Field(Change::Sec(12345.0))),
+    ("lst", Field(Change::Lst(3.5))),
+    ("g_long", Field(Change::Long(-12.5))),
+    ("fluxes", Field(Change::Fluxes(120.0, 130.0))),
+    ("row, entry 16", Entry(16)),
+    ("row, entry 14", Entry(14)),
+];
+
+// The altitude whose records a station's preparing, changes and new rows are told of; they do not look at it.
 const OTHERS: usize = 0;
 
 // A request to valgrind, which does nothing outside it. 0x43540000 is callgrind's first.
@@ -121,7 +142,7 @@ fn counted(f: impl FnOnce() -> f64) {
 }
 
 // A call with nothing in it first, then each case: ours, the Rust's, the column, the Rust's at the column's altitudes, preparing a station, its
-// altitude, at one of the altitudes also its changes. Callgrind's count of calls, not that of instructions, goes on between the requests: so no call
+// altitude, at one of the altitudes also its changes and new rows. Callgrind's count of calls, not that of instructions, goes on between the requests: so no call
 // of ours stands outside them.
 fn count(records: usize) {
     counted(|| black_box(0.0));
@@ -144,8 +165,8 @@ fn count(records: usize) {
                 let mut s = Station::empty();
                 counted(|| accepted(s.prepare(&c)));
                 counted(|| accepted(s.altitude(c.input.alt, &mut row)));
-                for (_, change) in CHANGES.into_iter().filter(|_| alt == OTHERS) {
-                    counted(|| accepted(s.change(change)));
+                for (_, turn) in TURNS.into_iter().filter(|_| alt == OTHERS) {
+                    counted(|| accepted(s.turn(&c, turn)));
                 }
             }
         }
@@ -211,7 +232,7 @@ fn median_and_largest(mut xs: Vec<u64>) -> (u64, u64) {
 }
 
 // A station's calls but its altitude.
-const NAMES: [&str; 5] = ["preparing", CHANGES[0].0, CHANGES[1].0, CHANGES[2].0, CHANGES[3].0];
+const NAMES: [&str; 7] = ["preparing", TURNS[0].0, TURNS[1].0, TURNS[2].0, TURNS[3].0, TURNS[4].0, TURNS[5].0];
 
 fn table(records: usize, path: &str) {
     let nothing = written(path, 1).instructions;
@@ -320,7 +341,7 @@ struct Held {
     rows: [f64; 11 * COLUMN],
     list: [u64; COLUMN],
     station: Station,
-    change: Change,
+    turn: Turn,
     value: f64,
 }
 
@@ -349,30 +370,32 @@ hold!(hold_crossings, h, c, listed(c, &mut h.list));
 hold!(hold_rust, h, c, h.value = rust(&c.input, &c.flags));
 hold!(hold_prepare, h, c, let _ = h.station.prepare(c));
 hold!(hold_altitude, h, c, let _ = h.station.altitude(c.input.alt, &mut h.row));
-hold!(hold_change, h, _c, let _ = h.station.change(h.change));
+hold!(hold_turn, h, c, let _ = h.station.turn(c, h.turn));
 
 fn stack(records: usize) {
     println!("Bytes of stack that a call reaches, the most over all these records, with the frame of the function that makes the call:\n");
     println!("| call | bytes |\n|---|---|");
-    let [sec, lst, g_long, fluxes] = CHANGES.map(|(_, change)| change);
-    let calls: [(&str, extern "C" fn(*mut u8), Change); 10] = [
+    let [sec, lst, g_long, fluxes, outer, inner] = TURNS.map(|(_, turn)| turn);
+    let calls: [(&str, extern "C" fn(*mut u8), Turn); 12] = [
         ("ours, one altitude", hold_ours, sec),
         ("ours, column", hold_column, sec),
         ("ours, crossings", hold_crossings, sec),
         ("a station's altitude", hold_altitude, sec),
         ("preparing a station", hold_prepare, sec),
-        ("a station's sec", hold_change, sec),
-        ("a station's lst", hold_change, lst),
-        ("a station's g_long", hold_change, g_long),
-        ("a station's fluxes", hold_change, fluxes),
+        ("a station's sec", hold_turn, sec),
+        ("a station's lst", hold_turn, lst),
+        ("a station's g_long", hold_turn, g_long),
+        ("a station's fluxes", hold_turn, fluxes),
+        ("a station's row, entry 16", hold_turn, outer),
+        ("a station's row, entry 14", hold_turn, inner),
         ("untouched Rust, one altitude", hold_rust, sec),
     ];
-    for (name, f, change) in calls {
+    for (name, f, turn) in calls {
         let mut most = 0;
         for alt in 0..ALTITUDES.len() {
             for kind in 0..KINDS.len() {
                 for c in cases(alt, kind, records) {
-                    let mut h = Held { case: &c, row: [0.0; 11], rows: [0.0; 11 * COLUMN], list: [0; COLUMN], station: Station::empty(), change, value: 0.0 };
+                    let mut h = Held { case: &c, row: [0.0; 11], rows: [0.0; 11 * COLUMN], list: [0; COLUMN], station: Station::empty(), turn, value: 0.0 };
                     accepted(h.station.prepare(&c));
                     most = most.max(depth(f, &mut h as *mut Held as *mut u8));
                 }

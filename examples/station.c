@@ -1,5 +1,6 @@
-/* A controller over one place: prepares a station once, asks it for altitude after altitude, and moves sec and lst on between the orbits. A change
-   that is refused leaves the station as it was. The last line is the density that a drag model takes. All switches are on, densities in kg/m^3. */
+/* A controller over one place: prepares a station once, asks it for altitude after altitude, moves sec and lst on between the orbits, and then
+   takes another switch row. A change or a row that is refused leaves the station as it was. The last line is the density that a drag model takes.
+   All switches are on but where said, densities in kg/m^3. */
 #include <inttypes.h>
 #include <math.h>
 #include <stdio.h>
@@ -25,6 +26,10 @@ static uint64_t profile(const char *name) {
 static uint64_t sec(double x) { return potirehu_station_sec(whole, POTIREHU_STATION_WHOLE, numbers, POTIREHU_STATION_NUMBERS, x); }
 
 static uint64_t lst(double x) { return potirehu_station_lst(whole, POTIREHU_STATION_WHOLE, numbers, POTIREHU_STATION_NUMBERS, x); }
+
+static uint64_t row_of_switches(const int32_t *switches) {
+    return potirehu_station_switches(whole, POTIREHU_STATION_WHOLE, numbers, POTIREHU_STATION_NUMBERS, switches, 24);
+}
 
 static int refused(uint64_t code) {
     printf("refused %" PRIu64 " %" PRIu64 "\n", code >> 32, code & 0xffffffff);
@@ -52,6 +57,16 @@ int main(void) {
     printf("lst NaN: ");
     refused(lst(NAN));
     if ((code = profile("the last line again"))) return refused(code);
+
+    /* a row that asks for a magnetic history, which this record has not; then one without the variations of switches 16 to 23 */
+    switches[9] = -1;
+    printf("switch 9 at -1: ");
+    refused(row_of_switches(switches));
+    switches[9] = 1;
+    for (int i = 16; i < 24; i++) switches[i] = 0;
+    if ((code = row_of_switches(switches)) || (code = profile("switches 16 to 23 off"))) return refused(code);
+    for (int i = 16; i < 24; i++) switches[i] = 1;
+    if ((code = row_of_switches(switches))) return refused(code);
 
     double row[11];
     if ((code = potirehu_station_gtd7d(whole, POTIREHU_STATION_WHOLE, numbers, POTIREHU_STATION_NUMBERS, 600.0, row, 11))) return refused(code);

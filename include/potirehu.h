@@ -72,7 +72,7 @@ uint64_t potirehu_gtd7_with(const double *nine, size_t n_nine, int32_t year, int
    lengths. What they hold is the library's own; they may be copied and moved, and need not be given back. An altitude asked of it works out no
    expansion. What is said here of a station holds for one that these calls gave. */
 #define POTIREHU_STATION_WHOLE 27
-#define POTIREHU_STATION_NUMBERS 234
+#define POTIREHU_STATION_NUMBERS 259
 
 /* Prepares a station in whole and numbers, the record's own altitude not looked at. Answers 0; or 4 at the length needed, for whole, numbers,
    fields, ap_array or switches of another length, in this order, then what potirehu_gtd7 refuses of the record, and leaves whole and numbers as
@@ -80,7 +80,7 @@ uint64_t potirehu_gtd7_with(const double *nine, size_t n_nine, int32_t year, int
 uint64_t potirehu_station(int32_t year, int32_t doy, const double *fields, size_t n_fields, const double *ap_array, size_t n_ap,
                           const int32_t *switches, size_t n_switches, int32_t *whole, size_t n_whole, double *numbers, size_t n_numbers);
 
-/* The station's air at one altitude (km): the row that potirehu_gtd7 gives on the record as the station now has it, with this altitude. Answers 0
+/* The station's air at one altitude (km): the row that potirehu_gtd7 gives on record and row as the station now has them, with this altitude. Answers 0
    and writes the row; or 4 at the length needed, for row, whole or numbers of another length, in this order, then 2, 3 or 10 at 3 for the
    altitude, and leaves row as it was. */
 uint64_t potirehu_station_gtd7(const int32_t *whole, size_t n_whole, const double *numbers, size_t n_numbers, double alt, double *row, size_t n_row);
@@ -100,6 +100,11 @@ uint64_t potirehu_station_g_long(int32_t *whole, size_t n_whole, double *numbers
 
 /* Changes f107a and f107 together, in the same way. */
 uint64_t potirehu_station_fluxes(int32_t *whole, size_t n_whole, double *numbers, size_t n_numbers, double f107a, double f107);
+
+/* Gives the station a new switch row: from then on every altitude and change gives what a station newly prepared with the same record and this row
+   gives. Where the two rows mean the same in entries 1 to 14, no expansion is worked out again. Answers 0; or 4 at the length needed, for whole,
+   numbers or switches, in this order, then 1 at 10 where the row asks for a history that the record has not, and leaves the station as it was. */
+uint64_t potirehu_station_switches(int32_t *whole, size_t n_whole, double *numbers, size_t n_numbers, const int32_t *switches, size_t n_switches);
 
 /* Simulates a descent, orbit by orbit: start in whole millimetres, a setting of 1 to 4 for each orbit. The density d[5] is potirehu_gtd7's at millimetres
    / 1E6 km with switch 0 taken as 1, the record's own altitude not looked at. Each orbit loses the whole part of (d[5] * 1E15) * setting millimetres; it

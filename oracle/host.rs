@@ -105,6 +105,8 @@ extern "C" {
     fn potirehu_station_sec(whole: *mut i32, n_whole: usize, numbers: *mut f64, n_numbers: usize, sec: f64) -> u64;
     fn potirehu_station_lst(whole: *mut i32, n_whole: usize, numbers: *mut f64, n_numbers: usize, lst: f64) -> u64;
     fn potirehu_station_g_long(whole: *mut i32, n_whole: usize, numbers: *mut f64, n_numbers: usize, g_long: f64) -> u64;
+    #[allow(dead_code)]
+    fn potirehu_station_switches(whole: *mut i32, n_whole: usize, numbers: *mut f64, n_numbers: usize, switches: *const i32, n_switches: usize) -> u64;
     fn potirehu_station_fluxes(whole: *mut i32, n_whole: usize, numbers: *mut f64, n_numbers: usize, f107a: f64, f107: f64) -> u64;
 }
 
@@ -285,4 +287,10 @@ pub fn station_change(whole: &mut [i32], numbers: &mut [f64], change: Change) ->
             Change::Fluxes(a, b) => potirehu_station_fluxes(w, n_w, n, n_n, a, b),
         }
     })
+}
+
+// A new row for a station, as it is handed over, so that it may have any length.
+#[allow(dead_code)]
+pub fn station_switches(whole: &mut [i32], numbers: &mut [f64], w: &[i32]) -> (u64, u64) {
+    parted(unsafe { potirehu_station_switches(whole.as_mut_ptr(), whole.len(), numbers.as_mut_ptr(), numbers.len(), w.as_ptr(), w.len()) })
 }

@@ -1,6 +1,6 @@
-// Prepared stations: histories of altitudes, also for drag, and changes against the routed Rust on the record as it then is; stations with any contents, which
-// need only answer; and time per altitude, preparing and change.
-use super::host::{station, station_change, station_gtd7, station_gtd7d, Change, NUMBERS, WHOLE};
+// Prepared stations: histories of altitudes, also for drag, changes and new switch rows against the routed Rust on the record and the row as they then are;
+// stations with any contents, which need only answer; and time per altitude, preparing, change and new row.
+use super::host::{station, station_change, station_gtd7, station_gtd7d, station_switches, Change, NUMBERS, WHOLE};
 use super::{altitude, judged, numbers, ours_column, record, row_of, same, sample, spoiled, timed, unmixed, Input, Random, GTD7, GTD7D};
 use std::hint::black_box;
 use std::time::Instant;
@@ -73,6 +73,10 @@ impl Memory {
         station_change(&mut self.whole[GUARD..GUARD + n.whole], &mut self.numbers[GUARD..GUARD + n.numbers], change)
     }
 
+    fn switch(&mut self, n: &Lengths, w: &[i32]) -> (u64, u64) {
+        station_switches(&mut self.whole[GUARD..GUARD + n.whole], &mut self.numbers[GUARD..GUARD + n.numbers], w)
+    }
+
     // Prepares with slices of the right lengths.
     fn prepare(&mut self, r: &Input, w: &[i32; 24]) -> (u64, u64) {
         let (fields, ap, n_ap) = numbers(r);
@@ -108,6 +112,10 @@ impl Lengths {
 
     fn change_refused(&self) -> Option<(u64, u64)> {
         misfit(&[(self.whole, WHOLE), (self.numbers, NUMBERS)])
+    }
+
+    fn switch_refused(&self, switches: usize) -> Option<(u64, u64)> {
+        misfit(&[(self.whole, WHOLE), (self.numbers, NUMBERS), (switches, 24)])
     }
 }
 
@@ -162,6 +170,25 @@ fn changed(r: &Input, change: Change) -> Input {
     }
 }
 
+// A row in the place of another: with other values in entries 0 and 15 to 23 alone, with one other entry, or any; now and then one that asks for the history.
+fn new_row(g: &mut Random, old: &[i32; 24]) -> [i32; 24] {
+    let mut w = *old;
+    match g.below(3) {
+        0 => (0..24).filter(|i| !(1..15).contains(i)).for_each(|i| w[i] = g.below(6) as i32 - 2),
+        1 => w[g.below(24) as usize] = g.below(6) as i32 - 2,
+        _ => w = row_of(g),
+    }
+    if g.below(10) == 0 {
+        w[9] = -1;
+    }
+    w
+}
+
+// Whether the rows differ in entries 0 and 15 to 23 at most.
+fn outer(a: &[i32; 24], b: &[i32; 24]) -> bool {
+    a[1..15] == b[1..15]
+}
+
 // How the one-altitude call judges the record, its altitude not looked at.
 fn judged_anywhere(r: &Input, w: &[i32; 24]) -> (u64, u64) {
     judged(&Input { alt: 0.0, ..*r }, w)
@@ -211,6 +238,9 @@ struct Figures {
     ten: u64,
     changes: u64,
     changes_refused: u64,
+    switched: u64,
+    outer: u64,
+    not_switched: u64,
     misfits: u64,
     bad: u64,
 }
@@ -317,9 +347,30 @@ impl History {
         };
         f.note(have == want && good && self.memory.row_kept(&before), &format!("{change:?}"), have, want, &r, &self.row);
     }
+
+    // A new row; once the lengths fit only 1 at 10 may refuse it.
+    fn switch(&mut self, g: &mut Random, f: &mut Figures) {
+        let w = new_row(g, &self.row);
+        let (n, n_switches) = (lengths(g), length(g, 24));
+        let before = self.memory.clone();
+        let have = self.memory.switch(&n, &[&w[..], &[1; GUARD]].concat()[..n_switches]);
+        let misfit = n.switch_refused(n_switches);
+        f.misfits += misfit.is_some() as u64;
+        let want = misfit.unwrap_or(judged_anywhere(&self.record, &w));
+        let good = if want == (0, 0) {
+            f.switched += 1;
+            f.outer += outer(&self.row, &w) as u64;
+            self.row = w;
+            self.memory.station_guards_kept(&before) && self.as_prepared(g)
+        } else {
+            f.not_switched += misfit.is_none() as u64;
+            (misfit.is_some() || want == (1, 10)) && self.memory.station_kept(&before)
+        };
+        f.note(have == want && good && self.memory.row_kept(&before), "new row", have, want, &self.record, &w);
+    }
 }
 
-// Prepares, then asks for altitudes and changes in any order, until count altitudes were asked for; now and then another record is prepared over
+// Prepares, then asks for altitudes, changes and new rows in any order, until count altitudes were asked for; now and then another record is prepared over
 // the station, which a refused one leaves as it was.
 pub fn stations(g: &mut Random, count: u64) -> u64 {
     let mut f = Figures::default();
@@ -336,16 +387,17 @@ pub fn stations(g: &mut Random, count: u64) -> u64 {
                     let (record, row) = any_record(g);
                     h.prepare(g, &mut f, record, row);
                 }
-                1..=7 => h.change(g, &mut f),
+                1..=5 => h.change(g, &mut f),
+                6..=8 => h.switch(g, &mut f),
                 _ if f.altitudes < count => h.ask(g, &mut f),
                 _ => {}
             }
         }
     }
-    let Figures { histories, prepared, not_prepared, altitudes, rows, drag, nan, ten, changes, changes_refused, misfits, bad } = f;
+    let Figures { histories, prepared, not_prepared, altitudes, rows, drag, nan, ten, changes, changes_refused, switched, outer, not_switched, misfits, bad } = f;
     println!(
         "stations: {histories} histories, {prepared} prepared, {not_prepared} refused; {altitudes} altitudes, {rows} accepted ({drag} of gtd7d, {nan} with a NaN), {} refused ({ten} with 10); \
-         {changes} changes accepted, {changes_refused} refused; {misfits} refusals for a slice's length; {bad} differences",
+         {changes} changes accepted, {changes_refused} refused; {switched} new rows accepted ({outer} other in entries 0 and 15 to 23 at most), {not_switched} refused with 1; {misfits} refusals for a slice's length; {bad} differences",
         altitudes - rows
     );
     bad
@@ -395,7 +447,7 @@ fn contents(g: &mut Random) -> Memory {
     m
 }
 
-// A refusal that an altitude or a change knows once the lengths fit, with a place of its own kind.
+// A refusal that an altitude, or a change or new row, knows once the lengths fit, with a place of its own kind.
 fn known(asked: bool, answer: (u64, u64)) -> bool {
     if asked {
         matches!(answer, (2 | 3 | 10, 3))
@@ -406,7 +458,7 @@ fn known(asked: bool, answer: (u64, u64)) -> bool {
 
 // Stations of any contents: each call comes back with an answer that it may give, writes only what it lends out, and nothing where it refuses.
 pub fn hostile(g: &mut Random, count: u64) -> u64 {
-    let (mut done, mut altitudes, mut rows, mut changes, mut bad) = (0u64, 0u64, 0u64, 0u64, 0u64);
+    let (mut done, mut altitudes, mut rows, mut changes, mut switches, mut switched, mut bad) = (0u64, 0u64, 0u64, 0u64, 0u64, 0u64, 0u64);
     while done < count {
         let mut m = contents(g);
         for _ in 0..(1 + g.below(8)).min(count - done) {
@@ -414,11 +466,22 @@ pub fn hostile(g: &mut Random, count: u64) -> u64 {
             let n = lengths(g);
             let before = m.clone();
             let asked = g.below(2) == 0;
-            let (have, misfit) = if asked { (m.ask(&n, any_altitude(g), g.below(3) == 0), n.altitude_refused()) } else { (m.change(&n, any_change(g)), n.change_refused()) };
+            let switch = !asked && g.below(2) == 0;
+            let (have, misfit) = if asked {
+                (m.ask(&n, any_altitude(g), g.below(3) == 0), n.altitude_refused())
+            } else if switch {
+                let old = std::array::from_fn(|i| m.whole[GUARD + 3 + i]);
+                let (w, n_switches) = (new_row(g, &old), length(g, 24));
+                (m.switch(&n, &[&w[..], &[1; GUARD]].concat()[..n_switches]), n.switch_refused(n_switches))
+            } else {
+                (m.change(&n, any_change(g)), n.change_refused())
+            };
             let accepted = have == (0, 0) && misfit.is_none();
             altitudes += asked as u64;
             rows += (asked && accepted) as u64;
-            changes += (!asked && accepted) as u64;
+            switches += switch as u64;
+            switched += (switch && accepted) as u64;
+            changes += (!asked && !switch && accepted) as u64;
             let answered = misfit.map_or(accepted || known(asked, have), |refusal| have == refusal);
             let kept = match (asked, accepted) {
                 (true, true) => m.station_kept(&before) && m.row_guards_kept(&before),
@@ -428,12 +491,12 @@ pub fn hostile(g: &mut Random, count: u64) -> u64 {
             if !answered || !kept {
                 bad += 1;
                 if bad <= 3 {
-                    println!("hostile station, call {done}: {}, answer {have:?}, memory {}", if asked { "altitude" } else { "change" }, if kept { "kept" } else { "not kept" });
+                    println!("hostile station, call {done}: {}, answer {have:?}, memory {}", if asked { "altitude" } else if switch { "new row" } else { "change" }, if kept { "kept" } else { "not kept" });
                 }
             }
         }
     }
-    println!("hostile stations: {done} calls, {altitudes} altitudes ({rows} accepted), {} changes ({changes} accepted), {bad} differences", done - altitudes);
+    println!("hostile stations: {done} calls, {altitudes} altitudes ({rows} accepted), {} changes ({changes} accepted), {switches} new rows ({switched} accepted), {bad} differences", done - altitudes - switches);
     bad
 }
 
@@ -468,6 +531,11 @@ fn prepared(r: &Input, w: &[i32; 24]) -> Station {
 
 fn change(s: &mut Station, c: Change) -> f64 {
     assert_eq!(station_change(&mut s.0, &mut s.1, c), (0, 0));
+    s.1[0]
+}
+
+fn switch(s: &mut Station, w: &[i32; 24]) -> f64 {
+    assert_eq!(station_switches(&mut s.0, &mut s.1, w), (0, 0));
     s.1[0]
 }
 
@@ -529,6 +597,19 @@ fn time_changes(nine: i32) {
             }],
         );
         println!("  {name:>9}: {a:8.0} {:5.2}", a / preparing);
+    }
+    // two rows in turn: other in entry 16 alone, and other in entry 14
+    for (name, i) in [("row, entry 16", 16), ("row, entry 14", 14)] {
+        let mut other = w;
+        let [a] = best(
+            15,
+            records.len(),
+            [&mut || {
+                other[i] = 1 - other[i];
+                stations.iter_mut().map(|s| switch(s, &other)).sum()
+            }],
+        );
+        println!("  {name:>13}: {a:8.0} {:5.2}", a / preparing);
     }
 }
 

@@ -15,14 +15,14 @@ use Rattle.acceptance.specs.Acceptance.{acceptedOf}
 use Rattle.atmosphere.specs.Atmosphere.{answerOf}
 use Rattle.altitudes.specs.Altitudes.{columnAnswer}
 use Rattle.column.specs.Column.{columnAfter}
-use Rattle.station_record.specs.Record.{stationAnswer}
-use Rattle.station.specs.Station.{wholeAfter, numbersAfter}
+use Rattle.station_record.specs.Record.{stationAnswer, switchesAnswer}
+use Rattle.station.specs.Station.{wholeAfter, numbersAfter, switchedWhole, switchedNumbers}
 use Rattle.crossings_list.specs.declared.Listing.{Listing}
 use Rattle.crossings.specs.Crossings.{refusedOr, crossingsAnswer, crossingsAfter}
 use Rattle.crossings.proofs.Laws.{goes-on}
 use Rattle.host.specs.Crossings.{listingCode, hostCrossings, hostList}
 use Rattle.host_record.specs.Record.{codeOf, recordOf, lengthsOf}
-use Rattle.host.specs.Host.{hostAnswer, hostColumn, hostRows, hostStation, hostWhole, hostNumbers}
+use Rattle.host.specs.Host.{hostAnswer, hostColumn, hostRows, hostStation, hostWhole, hostNumbers, hostSwitches, hostSwitchedWhole, hostSwitchedNumbers}
 
 -- a refusal: its number and place, the lent memory as it was
 pub refused : (d r : Answer) (ys xs : List Float) (x : ℕ) → d ≡ r → acceptedOf r ≡ false → x ≡ codeOf r
@@ -163,11 +163,11 @@ module _ (year doy : ℤ) (f l : List Float) (w : List ℤ) (ys : List ℤ) (xs 
   unfolding hostStation
   no-whole h = simp (ne-eqb _ _ h)
 
-  pub no-numbers : length ys ≡ 27 → (length xs ≡ 234 → ⊥) → hostStation year doy f l w (length ys) (length xs) ≡ Refused 4 234
+  pub no-numbers : length ys ≡ 27 → (length xs ≡ 259 → ⊥) → hostStation year doy f l w (length ys) (length xs) ≡ Refused 4 259
   unfolding hostStation
   no-numbers e h = simp (eq-eqb _ _ e, ne-eqb _ _ h)
 
-  pub a-station : length ys ≡ 27 → length xs ≡ 234 → hostStation year doy f l w (length ys) (length xs) ≡ lengthsOf f l w (stationAnswer w (recordOf year doy f l) (length ys) (length xs))
+  pub a-station : length ys ≡ 27 → length xs ≡ 259 → hostStation year doy f l w (length ys) (length xs) ≡ lengthsOf f l w (stationAnswer w (recordOf year doy f l) (length ys) (length xs))
   unfolding hostStation
   a-station e h = simp (eq-eqb _ _ e, eq-eqb _ _ h)
 
@@ -182,3 +182,37 @@ module _ (year doy : ℤ) (f l : List Float) (w : List ℤ) (ys : List ℤ) (xs 
       → Outcome x ys' xs'
   unfolding hostWhole hostNumbers wholeAfter numbersAfter
   prepared x r n v ys' xs' e0 e1 e2 e3 e4 e5 e6 = (simp (e0, e1, e4, e5, e6), simp (e2, e4, e5, e6), simp (e3, e4, e5, e6))
+
+-- ---- a new switch row
+
+module _ (w whole : List ℤ) (xs : List Float) where
+  abbrev Switched : ℕ → List ℤ → List Float → Type 0
+  Switched x ys zs = (x ≡ codeOf (hostSwitches w whole xs)) × (ys ≡ hostSwitchedWhole w whole xs) × (zs ≡ hostSwitchedNumbers w whole xs)
+
+  kept : (d : Answer) (x : ℕ) → hostSwitches w whole xs ≡ d → acceptedOf d ≡ false → x ≡ codeOf d → Switched x whole xs
+  unfolding hostSwitchedWhole hostSwitchedNumbers
+  kept d x e t c = (c ∙ sym (ap codeOf e), rw (e, t), rw (e, t))
+
+  pub switches-no-whole : (x : ℕ) → (length whole ≡ 27 → ⊥) → x ≡ codeOf (Refused 4 27) → Switched x whole xs
+  unfolding hostSwitches
+  switches-no-whole x h c = kept (Refused 4 27) x (simp (ne-eqb _ _ h)) refl c
+
+  pub switches-no-numbers : (x : ℕ) → length whole ≡ 27 → (length xs ≡ 259 → ⊥) → x ≡ codeOf (Refused 4 259) → Switched x whole xs
+  unfolding hostSwitches
+  switches-no-numbers x e h c = kept (Refused 4 259) x (simp (eq-eqb _ _ e, ne-eqb _ _ h)) refl c
+
+  pub switches-no-row : (x : ℕ) → length whole ≡ 27 → length xs ≡ 259 → (length w ≡ 24 → ⊥) → x ≡ codeOf (Refused 4 24) → Switched x whole xs
+  unfolding hostSwitches
+  switches-no-row x e f h c = kept (Refused 4 24) x (simp (eq-eqb _ _ e, eq-eqb _ _ f, ne-eqb _ _ h)) refl c
+
+  pub switches-done : length whole ≡ 27 → length xs ≡ 259 → length w ≡ 24 → (x : ℕ) (r : Answer) (v ys : List ℤ) (zs : List Float)
+      → x ≡ codeOf r
+      → r ≡ switchesAnswer v whole xs
+      → ys ≡ switchedWhole v whole xs
+      → zs ≡ switchedNumbers v whole xs
+      → v ≡ w
+      → Switched x ys zs
+  unfolding hostSwitches hostSwitchedWhole hostSwitchedNumbers switchedWhole switchedNumbers
+  switches-done e f h x r v ys zs e0 e1 e2 e3 e4 =
+      let s : hostSwitches w whole xs ≡ switchesAnswer w whole xs = simp (eq-eqb _ _ e, eq-eqb _ _ f, eq-eqb _ _ h) in
+      (rw s (e0 ∙ ap codeOf (e1 ∙ ap (λ (u : List ℤ). switchesAnswer u whole xs) e4)), rw s (rw e4 at e2), rw s (rw e4 at e3))

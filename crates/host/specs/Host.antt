@@ -4,7 +4,7 @@ use mathlib.Core.Bool.{cond, not}
 use mathlib.Core.List.{List}
 use lib.Dec.{eqb}
 use lib.IntN.{ℤ}
-use lib.ListN.{length}
+use lib.ListN.{length, drop}
 use lib.Ieee.{Float}
 use Rattle.numbers.specs.Literals.{0·0}
 use Rattle.acceptance.specs.declared.Answer.{Answer}
@@ -13,8 +13,8 @@ use Rattle.acceptance.specs.Acceptance.{acceptedOf, withAltOf}
 use Rattle.atmosphere.specs.Atmosphere.{answerOf, elevenOf}
 use Rattle.altitudes.specs.Altitudes.{columnAnswer}
 use Rattle.column.specs.Column.{columnAfter}
-use Rattle.station_record.specs.Record.{wholeOf, stationAnswer}
-use Rattle.station.specs.Station.{numbersOf}
+use Rattle.station_record.specs.Record.{wholeOf, recordIn, stationAnswer, switchesAnswer}
+use Rattle.station.specs.Station.{numbersOf, renewedOf}
 use Rattle.drag.specs.Drag.{dragOf}
 use Rattle.host_record.specs.Record.{recordOf, lengthsOf}
 
@@ -47,7 +47,7 @@ hostRows year doy f l w alts xs =
 unfoldable pub hostStation : ℤ → ℤ → List Float → List Float → List ℤ → ℕ → ℕ → Answer
 hostStation year doy f l w ints count =
     cond (not (eqb ints 27)) (Refused 4 27)
-    (cond (not (eqb count 234)) (Refused 4 234)
+    (cond (not (eqb count 259)) (Refused 4 259)
     (lengthsOf f l w (stationAnswer w (recordOf year doy f l) ints count)))
 
 -- its slices afterwards
@@ -58,3 +58,18 @@ hostWhole year doy f l w ys count =
 unfoldable pub hostNumbers : ℤ → ℤ → List Float → List Float → List ℤ → ℕ → List Float → List Float
 hostNumbers year doy f l w ints xs =
     cond (acceptedOf (hostStation year doy f l w ints (length xs))) (numbersOf w (withAltOf (recordOf year doy f l) 0·0)) xs
+
+-- a new switch row: 4 for the station's two slices, for the row, then what the station answers
+unfoldable pub hostSwitches : List ℤ → List ℤ → List Float → Answer
+hostSwitches w whole xs =
+    cond (not (eqb (length whole) 27)) (Refused 4 27)
+    (cond (not (eqb (length xs) 259)) (Refused 4 259)
+    (cond (not (eqb (length w) 24)) (Refused 4 24)
+    (switchesAnswer w whole xs)))
+
+-- its slices afterwards
+unfoldable pub hostSwitchedWhole : List ℤ → List ℤ → List Float → List ℤ
+hostSwitchedWhole w whole xs = cond (acceptedOf (hostSwitches w whole xs)) (wholeOf w (recordIn whole xs)) whole
+
+unfoldable pub hostSwitchedNumbers : List ℤ → List ℤ → List Float → List Float
+hostSwitchedNumbers w whole xs = cond (acceptedOf (hostSwitches w whole xs)) (renewedOf (drop 3 whole) w (recordIn whole xs) xs) xs

@@ -1,10 +1,10 @@
-// A prepared station on the host: 27 whole numbers and 234 numbers that the caller keeps.
+// A prepared station on the host: 27 whole numbers and 259 numbers that the caller keeps.
 ghost use mathlib.Core.Path.{_≡_};
 ghost use lib.ListN.{length};
 ghost use Rattle.station_record.specs.Record.{toSec, toLst, toLong, toFluxes, altitudeAnswer, changeAnswer};
 ghost use Rattle.station.specs.Station.{altitudeRow, altitudeDrag, changedNumbers};
 ghost use Rattle.host_record.specs.Record.{codeOf};
-ghost use Rattle.host.specs.Host.{hostStation, hostWhole, hostNumbers};
+ghost use Rattle.host.specs.Host.{hostStation, hostWhole, hostNumbers, hostSwitches, hostSwitchedWhole, hostSwitchedNumbers};
 use acceptance::Answer;
 use acceptance::accepted;
 use host_record::code;
@@ -15,6 +15,7 @@ use station::change_fluxes;
 use station::change_g_long;
 use station::change_lst;
 use station::change_sec;
+use station::change_switches;
 use station::gtd7;
 use station::gtd7d;
 use station::prepare;
@@ -37,8 +38,8 @@ pub extern "C" fn potirehu_station(
     if whole.len() != 27 {
         return code(Answer::Refused(4, 27));
     }
-    if numbers.len() != 234 {
-        return code(Answer::Refused(4, 234));
+    if numbers.len() != 259 {
+        return code(Answer::Refused(4, 259));
     }
     let l = lengths(fields, ap_array, switches);
     if !accepted(l) {
@@ -115,5 +116,30 @@ pub extern "C" fn potirehu_station_fluxes(
     ensures { λ r. ⌜ (r ≡ codeOf (changeAnswer (toFluxes f107a f107) (now (whole .entry)) (now (numbers .entry)))) × (now (numbers .exit) ≡ changedNumbers (toFluxes f107a f107) (now (whole .entry)) (now (numbers .entry))) ⌝ }
 {
     let a = change_fluxes(whole, numbers, f107a, f107);
+    code(a)
+}
+
+// A new switch row.
+#[no_mangle]
+pub extern "C" fn potirehu_station_switches(
+    whole: &mut [i32],
+    numbers: &mut [f64],
+    switches: &[i32],
+) -> u64
+    ensures { λ r. ⌜ (r ≡ codeOf (hostSwitches (now (switches .entry)) (now (whole .entry)) (now (numbers .entry))))
+        × (now (whole .exit) ≡ hostSwitchedWhole (now (switches .entry)) (now (whole .entry)) (now (numbers .entry)))
+        × (now (numbers .exit) ≡ hostSwitchedNumbers (now (switches .entry)) (now (whole .entry)) (now (numbers .entry))) ⌝ }
+{
+    if whole.len() != 27 {
+        return code(Answer::Refused(4, 27));
+    }
+    if numbers.len() != 259 {
+        return code(Answer::Refused(4, 259));
+    }
+    if switches.len() != 24 {
+        return code(Answer::Refused(4, 24));
+    }
+    let w = switch_row(switches);
+    let a = change_switches(w, whole, numbers);
     code(a)
 }

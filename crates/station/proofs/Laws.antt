@@ -1,17 +1,22 @@
 -- The outcomes of a station's calls.
-use Prim.Native.Nat.{_+_, _-_}
+use Prim.Native.Nat.{ℕ}
 use mathlib.Core.Path.{_≡_, refl, sym, ap, _∙_}
 use mathlib.Core.Bool.{Bool, true, false}
-use mathlib.Core.List.{List, _++_}
+use mathlib.Core.List.{List, [], _++_, append-assoc, append-nil}
+use native.Mathlib.Omega.{arith}
 use borrow.Author.Tests.{eq-eqb, ne-eqb}
 use borrow.Rule.Slice.PartMut.{putMid}
 use lib.IntN.{ℤ}
 use lib.ListN.{length, take, drop}
-use lib.Seq.{take-at}
+use lib.Dec.{lit≤}
+use lib.Seq.{take-at, drop-at, drop-drop, drop-length, take-take, length-take-le}
 use lib.Ieee.{Float}
 use Rattle.numbers.specs.Literals.{0·0}
 use Rattle.setting.specs.declared.Input.{Input}
 use Rattle.setting.specs.declared.View.{View}
+use Rattle.setting.specs.declared.Flags.{Flags}
+use Rattle.setting.specs.Switches.{swOf, flagsOf}
+use Rattle.switch_rows.specs.Rows.{sameExpansions}
 use Rattle.setting.specs.View.{viewOf}
 use Rattle.acceptance.specs.declared.Answer.{Answer}
 use Rattle.acceptance.specs.declared.Answer.the-variants.{Refused}
@@ -20,31 +25,52 @@ use Rattle.levels.specs.declared.Need.{Need}
 use Rattle.levels.specs.Levels.{levelsOf}
 use Rattle.plan.specs.declared.Levels.{Levels}
 use Rattle.upper.specs.declared.Site.{Site}
-use Rattle.upper.specs.Upper.{siteOf}
+use Rattle.station_levels.specs.StationLevels.{levelsNumbers, levelsIn, siteUnder}
 use Rattle.stored_parts.specs.declared.Parts.{Parts}
 use Rattle.stored_parts.specs.Parts.{allParts}
-use Rattle.stored.specs.Stored.{needOf, storedOf, rowStored}
+use Rattle.stored.specs.Stored.{needOf, part, storedOf, rowStored}
 use Rattle.drag_sum.specs.DragSum.{draggedOf}
-use Rattle.station_record.specs.Record.{wholeOf, recordNumbers, recordIn, unitsIn, mixingIn, Change, changeOf, stationAnswer, altitudeAnswer, changeAnswer}
-use Rattle.station.specs.Station.{numbersOf, wholeAfter, numbersAfter, altitudeRow, altitudeDrag, replacedOf, changedNumbers}
+use Rattle.station_record.specs.Record.{wholeOf, recordNumbers, recordIn, unitsIn, mixingIn, Change, changeOf, stationAnswer, altitudeAnswer, changeAnswer, switchesAnswer, rowTaken}
+use Rattle.station.specs.Station.{heldOf, refilledOf, numbersOf, wholeAfter, numbersAfter, altitudeRow, altitudeDrag, replacedOf, changedNumbers, renewedOf, switchedWhole, switchedNumbers}
+use Rattle.station.specs.Renewed.{fourteen, refilled-is}
 
-record-14 : (n : Input) → length (recordNumbers n) ≡ 14
-unfolding recordNumbers
-record-14 n = refl
+-- the first 234 of a list and what is stored in them
+pub refill-law : (w : List ℤ) (n : Input) (xs s : List Float) (f : Flags) (x : Site) (l : Levels) (p : Parts)
+    → s ≡ take 14 (take 234 xs) ++ storedOf p (f .sw) x l
+    → l ≡ levelsIn (part 234 25 xs)
+    → p ≡ allParts
+    → x ≡ siteUnder (f .sw) n
+    → f ≡ flagsOf w
+    → putMid 0 234 xs s ≡ refilledOf w n xs
+unfolding refilledOf heldOf flagsOf
+refill-law w n xs s f x l p e0 e1 e2 e3 e4 =
+    let made : storedOf p (f .sw) x l ≡ storedOf allParts (swOf w) (siteUnder (swOf w) n) (levelsIn (part 234 25 xs)) = rw (e1, e2, e3, e4) in
+    rw (e0, made, take-take 14 234 xs (lit≤ tt)) (append-assoc (take 14 xs) _ (drop 234 xs))
 
-pub fill-law : (w : List ℤ) (n : Input) (xs zs r s : List Float) (l : Levels) (a : Need) (p : Parts) (x : Site) (v : View)
-    → zs ≡ take 14 (putMid 0 14 xs r) ++ storedOf p (v .sw) x l
+-- the record's numbers and the expansions' values in their places
+pub fill-law : (w : List ℤ) (n : Input) (xs zs r s t k : List Float) (l : Levels) (a : Need) (p : Parts) (v : View)
+    → length xs ≡ 259
+    → zs ≡ refilledOf w n (putMid 0 14 (putMid 234 25 xs t) s)
+    → s ≡ r
+    → r ≡ recordNumbers n
+    → t ≡ k
+    → k ≡ levelsNumbers l
     → l ≡ levelsOf v a
     → a ≡ needOf p
     → p ≡ allParts
-    → x ≡ siteOf (v .sw) (n .«g_lat») (v .doy) (n .f107a)
     → v ≡ viewOf w n
-    → r ≡ s
-    → s ≡ recordNumbers n
     → zs ≡ numbersOf w n
 unfolding numbersOf
-fill-law w n xs zs r s l a p x v e0 e1 e2 e3 e4 e5 e6 e7 =
-    e0 ∙ rw (e1, e2, e3, e4, e5, e6, e7, take-at (recordNumbers n) _ 14 (record-14 n))
+fill-law w n xs zs r s t k l a p v len e0 e1 e2 e3 e4 e5 e6 e7 e8 =
+    let held : l ≡ levelsOf (viewOf w n) (needOf allParts) = rw (e5, e6, e7, e8) in
+    let K : List Float = levelsNumbers (levelsOf (viewOf w n) (needOf allParts)) in
+    let ys : List Float = putMid 234 25 xs K in
+    let written : putMid 0 14 (putMid 234 25 xs t) s ≡ recordNumbers n ++ drop 14 ys = rw (e1, e2, e3, e4, held) in
+    let nothing : drop 25 (drop 234 xs) ≡ [] = drop-drop 25 234 xs ∙ ap (λ (i : ℕ). drop i xs) (sym len) ∙ drop-length xs in
+    let behind : drop 234 (recordNumbers n ++ drop 14 ys) ≡ K =
+    sym (drop-drop 220 14 (recordNumbers n ++ drop 14 ys)) ∙ ap (drop 220) (drop-at (recordNumbers n) (drop 14 ys) 14 (fourteen n)) ∙ drop-drop 220 14 ys
+    ∙ drop-at (take 234 xs) _ 234 (length-take-le 234 xs (omega (arith, len))) ∙ ap (λ (u : List Float). K ++ u) nothing ∙ append-nil K in
+    e0 ∙ ap (refilledOf w n) written ∙ refilled-is w n _ _ (take-at (recordNumbers n) (drop 14 ys) 14 (fourteen n)) behind
 
 -- ---- preparing
 
@@ -87,11 +113,11 @@ module _ (c : Change) (whole : List ℤ) (xs : List Float) where
   unfolding changeAnswer
   change-no-whole h = kept (Refused 4 27) (simp (ne-eqb _ _ h)) refl
 
-  pub change-no-numbers : length whole ≡ 27 → (length xs ≡ 234 → ⊥) → Changed (Refused 4 234) xs
+  pub change-no-numbers : length whole ≡ 27 → (length xs ≡ 259 → ⊥) → Changed (Refused 4 259) xs
   unfolding changeAnswer
-  change-no-numbers e h = kept (Refused 4 234) (simp (eq-eqb _ _ e, ne-eqb _ _ h)) refl
+  change-no-numbers e h = kept (Refused 4 259) (simp (eq-eqb _ _ e, ne-eqb _ _ h)) refl
 
-  pub change-met : length whole ≡ 27 → length xs ≡ 234 → (w : List ℤ) (m : Input) (a : Answer) (ys : List Float)
+  pub change-met : length whole ≡ 27 → length xs ≡ 259 → (w : List ℤ) (m : Input) (a : Answer) (ys : List Float)
       → w ≡ drop 3 whole → m ≡ changeOf c (recordIn whole xs) → a ≡ judgedOf w m → ys ≡ replacedOf w m xs → Changed a ys
   unfolding changeAnswer changedNumbers replacedOf
   change-met e f w m a ys ew em ea ey =
@@ -111,7 +137,7 @@ module _ (whole : List ℤ) (xs : List Float) (alt : Float) (row : List Float) w
   altitude-refused h = simp h
 
   pub altitude-given : (r : List Float) (s t : Float) → acceptedOf (altitudeAnswer (length row) whole (length xs) alt) ≡ true
-      → r ≡ rowStored s t xs alt → s ≡ unitsIn whole → t ≡ mixingIn whole → r ≡ altitudeRow whole xs alt row
+      → r ≡ rowStored s t (take 234 xs) alt → s ≡ unitsIn whole → t ≡ mixingIn whole → r ≡ altitudeRow whole xs alt row
   unfolding altitudeRow
   altitude-given r s t h e f g = simp h (rw (f, g) at e)
 
@@ -124,3 +150,50 @@ module _ (whole : List ℤ) (xs : List Float) (alt : Float) (row : List Float) w
       → d ≡ draggedOf s r → s ≡ unitsIn whole → r ≡ altitudeRow whole xs alt row → d ≡ altitudeDrag whole xs alt row
   unfolding altitudeRow altitudeDrag
   drag-given r d s h e f g = simp h (e ∙ rw (f, rw h at g))
+
+-- ---- a new row
+
+pub renewed : (old w : List ℤ) (n : Input) (xs zs : List Float) (b : Bool) → b ≡ sameExpansions old w → b ≡ true → zs ≡ refilledOf w n xs → zs ≡ renewedOf old w n xs
+unfolding renewedOf
+renewed old w n xs zs b e t h = rw (sym e ∙ t) h
+
+pub made-anew : (old w : List ℤ) (n : Input) (xs zs : List Float) (b : Bool) → b ≡ sameExpansions old w → b ≡ false → zs ≡ numbersOf w n → zs ≡ renewedOf old w n xs
+unfolding renewedOf
+made-anew old w n xs zs b e t h = rw (sym e ∙ t) h
+
+module _ (w whole : List ℤ) (xs : List Float) where
+  abbrev Switched : Answer → List ℤ → List Float → Type 0
+  Switched a ys zs = (a ≡ switchesAnswer w whole xs) × (ys ≡ switchedWhole w whole xs) × (zs ≡ switchedNumbers w whole xs)
+
+  stays : (a : Answer) → a ≡ switchesAnswer w whole xs → acceptedOf a ≡ false → Switched a whole xs
+  unfolding switchedWhole switchedNumbers
+  stays a e f = (e, simp (← e) (simp f), simp (← e) (simp f))
+
+  pub switches-no-whole : (length whole ≡ 27 → ⊥) → Switched (Refused 4 27) whole xs
+  unfolding switchesAnswer
+  switches-no-whole h = stays (Refused 4 27) (simp (ne-eqb _ _ h)) refl
+
+  pub switches-no-numbers : length whole ≡ 27 → (length xs ≡ 259 → ⊥) → Switched (Refused 4 259) whole xs
+  unfolding switchesAnswer
+  switches-no-numbers e h = stays (Refused 4 259) (simp (eq-eqb _ _ e, ne-eqb _ _ h)) refl
+
+  module _ (e : length whole ≡ 27) (f : length xs ≡ 259) (n : Input) (a : Answer) (ys : List ℤ) (v : Bool)
+      (en : n ≡ recordIn whole xs) (ea : a ≡ judgedOf w n) (ey : ys ≡ rowTaken w n whole) (ev : v ≡ acceptedOf a) where
+    met : switchesAnswer w whole xs ≡ judgedOf w n
+    unfolding switchesAnswer
+    met = simp (eq-eqb _ _ e, eq-eqb _ _ f) (ap (judgedOf w) (sym en))
+
+    pub switches-refused : v ≡ false → Switched a ys xs
+    unfolding rowTaken
+    switches-refused t =
+        let o : acceptedOf (judgedOf w n) ≡ false = ap acceptedOf (sym ea) ∙ sym ev ∙ t in
+        let k : ys ≡ whole = rw o at ey in
+        let s = stays a (ea ∙ sym met) (sym ev ∙ t) in
+        (s .0, k ∙ s .1, s .2)
+
+    pub switches-taken : (old : List ℤ) (zs : List Float) → v ≡ true → old ≡ drop 3 whole → zs ≡ renewedOf old w n xs → Switched a ys zs
+    unfolding rowTaken switchedWhole switchedNumbers
+    switches-taken old zs t eo ez =
+        let o : acceptedOf (judgedOf w n) ≡ true = ap acceptedOf (sym ea) ∙ sym ev ∙ t in
+        let k : ys ≡ wholeOf w n = rw o at ey in
+        (ea ∙ sym met, rw (met, o) (k ∙ ap (wholeOf w) en), rw (met, o) (rw (eo, en) at ez))

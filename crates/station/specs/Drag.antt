@@ -1,4 +1,4 @@
--- gtd7d of a station that its calls gave is the one-altitude gtd7d on the record as it then is.
+-- gtd7d of a station that its calls gave is the one-altitude gtd7d on the record and the row as they then are.
 use mathlib.Core.Path.{_≡_, refl, sym, _∙_}
 use mathlib.Core.Bool.{Bool, true, false, cond}
 use mathlib.Core.List.{List}
@@ -15,9 +15,9 @@ use Rattle.shutoff.specs.Theorems.{alike-at}
 use Rattle.drag_sum.specs.DragSum.{draggedOf}
 use Rattle.drag.specs.Drag.{dragOf, dragAfter}
 use Rattle.drag.specs.Theorems.{demand-3-drag}
-use Rattle.station_record.specs.Record.{wholeOf, altitudeAnswer, Change}
+use Rattle.station_record.specs.Record.{wholeOf, altitudeAnswer}
 use Rattle.station.specs.Station.{numbersOf, altitudeRow, altitudeDrag}
-use Rattle.station.specs.Theorems.{Held, recordAfter, stationAfter, kept, altitude-told}
+use Rattle.station.specs.Theorems.{Held, Call, heldAfter, stationAfter, kept, altitude-told}
 
 -- where the row is written, the sum sees what is written
 seen : (b : Bool) (f : List Float → List Float) (x r : List Float) → cond b (f x) r ≡ cond b (f (cond b x r)) r
@@ -45,12 +45,13 @@ drag-told w n z row h =
     ∙ rw (t .0, t .1, main-0 w n)
     (sym (seen (acceptedOf (answerOf w (withAltOf n z) (length row))) (draggedOf (swAt w 0)) (elevenOf w (withAltOf n z)) row))
 
--- the same after any changes: the record as it then is
-pub drag-kept : (w : List ℤ) (n : Input) (cs : List Change) (z : Float) (row : List Float) → Held w n
-    → altitudeDrag (wholeOf w n) (stationAfter (wholeOf w n) (numbersOf w n) cs) z row ≡ dragAfter w (withAltOf (recordAfter w n cs) z) row
+-- the same after any calls: the record and the row as they then are
+pub drag-kept : (w : List ℤ) (n : Input) (cs : List Call) (z : Float) (row : List Float) → Held w n
+    → altitudeDrag ((stationAfter (wholeOf w n) (numbersOf w n) cs) .0) ((stationAfter (wholeOf w n) (numbersOf w n) cs) .1) z row
+    ≡ dragAfter ((heldAfter w n cs) .0) (withAltOf ((heldAfter w n cs) .1) z) row
 drag-kept w n cs z row h =
     let r = kept w n cs h in
-    rw (r .0, ← r .1) (drag-told w (recordAfter w n cs) z row (r .2))
+    rw (r .0) (drag-told ((heldAfter w n cs) .0) ((heldAfter w n cs) .1) z row (r .1))
 
 -- Demand 3 for gtd7d of stations, as `demand-3-station` has it for gtd7.
 pub demand-3-station-drag : (w : List ℤ) (a b : Input) (z : Float) (xs ys : List Float)

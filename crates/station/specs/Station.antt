@@ -1,26 +1,33 @@
--- Document 02's W-201: a prepared station, and what its slices and the lent row hold after each call.
+-- Document 02's W-201 and W-213: a prepared station, and what its slices and the lent row hold after each call.
 use Prim.Native.Nat.{ℕ}
 use mathlib.Core.Bool.{cond}
 use mathlib.Core.List.{List, _++_}
 use lib.IntN.{ℤ}
-use lib.ListN.{length, drop}
+use lib.ListN.{length, take, drop}
 use lib.Ieee.{Float}
 use Rattle.numbers.specs.Literals.{0·0}
 use Rattle.setting.specs.declared.Input.{Input}
+use Rattle.setting.specs.Switches.{swOf}
 use Rattle.setting.specs.View.{viewOf}
+use Rattle.switch_rows.specs.Rows.{sameExpansions}
 use Rattle.acceptance.specs.Acceptance.{judgedOf, acceptedOf, withAltOf}
 use Rattle.levels.specs.Levels.{levelsOf}
-use Rattle.upper.specs.Upper.{siteOf}
+use Rattle.plan.specs.declared.Levels.{Levels}
+use Rattle.station_levels.specs.StationLevels.{levelsNumbers, levelsIn, siteUnder}
 use Rattle.stored_parts.specs.Parts.{allParts}
-use Rattle.stored.specs.Stored.{needOf, storedOf, rowStored}
+use Rattle.stored.specs.Stored.{needOf, part, storedOf, rowStored}
 use Rattle.drag_sum.specs.DragSum.{draggedOf}
-use Rattle.station_record.specs.Record.{wholeOf, recordNumbers, recordIn, unitsIn, mixingIn, Change, changeOf, stationAnswer, altitudeAnswer, changeAnswer}
+use Rattle.station_record.specs.Record.{wholeOf, recordNumbers, recordIn, unitsIn, mixingIn, Change, changeOf, stationAnswer, altitudeAnswer, changeAnswer, switchesAnswer}
 
--- the record's numbers, and behind them what no altitude changes
+-- what no altitude changes, out of the expansions' values
+unfoldable pub heldOf : List ℤ → Input → Levels → List Float
+heldOf w n l = storedOf allParts (swOf w) (siteUnder (swOf w) n) l
+
+-- the record's numbers, behind them what no altitude changes, behind that the expansions' values
 unfoldable pub numbersOf : List ℤ → Input → List Float
 numbersOf w n =
-    let v = viewOf w n in
-    recordNumbers n ++ storedOf allParts (v .sw) (siteOf (v .sw) (n .«g_lat») (v .doy) (n .f107a)) (levelsOf v (needOf allParts))
+    let l = levelsOf (viewOf w n) (needOf allParts) in
+    recordNumbers n ++ (heldOf w n l ++ levelsNumbers l)
 
 -- the slices afterwards: refused, as they were
 unfoldable pub wholeAfter : List ℤ → Input → List ℤ → ℕ → List ℤ
@@ -33,13 +40,13 @@ numbersAfter w n ints xs = cond (acceptedOf (stationAnswer w n ints (length xs))
 unfoldable pub altitudeRow : List ℤ → List Float → Float → List Float → List Float
 altitudeRow whole xs alt row =
     cond (acceptedOf (altitudeAnswer (length row) whole (length xs) alt))
-    (rowStored (unitsIn whole) (mixingIn whole) xs alt) row
+    (rowStored (unitsIn whole) (mixingIn whole) (take 234 xs) alt) row
 
 -- the lent row after gtd7d, whose answer is the same
 unfoldable pub altitudeDrag : List ℤ → List Float → Float → List Float → List Float
 altitudeDrag whole xs alt row =
     cond (acceptedOf (altitudeAnswer (length row) whole (length xs) alt))
-    (draggedOf (unitsIn whole) (rowStored (unitsIn whole) (mixingIn whole) xs alt)) row
+    (draggedOf (unitsIn whole) (rowStored (unitsIn whole) (mixingIn whole) (take 234 xs) alt)) row
 
 -- a record in the place of the station's, where it is accepted
 unfoldable pub replacedOf : List ℤ → Input → List Float → List Float
@@ -48,3 +55,20 @@ replacedOf w n xs = cond (acceptedOf (judgedOf w n)) (numbersOf w n) xs
 -- the numbers afterwards: refused, as they were; the whole numbers stay
 unfoldable pub changedNumbers : Change → List ℤ → List Float → List Float
 changedNumbers c whole xs = cond (acceptedOf (changeAnswer c whole xs)) (numbersOf (drop 3 whole) (changeOf c (recordIn whole xs))) xs
+
+-- ---- a new switch row (W-213)
+
+-- what no altitude changes, made anew out of the expansions' values that the numbers hold
+unfoldable pub refilledOf : List ℤ → Input → List Float → List Float
+refilledOf w n xs = take 14 xs ++ (heldOf w n (levelsIn (part 234 25 xs)) ++ drop 234 xs)
+
+-- the numbers under the row w in the place of the row old: where the entries 1 to 14 have the same effects, no expansion is worked out again
+unfoldable pub renewedOf : List ℤ → List ℤ → Input → List Float → List Float
+renewedOf old w n xs = cond (sameExpansions old w) (refilledOf w n xs) (numbersOf w n)
+
+-- the slices afterwards: refused, as they were
+unfoldable pub switchedWhole : List ℤ → List ℤ → List Float → List ℤ
+switchedWhole w whole xs = cond (acceptedOf (switchesAnswer w whole xs)) (wholeOf w (recordIn whole xs)) whole
+
+unfoldable pub switchedNumbers : List ℤ → List ℤ → List Float → List Float
+switchedNumbers w whole xs = cond (acceptedOf (switchesAnswer w whole xs)) (renewedOf (drop 3 whole) w (recordIn whole xs) xs) xs

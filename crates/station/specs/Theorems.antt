@@ -1,4 +1,5 @@
--- What holds of a station that its calls gave: an altitude of it is the one-altitude call's on the record as it then is, whatever the changes before.
+-- What holds of a station that its calls gave: an altitude of it is the one-altitude call's on the record and the row as they
+-- then are, whatever changes and new rows came before.
 use Prim.Native.Nat.{ℕ, zero, suc}
 use mathlib.Core.Path.{_≡_, refl, sym, ap, ap₂, _∙_}
 use mathlib.Core.Bool.{Bool, true, false, cond, not, _&&_, false≢true}
@@ -7,7 +8,7 @@ use native.Mathlib.Omega.{arith}
 use borrow.Author.Tests.{eq-eqb}
 use lib.Dec.{eqb}
 use lib.IntN.{ℤ, pos}
-use lib.ListN.{length, drop, getD}
+use lib.ListN.{length, take, drop, getD}
 use lib.Seq.{drop-cons, drop-length}
 use lib.Ieee.{Float, nan, neg, le, lt, eq, ofBits}
 use Rattle.numbers.specs.Arithmetic.{_‼_}
@@ -25,25 +26,45 @@ use Rattle.acceptance.specs.Acceptance.{withinOf, dayWithin, lowest, arrayUnfit
 use Rattle.atmosphere.specs.Atmosphere.{elevenOf, answerOf, rowAfter}
 use Rattle.stored_parts.specs.Parts.{allParts, partsAt}
 use Rattle.stored.specs.Stored.{rowStored}
-use Rattle.stored.specs.Rows.{all-length}
 use Rattle.stored_parts.specs.Held.{all-hold}
 use Rattle.stored.specs.Eleven.{stored-eleven}
 use Rattle.shutoff.specs.Shut.{Alike}
 use Rattle.shutoff.specs.Theorems.{judged-first, known, written, alike-at, eleven≡}
-use Rattle.station_record.specs.Record.{markOf, historyIn, wholeOf, recordNumbers, recordIn, stationAnswer, altitudeAnswer, withSecOf, withLstOf, withLongOf, withFluxesOf, Change, toSec, toLst, toLong, toFluxes, changeOf, changeAnswer}
-use Rattle.station.specs.Station.{numbersOf, wholeAfter, numbersAfter, altitudeRow, changedNumbers}
+use Rattle.station_record.specs.Record.{markOf, historyIn, wholeOf, recordNumbers, recordIn, stationAnswer, altitudeAnswer, withSecOf, withLstOf, withLongOf, withFluxesOf, Change, toSec, toLst, toLong, toFluxes, changeOf, changeAnswer, switchesAnswer}
+use Rattle.station_levels.specs.StationLevels.{siteUnder}
+use Rattle.station.specs.Station.{heldOf, numbersOf, wholeAfter, numbersAfter, altitudeRow, changedNumbers, switchedWhole, switchedNumbers}
+use Rattle.station.specs.Renewed.{fourteen, numbers-long, numbers-front, renewed-told}
 
--- ---- stations that were given: prepared, then any number of changes, refused ones among them
+-- ---- stations that were given: prepared, then any number of changes and new rows, refused ones among them
 
--- the record after changes, each taken where the one-altitude call accepts the changed record
-unfoldable pub recordAfter : List ℤ → Input → List Change → Input
-recordAfter w n [] = n
-recordAfter w n (c ∷ cs) = recordAfter w (cond (acceptedOf (judgedOf w (changeOf c n))) (changeOf c n) n) cs
+-- a call on a station: a change of the record, or a new row of 24
+pub data Call : Type 0 where
+  change : Change → Call
+  switches : (u : List ℤ) → length u ≡ 24 → Call
 
--- the numbers of a station after the calls
-unfoldable pub stationAfter : List ℤ → List Float → List Change → List Float
-stationAfter whole xs [] = xs
-stationAfter whole xs (c ∷ cs) = stationAfter whole (changedNumbers c whole xs) cs
+-- the row and the record after a call, taken where the one-altitude call accepts the record under the row
+unfoldable pub callOf : Call → List ℤ → Input → List ℤ × Input
+callOf (change c) w n = (w, cond (acceptedOf (judgedOf w (changeOf c n))) (changeOf c n) n)
+callOf (switches u e) w n = (cond (acceptedOf (judgedOf u n)) u w, n)
+
+-- the row and the record after the calls
+unfoldable pub heldAfter : List ℤ → Input → List Call → List ℤ × Input
+heldAfter w n [] = (w, n)
+heldAfter w n (c ∷ cs) = heldAfter ((callOf c w n) .0) ((callOf c w n) .1) cs
+
+-- the two slices after a call
+unfoldable pub callOn : Call → List ℤ → List Float → List ℤ × List Float
+callOn (change c) whole xs = (whole, changedNumbers c whole xs)
+callOn (switches u e) whole xs = (switchedWhole u whole xs, switchedNumbers u whole xs)
+
+-- the two slices after the calls
+unfoldable pub stationAfter : List ℤ → List Float → List Call → List ℤ × List Float
+stationAfter whole xs [] = (whole, xs)
+stationAfter whole xs (c ∷ cs) = stationAfter ((callOn c whole xs) .0) ((callOn c whole xs) .1) cs
+
+-- the two slices that preparing leaves
+abbrev pub stationOf : List ℤ → Input → List ℤ × List Float
+stationOf w n = (wholeOf w n, numbersOf w n)
 
 -- a record that a station holds under a row: at altitude 0, with its seven values, accepted
 pub record Held (w : List ℤ) (n : Input) : Type 0 where
@@ -78,14 +99,6 @@ record-back w n h =
     ap₂ (λ (m : History) (a : List Float). record { year = n .year; doy = n .doy; sec = n .sec; alt = 0·0; «g_lat» = n .«g_lat»; «g_long» = n .«g_long»; lst = n .lst; f107a = n .f107a; f107 = n .f107; ap = n .ap; history = m; «ap_array» = a })
     (mark-back (n .history)) (seven-plain (n .«ap_array») (h .seven))
     ∙ h .zero
-
-fourteen : (n : Input) → length (recordNumbers n) ≡ 14
-unfolding recordNumbers
-fourteen n = refl
-
-numbers-long : (w : List ℤ) (n : Input) → length (numbersOf w n) ≡ 234
-unfolding numbersOf
-numbers-long w n = all-length allParts _ _ _ (recordNumbers n) (fourteen n)
 
 whole-long : (w : List ℤ) (n : Input) → length w ≡ 24 → length (wholeOf w n) ≡ 27
 unfolding wholeOf
@@ -148,29 +161,86 @@ change-told w n c h =
     rw (dropped w n, record-back w n h, eq-eqb _ _ (whole-long w n (h .row)), eq-eqb _ _ (numbers-long w n))
     (chosen w (acceptedOf (judgedOf w (changeOf c n))) (changeOf c n) n)
 
--- Kept stations: after any changes the station is the one that preparing the record as it then is would give, and that record is held
-pub kept : (w : List ℤ) (n : Input) (cs : List Change) → Held w n
-    → (stationAfter (wholeOf w n) (numbersOf w n) cs ≡ numbersOf w (recordAfter w n cs)) × (wholeOf w (recordAfter w n cs) ≡ wholeOf w n) × Held w (recordAfter w n cs)
-unfolding stationAfter recordAfter
-kept w n [] h = (refl, refl, h)
-kept w n (c ∷ cs) h =
-    let b : Bool = acceptedOf (judgedOf w (changeOf c n)) in
-    let m : Input = cond b (changeOf c n) n in
-    let r = kept w m cs (changed-held w n c b refl h) in (
-      ap (λ (xs : List Float). stationAfter (wholeOf w n) xs cs) (change-told w n c h) ∙ ap (λ (ys : List ℤ). stationAfter ys (numbersOf w m) cs) (sym (whole-one w n c b)) ∙ r .0,
-      r .1 ∙ whole-one w n c b,
-      r .2,
-    )
+-- ---- a new row
 
--- so it equals the one that preparing that record anew gives, whatever memory is lent
-pub as-prepared : (w : List ℤ) (n : Input) (cs : List Change) (ys : List ℤ) (xs : List Float) → Held w n → length ys ≡ 27 → length xs ≡ 234
-    → (wholeOf w n ≡ wholeAfter w (recordAfter w n cs) ys (length xs)) × (stationAfter (wholeOf w n) (numbersOf w n) cs ≡ numbersAfter w (recordAfter w n cs) (length ys) xs)
+no-refusal : (c : Bool) (n k : ℕ) (x : Answer) → cond c (Refused n k) x ≡ Accepted → (c ≡ false) × (x ≡ Accepted)
+no-refusal true n k x e = absurd (false≢true (ap acceptedOf e))
+no-refusal false n k x e = (refl, e)
+
+-- A held record is refused under another row for an absent history alone
+pub judged-under : (w u : List ℤ) (n : Input) → Held w n → judgedOf u n ≡ cond (lacksHistoryOf u n) (Refused 1 10) Accepted
+unfolding judgedOf
+judged-under w u n h =
+    let a = no-refusal (foundOf (unfitOf n)) 2 _ _ (h .taken) in
+    let b = no-refusal (lacksHistoryOf w n) 1 10 _ (a .1) in
+    let c = no-refusal (foundOf (outsideOf n)) 3 _ _ (b .1) in
+    rw (a .0, c .0)
+
+switches-met : (w u : List ℤ) (n : Input) → Held w n → switchesAnswer u (wholeOf w n) (numbersOf w n) ≡ judgedOf u n
+unfolding switchesAnswer
+switches-met w u n h = rw (record-back w n h, eq-eqb _ _ (whole-long w n (h .row)), eq-eqb _ _ (numbers-long w n))
+
+-- The answer to a new row: 1 at place 10 where it asks for an absent history, else accepted
+pub switches-told : (w u : List ℤ) (n : Input) → Held w n → switchesAnswer u (wholeOf w n) (numbersOf w n) ≡ cond (lacksHistoryOf u n) (Refused 1 10) Accepted
+switches-told w u n h = switches-met w u n h ∙ judged-under w u n h
+
+-- Refused, a station is as it was, whatever it held
+pub switches-refused : (u whole : List ℤ) (xs : List Float) → acceptedOf (switchesAnswer u whole xs) ≡ false → (switchedWhole u whole xs ≡ whole) × (switchedNumbers u whole xs ≡ xs)
+unfolding switchedWhole switchedNumbers
+switches-refused u whole xs e = (rw e, rw e)
+
+row-chosen : (b : Bool) (w u : List ℤ) (n : Input) → cond b (wholeOf u n) (wholeOf w n) ≡ wholeOf (cond b u w) n
+row-chosen true w u n = refl
+row-chosen false w u n = refl
+
+numbers-chosen : (b : Bool) (w u : List ℤ) (n : Input) → cond b (numbersOf u n) (numbersOf w n) ≡ numbersOf (cond b u w) n
+numbers-chosen true w u n = refl
+numbers-chosen false w u n = refl
+
+whole-switched : (w u : List ℤ) (n : Input) → Held w n → switchedWhole u (wholeOf w n) (numbersOf w n) ≡ wholeOf (cond (acceptedOf (judgedOf u n)) u w) n
+unfolding switchedWhole
+whole-switched w u n h = rw (switches-met w u n h, record-back w n h) (row-chosen (acceptedOf (judgedOf u n)) w u n)
+
+numbers-switched : (w u : List ℤ) (n : Input) → Held w n → switchedNumbers u (wholeOf w n) (numbersOf w n) ≡ numbersOf (cond (acceptedOf (judgedOf u n)) u w) n
+unfolding switchedNumbers
+numbers-switched w u n h =
+    rw (switches-met w u n h, record-back w n h, dropped w n, renewed-told w u n) (numbers-chosen (acceptedOf (judgedOf u n)) w u n)
+
+switched-held : (w u : List ℤ) (n : Input) (b : Bool) → length u ≡ 24 → acceptedOf (judgedOf u n) ≡ b → Held w n → Held (cond b u w) n
+switched-held w u n true len e h = record { row = len; seven = h .seven; zero = h .zero; taken = accepted-is (judgedOf u n) e }
+switched-held w u n false len e h = h
+
+-- ---- any calls
+
+call-told : (c : Call) (w : List ℤ) (n : Input) → Held w n → callOn c (wholeOf w n) (numbersOf w n) ≡ stationOf ((callOf c w n) .0) ((callOf c w n) .1)
+unfolding callOn callOf
+call-told (change c) w n h = ap₂ (λ (ys : List ℤ) (xs : List Float). (ys, xs)) (sym (whole-one w n c (acceptedOf (judgedOf w (changeOf c n))))) (change-told w n c h)
+call-told (switches u e) w n h = ap₂ (λ (ys : List ℤ) (xs : List Float). (ys, xs)) (whole-switched w u n h) (numbers-switched w u n h)
+
+call-held : (c : Call) (w : List ℤ) (n : Input) → Held w n → Held ((callOf c w n) .0) ((callOf c w n) .1)
+unfolding callOf
+call-held (change c) w n h = changed-held w n c (acceptedOf (judgedOf w (changeOf c n))) refl h
+call-held (switches u e) w n h = switched-held w u n (acceptedOf (judgedOf u n)) e refl h
+
+-- Kept stations: after any calls the station is the one that preparing the record as it then is with the row as it then is would give, and that
+-- record is held under that row
+pub kept : (w : List ℤ) (n : Input) (cs : List Call) → Held w n
+    → (stationAfter (wholeOf w n) (numbersOf w n) cs ≡ stationOf ((heldAfter w n cs) .0) ((heldAfter w n cs) .1)) × Held ((heldAfter w n cs) .0) ((heldAfter w n cs) .1)
+unfolding stationAfter heldAfter
+kept w n [] h = (refl, h)
+kept w n (c ∷ cs) h =
+    let r = kept ((callOf c w n) .0) ((callOf c w n) .1) cs (call-held c w n h) in
+    (ap (λ (s : List ℤ × List Float). stationAfter (s .0) (s .1) cs) (call-told c w n h) ∙ r .0, r .1)
+
+-- so it equals the one that preparing that record with that row anew gives, whatever memory is lent
+pub as-prepared : (w : List ℤ) (n : Input) (cs : List Call) (ys : List ℤ) (xs : List Float) → Held w n → length ys ≡ 27 → length xs ≡ 259
+    → stationAfter (wholeOf w n) (numbersOf w n) cs
+    ≡ (wholeAfter ((heldAfter w n cs) .0) ((heldAfter w n cs) .1) ys (length xs), numbersAfter ((heldAfter w n cs) .0) ((heldAfter w n cs) .1) (length ys) xs)
 unfolding wholeAfter numbersAfter stationAnswer
 as-prepared w n cs ys xs h e f =
     let r = kept w n cs h in
-    let m : Input = recordAfter w n cs in
-    let t : acceptedOf (judgedOf w m) ≡ true = ap acceptedOf (r .2 .taken) in
-    (rw (eq-eqb _ _ e, eq-eqb _ _ f, r .2 .zero, t) (sym (r .1)), rw (eq-eqb _ _ e, eq-eqb _ _ f, r .2 .zero, t) (r .0))
+    let t : acceptedOf (judgedOf ((heldAfter w n cs) .0) ((heldAfter w n cs) .1)) ≡ true = ap acceptedOf (r .1 .taken) in
+    rw (eq-eqb _ _ e, eq-eqb _ _ f, r .1 .zero, t) (r .0)
 
 -- ---- an altitude of such a station
 
@@ -193,10 +263,6 @@ unfolding foundOf
 chain true d u o r s lacks e f g i j = rw e
 chain false true u o r s lacks e f g i j = rw (e, f, g, i)
 chain false false u o r s lacks e f g i j = rw (e, f, g, i, j)
-
-no-refusal : (c : Bool) (n k : ℕ) (x : Answer) → cond c (Refused n k) x ≡ Accepted → (c ≡ false) × (x ≡ Accepted)
-no-refusal true n k x e = absurd (false≢true (ap acceptedOf e))
-no-refusal false n k x e = (refl, e)
 
 zero-finite : not (finiteOf 0·0) ≡ false
 unfolding finiteOf lt eq ofBits
@@ -244,10 +310,10 @@ within-top z e = both-passed (le 0·0 z) (le z 2500·0) e
 
 -- the row that the station gives is demand 2's, at every altitude in range
 row-told : (w : List ℤ) (n : Input) (z : Float) → withinOf 0·0 2500·0 z ≡ true
-    → rowStored (onOff (isOne (getD (wholeOf w n) 3 (pos 0)))) (onOff (isOne (getD (wholeOf w n) 18 (pos 0)))) (numbersOf w n) z ≡ elevenOf w (withAltOf n z)
-unfolding numbersOf
+    → rowStored (onOff (isOne (getD (wholeOf w n) 3 (pos 0)))) (onOff (isOne (getD (wholeOf w n) 18 (pos 0)))) (take 234 (numbersOf w n)) z ≡ elevenOf w (withAltOf n z)
+unfolding heldOf siteUnder viewOf
 row-told w n z e =
-    rw (main-0 w n, main-15 w n) (stored-eleven w n allParts (recordNumbers n) z (fourteen n) (within-top z e) (all-hold (partsAt z)))
+    rw (main-0 w n, main-15 w n, numbers-front w n) (stored-eleven w n allParts (recordNumbers n) z (fourteen n) (within-top z e) (all-hold (partsAt z)))
 
 passed : (b : Bool) (n k : ℕ) (a : Answer) → acceptedOf (cond (not b) (Refused n k) a) ≡ true → (b ≡ true) × (acceptedOf a ≡ true)
 passed true n k a h = (refl, h)
@@ -258,7 +324,7 @@ unfolding altitudeAnswer
 in-range len whole count z h =
     let a = passed (eqb len 11) 4 11 _ h in
     let b = passed (eqb (length whole) 27) 4 27 _ (a .1) in
-    let c = passed (eqb count 234) 4 234 _ (b .1) in
+    let c = passed (eqb count 259) 4 259 _ (b .1) in
     let d = passed (finiteOf z) 2 3 _ (c .1) in
     (passed (withinOf 0·0 2500·0 z) 3 3 _ (d .1)) .0
 
@@ -301,20 +367,22 @@ altitude-told w n z row h =
           ∙ ap (λ (a : Answer). cond (acceptedOf a) (elevenOf w (withAltOf n z)) row) e,
     )
 
--- the same after any changes: the record as it then is
-pub altitude-kept : (w : List ℤ) (n : Input) (cs : List Change) (z : Float) (row : List Float) → Held w n
-    → (altitudeAnswer (length row) (wholeOf w n) (length (stationAfter (wholeOf w n) (numbersOf w n) cs)) z ≡ answerOf w (withAltOf (recordAfter w n cs) z) (length row))
-    × (altitudeRow (wholeOf w n) (stationAfter (wholeOf w n) (numbersOf w n) cs) z row ≡ rowAfter w (withAltOf (recordAfter w n cs) z) row)
+-- the same after any calls: the record and the row as they then are
+pub altitude-kept : (w : List ℤ) (n : Input) (cs : List Call) (z : Float) (row : List Float) → Held w n
+    → (altitudeAnswer (length row) ((stationAfter (wholeOf w n) (numbersOf w n) cs) .0) (length ((stationAfter (wholeOf w n) (numbersOf w n) cs) .1)) z
+    ≡ answerOf ((heldAfter w n cs) .0) (withAltOf ((heldAfter w n cs) .1) z) (length row))
+    × (altitudeRow ((stationAfter (wholeOf w n) (numbersOf w n) cs) .0) ((stationAfter (wholeOf w n) (numbersOf w n) cs) .1) z row
+    ≡ rowAfter ((heldAfter w n cs) .0) (withAltOf ((heldAfter w n cs) .1) z) row)
 altitude-kept w n cs z row h =
     let r = kept w n cs h in
-    rw (r .0, ← r .1) (altitude-told w (recordAfter w n cs) z row (r .2))
+    rw (r .0) (altitude-told ((heldAfter w n cs) .0) ((heldAfter w n cs) .1) z row (r .1))
 
 -- what preparing accepts is held
-pub prepared-held : (w : List ℤ) (n : Input) → length w ≡ 24 → length (n .«ap_array») ≡ 7 → stationAnswer w n 27 234 ≡ Accepted → Held w (withAltOf n 0·0)
+pub prepared-held : (w : List ℤ) (n : Input) → length w ≡ 24 → length (n .«ap_array») ≡ 7 → stationAnswer w n 27 259 ≡ Accepted → Held w (withAltOf n 0·0)
 unfolding stationAnswer withAltOf
 prepared-held w n e f t = record { row = e; seven = f; zero = refl; taken = t }
 
--- Demand 3 for stations. For every switch row and any two stations that hold records alike under it, whatever changes led there and whatever the
+-- Demand 3 for stations. For every switch row and any two stations that hold records alike under it, whatever calls led there and whatever the
 -- two lent rows held: an altitude that is accepted gives the same eleven numbers, and these are the definition's for the one record and the other.
 pub demand-3-station : (w : List ℤ) (a b : Input) (z : Float) (xs ys : List Float)
     → Alike w a b

@@ -2,8 +2,8 @@
 ghost use mathlib.Core.Path.{_≡_};
 ghost use lib.ListN.{length};
 ghost use Rattle.acceptance.specs.Acceptance.{judgedOf};
-ghost use Rattle.station_record.specs.Record.{toSec, toLst, toLong, toFluxes, stationAnswer, altitudeAnswer, changeAnswer};
-ghost use Rattle.station.specs.Station.{numbersOf, wholeAfter, numbersAfter, altitudeRow, altitudeDrag, replacedOf, changedNumbers};
+ghost use Rattle.station_record.specs.Record.{toSec, toLst, toLong, toFluxes, stationAnswer, altitudeAnswer, changeAnswer, switchesAnswer};
+ghost use Rattle.station.specs.Station.{refilledOf, numbersOf, wholeAfter, numbersAfter, altitudeRow, altitudeDrag, replacedOf, changedNumbers, renewedOf, switchedWhole, switchedNumbers};
 use acceptance::Answer;
 use acceptance::accepted;
 use acceptance::judge;
@@ -11,13 +11,19 @@ use acceptance::with_alt;
 use drag_sum::drag_on;
 use levels::levels_of;
 use setting::Input;
+use setting::switches::tselec;
 use setting::views::view_of;
+use station_levels::levels_in;
+use station_levels::levels_numbers;
+use station_levels::site_under;
 use station_record::altitude_answer;
 use station_record::mixing_in;
 use station_record::put_whole;
+use station_record::record_in;
 use station_record::record_numbers;
 use station_record::row_in;
 use station_record::station_answer;
+use station_record::take_row;
 use station_record::to_fluxes;
 use station_record::to_g_long;
 use station_record::to_lst;
@@ -28,24 +34,37 @@ use stored::put;
 use stored::row_on;
 use stored::store;
 use stored_parts::all_parts;
-use upper::site_of;
+use switch_rows::same_expansions;
 
 // ---- filled
 
+// What no altitude changes, out of the expansions' values that the numbers hold. It is handed no View, so no expansion is worked out here.
+pub fn refill(w: [i32; 24], n: Input, numbers: &mut [f64])
+    requires { ⌜ length (now numbers) ≡ 259 ⌝ }
+    ensures { λ _. ⌜ now (numbers .exit) ≡ refilledOf w n (now (numbers .entry)) ⌝ }
+{
+    let f = tselec(w);
+    let sw = f.sw;
+    let x = site_under(sw, n);
+    let l = levels_in(&numbers[234..259]);
+    let p = all_parts();
+    store(p, sw, x, l, &mut numbers[0..234]);
+}
+
 // What a record and a switch row give, into the numbers of a station.
 pub fn fill(w: [i32; 24], n: Input, numbers: &mut [f64])
-    requires { ⌜ length (now numbers) ≡ 234 ⌝ }
+    requires { ⌜ length (now numbers) ≡ 259 ⌝ }
     ensures { λ _. ⌜ now (numbers .exit) ≡ numbersOf w n ⌝ }
 {
-    let r = record_numbers(n);
-    put(&mut numbers[0..14], &r);
     let v = view_of(w, n);
-    let sw = v.sw;
-    let x = site_of(sw, n.g_lat, v.doy, n.f107a);
     let p = all_parts();
     let a = need_of(p);
     let l = levels_of(v, a);
-    store(p, sw, x, l, numbers);
+    let k = levels_numbers(l);
+    put(&mut numbers[234..259], &k);
+    let r = record_numbers(n);
+    put(&mut numbers[0..14], &r);
+    refill(w, n, numbers);
 }
 
 // ---- the calls
@@ -77,7 +96,7 @@ pub fn gtd7(whole: &[i32], numbers: &[f64], alt: f64, out: &mut [f64]) -> Answer
     }
     let sw0 = units_in(whole);
     let sw15 = mixing_in(whole);
-    row_on(sw0, sw15, numbers, alt, out);
+    row_on(sw0, sw15, &numbers[0..234], alt, out);
     a
 }
 
@@ -99,7 +118,7 @@ pub fn gtd7d(whole: &[i32], numbers: &[f64], alt: f64, out: &mut [f64]) -> Answe
 
 // A record that takes the place of the station's: judged first, and written only if it is accepted.
 pub fn changed(w: [i32; 24], n: Input, numbers: &mut [f64]) -> Answer
-    requires { ⌜ length (now numbers) ≡ 234 ⌝ }
+    requires { ⌜ length (now numbers) ≡ 259 ⌝ }
     ensures { λ r. ⌜ (r ≡ judgedOf w n) × (now (numbers .exit) ≡ replacedOf w n (now (numbers .entry))) ⌝ }
 {
     let a = judge(w, n);
@@ -116,8 +135,8 @@ pub fn change_sec(whole: &[i32], numbers: &mut [f64], sec: f64) -> Answer
     if whole.len() != 27 {
         return Answer::Refused(4, 27);
     }
-    if numbers.len() != 234 {
-        return Answer::Refused(4, 234);
+    if numbers.len() != 259 {
+        return Answer::Refused(4, 259);
     }
     let w = row_in(whole);
     let m = to_sec(whole, numbers, sec);
@@ -130,8 +149,8 @@ pub fn change_lst(whole: &[i32], numbers: &mut [f64], lst: f64) -> Answer
     if whole.len() != 27 {
         return Answer::Refused(4, 27);
     }
-    if numbers.len() != 234 {
-        return Answer::Refused(4, 234);
+    if numbers.len() != 259 {
+        return Answer::Refused(4, 259);
     }
     let w = row_in(whole);
     let m = to_lst(whole, numbers, lst);
@@ -144,8 +163,8 @@ pub fn change_g_long(whole: &[i32], numbers: &mut [f64], g_long: f64) -> Answer
     if whole.len() != 27 {
         return Answer::Refused(4, 27);
     }
-    if numbers.len() != 234 {
-        return Answer::Refused(4, 234);
+    if numbers.len() != 259 {
+        return Answer::Refused(4, 259);
     }
     let w = row_in(whole);
     let m = to_g_long(whole, numbers, g_long);
@@ -158,10 +177,46 @@ pub fn change_fluxes(whole: &[i32], numbers: &mut [f64], f107a: f64, f107: f64) 
     if whole.len() != 27 {
         return Answer::Refused(4, 27);
     }
-    if numbers.len() != 234 {
-        return Answer::Refused(4, 234);
+    if numbers.len() != 259 {
+        return Answer::Refused(4, 259);
     }
     let w = row_in(whole);
     let m = to_fluxes(whole, numbers, f107a, f107);
     changed(w, m, numbers)
+}
+
+// ---- a new switch row
+
+// The numbers under the row w in the place of the row old; the expansions' values stay where the rows give the same.
+pub fn renew(old: [i32; 24], w: [i32; 24], n: Input, numbers: &mut [f64])
+    requires { ⌜ length (now numbers) ≡ 259 ⌝ }
+    ensures { λ _. ⌜ now (numbers .exit) ≡ renewedOf old w n (now (numbers .entry)) ⌝ }
+{
+    if same_expansions(old, w) {
+        refill(w, n, numbers);
+        return;
+    }
+    fill(w, n, numbers);
+}
+
+// The station's record under a new row: refused, the old row goes on.
+pub fn change_switches(w: [i32; 24], whole: &mut [i32], numbers: &mut [f64]) -> Answer
+    ensures { λ r. ⌜ (r ≡ switchesAnswer w (now (whole .entry)) (now (numbers .entry)))
+        × (now (whole .exit) ≡ switchedWhole w (now (whole .entry)) (now (numbers .entry)))
+        × (now (numbers .exit) ≡ switchedNumbers w (now (whole .entry)) (now (numbers .entry))) ⌝ }
+{
+    if whole.len() != 27 {
+        return Answer::Refused(4, 27);
+    }
+    if numbers.len() != 259 {
+        return Answer::Refused(4, 259);
+    }
+    let n = record_in(whole, numbers);
+    let old = row_in(whole);
+    let a = take_row(w, n, whole);
+    if !accepted(a) {
+        return a;
+    }
+    renew(old, w, n, numbers);
+    a
 }

@@ -1,4 +1,4 @@
--- The record of a prepared station in its two slices, and document 02's refusals of its calls in order (W-201).
+-- The record of a prepared station in its two slices, and document 02's refusals of its calls in order (W-201, W-213).
 use Prim.Native.Nat.{ℕ}
 use mathlib.Core.Bool.{cond, not}
 use mathlib.Core.List.{List, [], _∷_}
@@ -16,9 +16,9 @@ use Rattle.setting.specs.ApHistory.{absentOf}
 use Rattle.setting.specs.Switches.{isOne, onOff}
 use Rattle.acceptance.specs.declared.Answer.{Answer}
 use Rattle.acceptance.specs.declared.Answer.the-variants.{Accepted, Refused}
-use Rattle.acceptance.specs.Acceptance.{withinOf, judgedOf, unmixedOf, withAltOf}
+use Rattle.acceptance.specs.Acceptance.{withinOf, judgedOf, acceptedOf, unmixedOf, withAltOf}
 
--- ---- what the two slices hold: 27 whole numbers and 234 numbers
+-- ---- what the two slices hold: 27 whole numbers and 259 numbers, the record's fourteen first
 
 -- 1 where the history is there
 unfoldable pub markOf : History → ℤ
@@ -67,7 +67,7 @@ mixingIn whole = onOff (isOne (getD whole 18 (pos 0)))
 unfoldable pub stationAnswer : List ℤ → Input → ℕ → ℕ → Answer
 stationAnswer w n ints count =
     cond (not (eqb ints 27)) (Refused 4 27)
-    (cond (not (eqb count 234)) (Refused 4 234)
+    (cond (not (eqb count 259)) (Refused 4 259)
     (judgedOf w (withAltOf n 0·0)))
 
 -- ---- an altitude: 4 for the row, for the two slices; 2, then 3, then 10 at place 3; switch 0 stands at 3 and switch 15 at 18
@@ -76,7 +76,7 @@ unfoldable pub altitudeAnswer : ℕ → List ℤ → ℕ → Float → Answer
 altitudeAnswer len whole count alt =
     cond (not (eqb len 11)) (Refused 4 11)
     (cond (not (eqb (length whole) 27)) (Refused 4 27)
-    (cond (not (eqb count 234)) (Refused 4 234)
+    (cond (not (eqb count 259)) (Refused 4 259)
     (cond (not (finiteOf alt)) (Refused 2 3)
     (cond (not (withinOf 0·0 2500·0 alt)) (Refused 3 3)
     (cond (unmixedOf (isOne (getD whole 18 (pos 0))) alt) (Refused 10 3) Accepted)))))
@@ -111,5 +111,18 @@ changeOf (toFluxes a f) n = withFluxesOf n a f
 unfoldable pub changeAnswer : Change → List ℤ → List Float → Answer
 changeAnswer c whole xs =
     cond (not (eqb (length whole) 27)) (Refused 4 27)
-    (cond (not (eqb (length xs) 234)) (Refused 4 234)
+    (cond (not (eqb (length xs) 259)) (Refused 4 259)
     (judgedOf (drop 3 whole) (changeOf c (recordIn whole xs))))
+
+-- ---- a new switch row (W-213)
+
+-- 4 for the slices, then what the station's record meets under the new row
+unfoldable pub switchesAnswer : List ℤ → List ℤ → List Float → Answer
+switchesAnswer w whole xs =
+    cond (not (eqb (length whole) 27)) (Refused 4 27)
+    (cond (not (eqb (length xs) 259)) (Refused 4 259)
+    (judgedOf w (recordIn whole xs)))
+
+-- the whole numbers with the row w, where the record is accepted under it
+unfoldable pub rowTaken : List ℤ → Input → List ℤ → List ℤ
+rowTaken w n whole = cond (acceptedOf (judgedOf w n)) (wholeOf w n) whole

@@ -3,9 +3,11 @@ ghost use mathlib.Core.Path.{_≡_};
 ghost use Prim.Native.Nat.{_<_};
 ghost use lib.IntN.{pos};
 ghost use lib.ListN.{length, drop, getD};
+ghost use Rattle.acceptance.specs.Acceptance.{judgedOf};
 ghost use Rattle.setting.specs.Switches.{isOne, onOff};
-ghost use Rattle.station_record.specs.Record.{markOf, historyIn, wholeOf, recordNumbers, recordIn, unitsIn, mixingIn, withSecOf, withLstOf, withLongOf, withFluxesOf, toSec, toLst, toLong, toFluxes, changeOf, stationAnswer, altitudeAnswer};
+ghost use Rattle.station_record.specs.Record.{markOf, historyIn, wholeOf, recordNumbers, recordIn, unitsIn, mixingIn, withSecOf, withLstOf, withLongOf, withFluxesOf, toSec, toLst, toLong, toFluxes, changeOf, stationAnswer, altitudeAnswer, rowTaken};
 use acceptance::Answer;
+use acceptance::accepted;
 use acceptance::judge;
 use acceptance::unmixed;
 use acceptance::with_alt;
@@ -160,7 +162,7 @@ pub fn record_numbers(n: Input) -> [f64; 14]
 
 // The record that a station holds, at altitude 0.
 pub fn record_in(whole: &[i32], numbers: &[f64]) -> Input
-    requires { ⌜ (length (now whole) ≡ 27) × (length (now numbers) ≡ 234) ⌝ }
+    requires { ⌜ (length (now whole) ≡ 27) × (length (now numbers) ≡ 259) ⌝ }
     ensures { λ r. ⌜ r ≡ recordIn (now (whole .entry)) (now (numbers .entry)) ⌝ }
 {
     let year = whole_number(whole, 0);
@@ -227,7 +229,7 @@ pub fn with_fluxes(n: Input, f107a: f64, f107: f64) -> Input
 
 // The record of a station with the change made.
 pub fn to_sec(whole: &[i32], numbers: &[f64], sec: f64) -> Input
-    requires { ⌜ (length (now whole) ≡ 27) × (length (now numbers) ≡ 234) ⌝ }
+    requires { ⌜ (length (now whole) ≡ 27) × (length (now numbers) ≡ 259) ⌝ }
     ensures { λ r. ⌜ r ≡ changeOf (toSec sec) (recordIn (now (whole .entry)) (now (numbers .entry))) ⌝ }
 {
     let n = record_in(whole, numbers);
@@ -235,7 +237,7 @@ pub fn to_sec(whole: &[i32], numbers: &[f64], sec: f64) -> Input
 }
 
 pub fn to_lst(whole: &[i32], numbers: &[f64], lst: f64) -> Input
-    requires { ⌜ (length (now whole) ≡ 27) × (length (now numbers) ≡ 234) ⌝ }
+    requires { ⌜ (length (now whole) ≡ 27) × (length (now numbers) ≡ 259) ⌝ }
     ensures { λ r. ⌜ r ≡ changeOf (toLst lst) (recordIn (now (whole .entry)) (now (numbers .entry))) ⌝ }
 {
     let n = record_in(whole, numbers);
@@ -243,7 +245,7 @@ pub fn to_lst(whole: &[i32], numbers: &[f64], lst: f64) -> Input
 }
 
 pub fn to_g_long(whole: &[i32], numbers: &[f64], g_long: f64) -> Input
-    requires { ⌜ (length (now whole) ≡ 27) × (length (now numbers) ≡ 234) ⌝ }
+    requires { ⌜ (length (now whole) ≡ 27) × (length (now numbers) ≡ 259) ⌝ }
     ensures { λ r. ⌜ r ≡ changeOf (toLong «g_long») (recordIn (now (whole .entry)) (now (numbers .entry))) ⌝ }
 {
     let n = record_in(whole, numbers);
@@ -251,7 +253,7 @@ pub fn to_g_long(whole: &[i32], numbers: &[f64], g_long: f64) -> Input
 }
 
 pub fn to_fluxes(whole: &[i32], numbers: &[f64], f107a: f64, f107: f64) -> Input
-    requires { ⌜ (length (now whole) ≡ 27) × (length (now numbers) ≡ 234) ⌝ }
+    requires { ⌜ (length (now whole) ≡ 27) × (length (now numbers) ≡ 259) ⌝ }
     ensures { λ r. ⌜ r ≡ changeOf (toFluxes f107a f107) (recordIn (now (whole .entry)) (now (numbers .entry))) ⌝ }
 {
     let n = record_in(whole, numbers);
@@ -267,8 +269,8 @@ pub fn station_answer(w: [i32; 24], n: Input, ints: usize, count: usize) -> Answ
     if ints != 27 {
         return Answer::Refused(4, 27);
     }
-    if count != 234 {
-        return Answer::Refused(4, 234);
+    if count != 259 {
+        return Answer::Refused(4, 259);
     }
     let m = with_alt(n, 0.0);
     judge(w, m)
@@ -297,8 +299,8 @@ pub fn altitude_answer(len: usize, whole: &[i32], count: usize, alt: f64) -> Ans
     if ints != 27 {
         return Answer::Refused(4, 27);
     }
-    if count != 234 {
-        return Answer::Refused(4, 234);
+    if count != 259 {
+        return Answer::Refused(4, 259);
     }
     if !finite(alt) {
         return Answer::Refused(2, 3);
@@ -311,4 +313,19 @@ pub fn altitude_answer(len: usize, whole: &[i32], count: usize, alt: f64) -> Ans
         return Answer::Refused(10, 3);
     }
     Answer::Accepted
+}
+
+// ---- a new switch row
+
+// The record judged under the row w, which then stands in the whole numbers; refused, the old row stays.
+pub fn take_row(w: [i32; 24], n: Input, whole: &mut [i32]) -> Answer
+    requires { ⌜ length (now whole) ≡ 27 ⌝ }
+    ensures { λ r. ⌜ (r ≡ judgedOf w n) × (now (whole .exit) ≡ rowTaken w n (now (whole .entry))) ⌝ }
+{
+    let a = judge(w, n);
+    if !accepted(a) {
+        return a;
+    }
+    put_whole(w, n, whole);
+    a
 }
