@@ -1,11 +1,10 @@
 -- The first row, altitude by altitude, and the lent row.
 use Prim.Native.Nat.{ℕ, suc, _+_}
-use mathlib.Core.Path.{_≡_, refl, sym, _∙_}
-use mathlib.Core.Bool.{true, false, cond, not}
+use mathlib.Core.Path.{_≡_}
+use mathlib.Core.Bool.{Bool, true, false, cond, not}
 use mathlib.Core.List.{List}
 use borrow.Author.Tests.{not-true, not-false}
-use lib.Ieee.{Float, lt}
-use Rattle.numbers.specs.Arithmetic.{_‼_}
+use lib.Ieee.{Float}
 use Rattle.first_below_list.specs.declared.First.the-variants.{At}
 use Rattle.first_below_list.specs.FirstBelowList.{belowOf, rowIn, firstFrom}
 
@@ -18,12 +17,10 @@ module _ (level : Float) (rows : List Float) (m k : ℕ) where
   unfolding firstFrom
   miss t = rw t
 
-module _ (level : Float) (numbers xs : List Float) where
-  pub left : not (lt (numbers ‼ 5) level) ≡ true → (false ≡ belowOf level numbers) × (xs ≡ cond (belowOf level numbers) numbers xs)
-  unfolding belowOf
-  left h = let t = not-true (lt (numbers ‼ 5) level) h in (sym t, rw t)
+-- numbers that are written or not
+module _ (t : Bool) (numbers xs : List Float) where
+  pub left : not t ≡ true → xs ≡ cond t numbers xs
+  left h = rw (not-true t h)
 
-  pub written : not (lt (numbers ‼ 5) level) ≡ false → (ys : List Float) → ys ≡ numbers
-      → (true ≡ belowOf level numbers) × (ys ≡ cond (belowOf level numbers) numbers xs)
-  unfolding belowOf
-  written h ys e = let t = not-false (lt (numbers ‼ 5) level) h in (sym t, rw t e)
+  pub written : not t ≡ false → (ys : List Float) → ys ≡ numbers → ys ≡ cond t numbers xs
+  written h ys e = rw (not-false t h) e

@@ -11,19 +11,28 @@ pub enum First {
     Refused(usize, usize),
 }
 
+// The numbers into a lent row as long where t holds.
+pub fn put_if(t: bool, numbers: &[f64], row: &mut [f64])
+    requires { ⌜ length (now row) ≡ length (now numbers) ⌝ }
+    ensures { λ _. ⌜ now (row .exit) ≡ cond t (now (numbers .entry)) (now (row .entry)) ⌝ }
+{
+    if !t {
+        return;
+    }
+    let mut i: usize = 0;
+    while i < numbers.len() {
+        row[i] = numbers[i];
+        i += 1;
+    }
+}
+
 // An altitude's eleven numbers into the lent row where their d[5] is below the level, else the row as it was; whether it is.
 pub fn taken(level: f64, numbers: &[f64], row: &mut [f64]) -> bool
     requires { ⌜ (length (now numbers) ≡ 11) × (length (now row) ≡ 11) ⌝ }
     ensures { λ r. ⌜ (r ≡ belowOf level (now (numbers .entry)))
         × (now (row .exit) ≡ cond (belowOf level (now (numbers .entry))) (now (numbers .entry)) (now (row .entry))) ⌝ }
 {
-    if !(numbers[5] < level) {
-        return false;
-    }
-    let mut i: usize = 0;
-    while i < 11 {
-        row[i] = numbers[i];
-        i += 1;
-    }
-    true
+    let thin = numbers[5] < level;
+    put_if(thin, numbers, row);
+    thin
 }
