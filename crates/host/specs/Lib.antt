@@ -4,3 +4,4 @@ pub mod Crossings
 pub mod Bands
 pub mod Boards
 pub mod Constants
+pub mod FirstBelow
