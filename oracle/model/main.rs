@@ -1,9 +1,10 @@
 // Our one-altitude calls, gtd7 and gtd7d, against the Rust: the eleven numbers to the bit, the refusals, pairs under the shut-off list, the 1E-6 rule,
-// the published samples, calls of each elementary function, and time per call. Bands of switch rows, the crossings, the expansions, the line program,
-// the call with nine constants, prepared stations and the boards' logs stand in files of their own.
+// the published samples, calls of each elementary function, and time per call. Bands of switch rows, the crossings, the first altitude thin enough, the
+// expansions, the line program, the call with nine constants, prepared stations and the boards' logs stand in files of their own.
 mod bands;
 mod crossings;
 mod expansions;
+mod first_below;
 #[path = "../host.rs"]
 mod host;
 mod lines;
@@ -711,6 +712,7 @@ fn main() {
         Some("raised") => expansions::raised(&mut g, count),
         Some("columns") => columns(&mut g, count),
         Some("crossings") => crossings::crossings(&mut g, count),
+        Some("first-below") => first_below::first_below(&mut g, count),
         Some("lines") => lines::good(&args[4], &mut g, count),
         Some("hostile") => lines::hostile(&args[4], &mut g, count),
         Some("stations") => stations::stations(&mut g, count),
@@ -732,6 +734,7 @@ fn main() {
             time();
             time_column();
             crossings::time();
+            first_below::time();
             stations::time();
             0
         }
@@ -740,7 +743,7 @@ fn main() {
             0
         }
         _ => {
-            eprintln!("model differential|gtd7d|lengths|pairs|pairs-fluxes|pairs-lst|pairs-d|states|expansions|raised|columns|crossings|stations|hostile-stations|bands|banded|logs|parameters|parameters-present|near|near-d|near-any [SEED] [COUNT], lines|hostile SEED COUNT PROGRAM, forms SEED COUNT INPUT OUTPUT, samples FILE, counts, time");
+            eprintln!("model differential|gtd7d|lengths|pairs|pairs-fluxes|pairs-lst|pairs-d|states|expansions|raised|columns|crossings|first-below|stations|hostile-stations|bands|banded|logs|parameters|parameters-present|near|near-d|near-any [SEED] [COUNT], lines|hostile SEED COUNT PROGRAM, forms SEED COUNT INPUT OUTPUT, samples FILE, counts, time");
             std::process::exit(2);
         }
     };
