@@ -3,8 +3,9 @@ use Prim.Native.Nat.{ℕ, zero, suc, _+_, _*_, _<_, _≤_}
 use mathlib.Core.Path.{_≡_, refl, sym, ap, ap₂, _∙_}
 use mathlib.Core.Bool.{Bool, true, false, cond, not, false≢true}
 use mathlib.Core.List.{List, [], _∷_, _++_, append-assoc, append-nil}
+use native.Mathlib.Nat.{le-refl}
 use native.Mathlib.Omega.{arith}
-use borrow.Author.Tests.{ltb-false}
+use borrow.Author.Tests.{le-ltb, ltb-false}
 use lib.Dec.{ltb, eqb}
 use lib.IntN.{ℤ}
 use lib.ListN.{length, take, drop}
@@ -25,7 +26,7 @@ use Rattle.column.specs.Column.{columnRows, columnAfter}
 use Rattle.column.specs.Theorems.{column-known, at-altitude, written}
 use Rattle.first_below_list.specs.declared.First.{First}
 use Rattle.first_below_list.specs.declared.First.the-variants as first
-use Rattle.first_below_list.specs.FirstBelowList.{belowOf, rowIn, firstBelow, firstRow}
+use Rattle.first_below_list.specs.FirstBelowList.{belowOf, rowIn, firstRow}
 use Rattle.first_below_list.specs.Theorems.{isAt}
 use Rattle.first_below_list.specs.Theorems as list
 use Rattle.first_below.specs.FirstBelow.{checkedOf, refusedOr, firstOf, firstAnswer, firstAfter}
@@ -54,6 +55,11 @@ module _ (w : List ℤ) (n : Input) where
   its-row alts k h = ap (λ (r : List Float). rowIn r k) (sym (append-nil (columnRows w n alts))) ∙ row-at alts k [] h
 
 -- ---- the answer
+
+-- The column's own refusals are those that it has with any buffer long enough, so none of them is for the buffer: its 4 does not occur.
+pub any-room : (w : List ℤ) (n : Input) (alts : List Float) (len : ℕ) → 11 * length alts ≤ len → columnAnswer w n alts len ≡ columnAnswer w n alts (11 * length alts)
+unfolding columnAnswer
+any-room w n alts len h = rw (le-ltb len (11 * length alts) h, le-ltb (11 * length alts) (11 * length alts) (le-refl _))
 
 few : (b : Bool) (i j : ℕ) (a : Answer) → acceptedOf (cond b (Refused i j) a) ≡ true → (b ≡ false) × (acceptedOf a ≡ true)
 few true i j a h = absurd (false≢true h)
