@@ -6,7 +6,7 @@
 mod host;
 #[path = "../oracle/random.rs"]
 mod random;
-use host::{crossings, numbers, ours, ours_column, station, station_change, station_gtd7, station_switches, Change, NUMBERS, WHOLE};
+use host::{crossings, first_below, numbers, ours, ours_column, station, station_change, station_gtd7, station_switches, Change, NUMBERS, WHOLE};
 use random::Random;
 use std::arch::asm;
 use std::collections::{BTreeSet, HashMap};
@@ -123,6 +123,18 @@ const TURNS: [(&str, Turn); 6] = [
 // The altitude whose records a station's preparing, changes and new rows are told of; they do not look at it.
 const OTHERS: usize = 0;
 
+// A record at 512 altitudes from 0 to 1,000 km, and the indices whose density is asked to be the first below a level.
+const HITS: [usize; 4] = [0, 31, 127, 511];
+
+fn thin() -> (Case, Vec<f64>, Vec<f64>) {
+    let c = cases(OTHERS, 0, 1).remove(0);
+    let alts: Vec<f64> = (0..512).map(|i| 1000.0 * i as f64 / 511.0).collect();
+    let mut rows = vec![0.0; 11 * alts.len()];
+    assert_eq!(ours_column(&c.input, &c.row, &alts, &mut rows), (0, 0));
+    let densities = rows.chunks(11).map(|r| r[5]).collect();
+    (c, alts, densities)
+}
+
 // A request to valgrind, which does nothing outside it. 0x43540000 is callgrind's first.
 fn request(number: u64) {
     let words = [0x4354_0000 + number, 0, 0, 0, 0, 0];
@@ -171,11 +183,24 @@ fn count(records: usize) {
             }
         }
     }
+    let (c, alts, densities) = thin();
+    let (fields, ap, n_ap) = numbers(&c.input);
+    request(0);
+    for k in HITS {
+        let level = f64::from_bits(densities[k].to_bits() + 1);
+        let mut row = [0.0; 11];
+        counted(|| {
+            assert_eq!(first_below(c.input.year, c.input.doy, &fields, &ap[..n_ap], &c.row, &alts, level, &mut row), (0, k as u64));
+            row[5]
+        });
+    }
 }
 
 // The crates whose functions work out globe7 and glob7s, and the function that sines and cosines come from.
 const EXPANSIONS: [&str; 6] = ["expansion::", "levels::", "parts::", "terms::", "legendre::", "activity::"];
 const SINUSOID: &str = "circular_functions::";
+// The function that works out an altitude's row.
+const ROW: &str = "stored::row_on";
 
 // What callgrind wrote of one call: instructions, calls of the expansions' functions and their names, calls of sines and cosines.
 #[derive(Default)]
@@ -184,6 +209,7 @@ struct Written {
     expansions: u64,
     names: BTreeSet<String>,
     sinusoids: u64,
+    rows: u64,
 }
 
 // Callgrind's file number n. A name stands behind its number where it first occurs; a call is the function called, then how often.
@@ -208,6 +234,8 @@ fn written(path: &str, n: usize) -> Written {
                 out.names.insert(called.to_string());
             } else if called.starts_with(SINUSOID) {
                 out.sinusoids += calls;
+            } else if called == ROW {
+                out.rows += calls;
             }
         }
     }
@@ -240,7 +268,7 @@ fn table(records: usize, path: &str) {
     let mut next = || {
         at += 1;
         let w = written(path, at);
-        Written { instructions: w.instructions - nothing, ..w }
+        Written { instructions: w.instructions.saturating_sub(nothing), ..w }
     };
     let mut lines = [String::new(), String::new(), String::new()];
     let mut others = String::new();
@@ -291,6 +319,13 @@ fn table(records: usize, path: &str) {
         let names = all.names.iter().map(|n| format!(" {n}")).collect::<String>();
         println!("| {name} | {} | {}{names} | {} |", thousands(calls), thousands(all.expansions), thousands(all.sinusoids));
     }
+    // one file for the column that the levels are made from
+    next();
+    println!("\nThe first altitude thin enough of 512 from 0 to 1,000 km:\n\n| index | rows worked out | instructions |\n|---|---|---|");
+    for k in HITS {
+        let w = next();
+        println!("| {k} | {} | {} |", thousands(w.rows), thousands(w.instructions));
+    }
     println!();
 }
 
@@ -301,7 +336,7 @@ struct Worked {
 }
 
 impl Worked {
-    const NONE: Worked = Worked { calls: 0, all: Written { instructions: 0, expansions: 0, names: BTreeSet::new(), sinusoids: 0 } };
+    const NONE: Worked = Worked { calls: 0, all: Written { instructions: 0, expansions: 0, names: BTreeSet::new(), sinusoids: 0, rows: 0 } };
 
     fn add(&mut self, w: Written) {
         self.calls += 1;

@@ -1,6 +1,12 @@
-/* What libhost.a offers: NRLMSISE-00 at one altitude, also for drag and with constants of the caller's, at a column of altitudes, where its density passes a level, in bands of
-   switch rows, and from a prepared station, two boards' logs held against each other, and the elementary functions it is built on. Nothing is kept between calls; only memcpy and memset are needed from
-   outside. docs/RULES.md has every rule. */
+/* What libhost.a offers: NRLMSISE-00 at one altitude, also for drag and with constants of the caller's, at a column of altitudes, where its density passes a level and where it is first thin enough, in bands of
+   switch rows, from a prepared station and orbit by orbit in a descent, two boards' logs held against each other, and the elementary functions it is built on. Nothing is kept between calls; only memcpy and memset are needed from
+   outside. docs/RULES.md has every rule.
+
+   An answer of 2^32 or more is a refusal: its number times 2^32 plus a place. The numbers: 1 a history that switch 9 asks for is absent; 2 a field is NaN or
+   infinite; 3 a field is out of range; 4 a slice has not the length needed; 5 too many altitudes, or a node count out of range; 6 a coefficient set of the wrong
+   length; 7 a line that is no form of the line program; 8 altitudes that do not rise; 9 a buffer shorter than its list; 10 below 72.5 km N2 is not mixed; 11, 12, 13
+   a line of a table of bands that is no band, overlaps, or leaves a gap; 14 a board's log too long or uneven; 15 a board's seconds that do not rise; 16 one of nine
+   constants is unfit; 17 a descent's start, 18 a flap setting, 19 too many settings or too short a list of losses. No call of this library gives 6 or 7. */
 #ifndef POTIREHU_H
 #define POTIREHU_H
 
@@ -50,6 +56,17 @@ uint64_t potirehu_gtd7_column(int32_t year, int32_t doy, const double *fields, s
 uint64_t potirehu_crossings(int32_t year, int32_t doy, const double *fields, size_t n_fields, const double *ap_array, size_t n_ap,
                             const int32_t *switches, size_t n_switches, const double *altitudes, size_t n, double level, uint64_t *list,
                             size_t n_list);
+
+/* The first of n altitudes (km), 0 to 512 of them, whose mass density is below a level, for a caller who has no time for the rest: all are checked,
+   then none behind the first is worked out. They need not rise; the record's own altitude is not looked at. Answers its index, at most 511, and writes
+   row, 11 numbers, as potirehu_gtd7_column has them there; or POTIREHU_NOWHERE, 2^32 - 1, where no density is below the level, as a NaN never is and
+   nothing is below a NaN, and leaves row as it was; or a refusal, which is 2^32 or more, and leaves row as it was. After the lengths of row, fields,
+   ap_array and switches: 5 at 512 for more than 512 altitudes; the record as above; each altitude 2, else 3, at 17 plus its index; once all have passed
+   those, 10 at 17 plus the lowest index below 72.5 km where switch 15 is not 1. */
+#define POTIREHU_NOWHERE 4294967295
+uint64_t potirehu_first_below(int32_t year, int32_t doy, const double *fields, size_t n_fields, const double *ap_array, size_t n_ap,
+                              const int32_t *switches, size_t n_switches, const double *altitudes, size_t n, double level, double *row,
+                              size_t n_row);
 
 /* potirehu_gtd7 for drag: row[5], the mass density, is summed again with the anomalous oxygen in it (16 times row[8]), which counts above 500 km.
    Answers, refusals and the other ten numbers are those of potirehu_gtd7. */

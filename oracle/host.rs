@@ -65,6 +65,21 @@ extern "C" {
 
 extern "C" {
     #[allow(dead_code)]
+    fn potirehu_first_below(
+        year: i32,
+        doy: i32,
+        fields: *const f64,
+        n_fields: usize,
+        ap_array: *const f64,
+        n_ap: usize,
+        switches: *const i32,
+        n_switches: usize,
+        altitudes: *const f64,
+        n: usize,
+        level: f64,
+        row: *mut f64,
+        n_row: usize,
+    ) -> u64;
     fn potirehu_descent(
         year: i32,
         doy: i32,
@@ -190,6 +205,32 @@ pub fn crossings(year: i32, doy: i32, fields: &[f64], ap: &[f64], w: &[i32], alt
             level,
             list.as_mut_ptr(),
             list.len(),
+        )
+    })
+}
+
+// The answer where no altitude is thin enough.
+#[allow(dead_code)]
+pub const NOWHERE: u64 = header("#define POTIREHU_NOWHERE ") as u64;
+
+// The first altitude thin enough: (0, its index or NOWHERE) or a refusal; the slices as they are handed over, so that they may have any length.
+#[allow(dead_code)]
+pub fn first_below(year: i32, doy: i32, fields: &[f64], ap: &[f64], w: &[i32], alts: &[f64], level: f64, row: &mut [f64]) -> (u64, u64) {
+    parted(unsafe {
+        potirehu_first_below(
+            year,
+            doy,
+            fields.as_ptr(),
+            fields.len(),
+            ap.as_ptr(),
+            ap.len(),
+            w.as_ptr(),
+            w.len(),
+            alts.as_ptr(),
+            alts.len(),
+            level,
+            row.as_mut_ptr(),
+            row.len(),
         )
     })
 }

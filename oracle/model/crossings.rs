@@ -63,7 +63,7 @@ fn column(g: &mut Random) -> Vec<f64> {
 }
 
 // A density to the bit, its neighbours, a number between two, no number, an infinity, a zero, any bits.
-fn level(g: &mut Random, d: &[f64]) -> f64 {
+pub fn level(g: &mut Random, d: &[f64]) -> f64 {
     let one = |g: &mut Random| if d.is_empty() { 1E-12 } else { d[g.below(d.len() as u64) as usize] };
     match g.below(16) {
         0 => f64::NAN,

@@ -1,10 +1,11 @@
 // Our one-altitude calls, gtd7 and gtd7d, against the Rust: the eleven numbers to the bit, the refusals, pairs under the shut-off list, the 1E-6 rule,
-// the published samples, calls of each elementary function, and time per call. Bands of switch rows, the crossings, descents, the expansions, the line
-// program, the call with nine constants, prepared stations and the boards' logs stand in files of their own.
+// the published samples, calls of each elementary function, and time per call. Bands of switch rows, the crossings, the first altitude thin enough,
+// descents, the expansions, the line program, the call with nine constants, prepared stations and the boards' logs stand in files of their own.
 mod bands;
 mod crossings;
 mod descent;
 mod expansions;
+mod first_below;
 #[path = "../host.rs"]
 mod host;
 mod lines;
@@ -712,6 +713,7 @@ fn main() {
         Some("raised") => expansions::raised(&mut g, count),
         Some("columns") => columns(&mut g, count),
         Some("crossings") => crossings::crossings(&mut g, count),
+        Some("first-below") => first_below::first_below(&mut g, count),
         Some("descents") => descent::descents(&mut g, count),
         Some("lines") => lines::good(&args[4], &mut g, count),
         Some("hostile") => lines::hostile(&args[4], &mut g, count),
@@ -734,6 +736,7 @@ fn main() {
             time();
             time_column();
             crossings::time();
+            first_below::time();
             descent::time();
             stations::time();
             0
@@ -743,7 +746,7 @@ fn main() {
             0
         }
         _ => {
-            eprintln!("model differential|gtd7d|lengths|pairs|pairs-fluxes|pairs-lst|pairs-d|states|expansions|raised|columns|crossings|descents|stations|hostile-stations|bands|banded|logs|parameters|parameters-present|near|near-d|near-any [SEED] [COUNT], lines|hostile SEED COUNT PROGRAM, forms SEED COUNT INPUT OUTPUT, samples FILE, counts, time");
+            eprintln!("model differential|gtd7d|lengths|pairs|pairs-fluxes|pairs-lst|pairs-d|states|expansions|raised|columns|crossings|first-below|descents|stations|hostile-stations|bands|banded|logs|parameters|parameters-present|near|near-d|near-any [SEED] [COUNT], lines|hostile SEED COUNT PROGRAM, forms SEED COUNT INPUT OUTPUT, samples FILE, counts, time");
             std::process::exit(2);
         }
     };

@@ -5,3 +5,4 @@ pub mod Bands
 pub mod Boards
 pub mod Constants
 pub mod Descents
+pub mod FirstBelow

@@ -1,11 +1,12 @@
 // What the host links: the elementary functions, the one-altitude call, also for drag, in bands of switch rows and with nine constants, the column, where its density passes a
-// level, the station, a descent and the boards' logs, on numbers and slices.
+// level, its first altitude thin enough, the station, a descent and the boards' logs, on numbers and slices.
 pub mod banded;
 pub mod boards;
 pub mod constants;
 pub mod descents;
 pub mod listing;
 pub mod stations;
+pub mod thin;
 
 use acceptance::Answer;
 use acceptance::accepted;
