@@ -8,7 +8,8 @@ use Rattle.altitudes.specs.Altitudes.{columnAnswer}
 use Rattle.column.specs.Column.{columnAfter}
 use Rattle.host_record.specs.Record.{recordOf}
 use Rattle.host.specs.Host.{hostColumn, hostRows}
-use Rattle.host.proofs.Laws.{refused, stopped, fields-fit, switches-fit, passed, dated, answered-column}
+use Rattle.host_record.proofs.SliceLaws.{refused, stopped, fields-fit, switches-fit, passed, dated}
+use Rattle.host.proofs.Laws.{answered-column}
 use Rattle.host.proofs.potirehu_gtd7_column.Statement.{statement}
 use Rattle.host.proofs.potirehu_gtd7_column.Tie as tie
 

@@ -8,7 +8,8 @@ use Rattle.acceptance.specs.declared.Answer.the-variants.{Refused}
 use Rattle.drag.specs.Drag.{dragOf, dragAfter}
 use Rattle.host_record.specs.Record.{recordOf}
 use Rattle.host.specs.Host.{hostAnswer, hostDrag}
-use Rattle.host.proofs.Laws.{refused, stopped, fields-fit, switches-fit, passed, dated, no-row, a-row, rest, answered}
+use Rattle.host_record.proofs.SliceLaws.{refused, stopped, fields-fit, switches-fit, passed, dated}
+use Rattle.host.proofs.Laws.{no-row, a-row, rest, answered}
 use Rattle.host.proofs.potirehu_gtd7d.Statement.{statement}
 use Rattle.host.proofs.potirehu_gtd7d.Tie as tie
 

@@ -5,7 +5,7 @@ use lib.ListN.{length}
 use borrow.Author.Tests.{not-true, not-false}
 use Rattle.acceptance.specs.declared.Answer.the-variants.{Accepted, Refused}
 use Rattle.host_record.specs.Record.{recordOf}
-use Rattle.host.proofs.Laws.{refused, fields-fit, switches-fit, passed, dated}
+use Rattle.host_record.proofs.SliceLaws.{refused, fields-fit, switches-fit, passed, dated}
 use Rattle.host_state.specs.HostState.{numbersOf, stateAnswer, stateNumbers}
 use Rattle.atmosphere.specs.Atmosphere.{leftOf}
 use Rattle.host_state.proofs.Laws.{no-slice, a-slice, answered}

@@ -3,7 +3,7 @@ use mathlib.Core.Path.{sym, _∙_}
 use borrow.Author.Needs.{needs}
 use borrow.Author.Tests.{not-true, not-false}
 use mir.Facts.{toZ-ofZ}
-use Rattle.host.proofs.Laws.{dated}
+use Rattle.host_record.proofs.SliceLaws.{dated}
 use Rattle.host.proofs.BandLaws.{short, fields-long, called}
 use Rattle.host.proofs.banded.potirehu_bands_gtd7.Statement.{statement}
 use Rattle.host.proofs.banded.potirehu_bands_gtd7.Tie as tie

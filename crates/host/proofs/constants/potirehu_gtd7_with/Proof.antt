@@ -4,7 +4,7 @@ use borrow.Author.Needs.{needs}
 use borrow.Author.Tests.{not-true, not-false}
 use mir.Facts.{toZ-ofZ}
 use Rattle.host_record.proofs.NineLaws.{nine-long, fields-long, switches-long}
-use Rattle.host.proofs.Laws.{dated}
+use Rattle.host_record.proofs.SliceLaws.{dated}
 use Rattle.host.proofs.ConstantLaws.{not-called, called}
 use Rattle.host.proofs.constants.potirehu_gtd7_with.Statement.{statement}
 use Rattle.host.proofs.constants.potirehu_gtd7_with.Tie as tie

@@ -4,7 +4,7 @@ use borrow.Author.Needs.{needs}
 use borrow.Author.Tests.{not-true, not-false}
 use mir.Facts.{toZ-ofZ}
 use Rattle.acceptance.specs.declared.Answer.the-variants.{Refused}
-use Rattle.host.proofs.Laws.{stopped, fields-fit, switches-fit, passed, dated}
+use Rattle.host_record.proofs.SliceLaws.{stopped, fields-fit, switches-fit, passed, dated}
 use Rattle.host.proofs.DescentLaws.{answer, descent-refused, no-end, an-end, descended}
 use Rattle.host.proofs.descents.potirehu_descent.Statement.{statement}
 use Rattle.host.proofs.descents.potirehu_descent.Tie as tie

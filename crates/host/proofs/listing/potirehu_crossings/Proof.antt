@@ -3,7 +3,8 @@ use mathlib.Core.Path.{sym, _∙_}
 use borrow.Author.Needs.{needs}
 use borrow.Author.Tests.{not-true, not-false}
 use mir.Facts.{toZ-ofZ}
-use Rattle.host.proofs.Laws.{fields-fit, switches-fit, dated, no-list, a-list}
+use Rattle.host_record.proofs.SliceLaws.{fields-fit, switches-fit, dated}
+use Rattle.host.proofs.Laws.{no-list, a-list}
 use Rattle.host.proofs.listing.potirehu_crossings.Statement.{statement}
 use Rattle.host.proofs.listing.potirehu_crossings.Tie as tie
 

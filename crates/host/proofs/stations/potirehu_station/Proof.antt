@@ -6,7 +6,8 @@ use lib.ListN.{length}
 use Rattle.acceptance.specs.declared.Answer.the-variants.{Refused}
 use Rattle.station_record.specs.Record.{stationAnswer}
 use Rattle.host_record.specs.Record.{recordOf}
-use Rattle.host.proofs.Laws.{stopped, fields-fit, switches-fit, passed, dated, station-refused, no-whole, no-numbers, a-station, prepared}
+use Rattle.host_record.proofs.SliceLaws.{stopped, fields-fit, switches-fit, passed, dated}
+use Rattle.host.proofs.Laws.{station-refused, no-whole, no-numbers, a-station, prepared}
 use borrow.Author.Needs.{needs}
 use Rattle.host.proofs.stations.potirehu_station.Statement.{statement}
 use Rattle.host.proofs.stations.potirehu_station.Tie as tie

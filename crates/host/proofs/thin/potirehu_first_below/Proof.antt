@@ -5,7 +5,7 @@ use borrow.Author.Tests.{not-true, not-false}
 use mir.Facts.{toZ-ofZ}
 use lib.ListN.{length}
 use Rattle.acceptance.specs.declared.Answer.the-variants.{Refused}
-use Rattle.host.proofs.Laws.{fields-fit, switches-fit, dated}
+use Rattle.host_record.proofs.SliceLaws.{fields-fit, switches-fit, dated}
 use Rattle.host.proofs.FirstLaws.{no-row, a-row, not-asked, asked}
 use Rattle.host.proofs.thin.potirehu_first_below.Statement.{statement}
 use Rattle.host.proofs.thin.potirehu_first_below.Tie as tie
