@@ -1,5 +1,6 @@
 #!/usr/bin/env python3
-"""Sets the line numbers in docs/READING.md: behind `NAME`, FILE:LINE stands the line of FILE that declares NAME. Fails where none does."""
+"""Sets the line numbers in docs/READING.md: behind `NAME`, FILE:LINE stands the line of FILE that declares NAME. Fails where none does,
+and where docs/MAP.md does not name each crate of crates.txt once in its lists of crates."""
 import pathlib
 import re
 import sys
@@ -19,3 +20,14 @@ def line_of(name, file):
 text = page.read_text()
 text = re.sub(r"`([^`]+)`, (crates/[\w/.]+):\d+", lambda m: f"`{m[1]}`, {m[2]}:{line_of(m[1], m[2])}", text)
 page.write_text(text)
+
+crates = [line.split(":")[0] for line in (root / "crates.txt").read_text().splitlines() if not line.startswith("#")]
+lists = (root / "docs" / "MAP.md").read_text().split("\n## Product", 1)[1]
+named = []
+for line in lists.splitlines():
+    cells = [cell.strip() for cell in line.strip("|").split("|")]
+    if len(cells) >= 2 and line.startswith("|"):
+        named += re.findall(r"`(\w+)`", cells[-2])
+for crate in sorted(set(crates) | set(named)):
+    if named.count(crate) != 1 or crate not in crates:
+        sys.exit(f"docs/MAP.md: {crate} is named {named.count(crate)} times in the lists of crates")
