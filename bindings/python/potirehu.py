@@ -86,10 +86,10 @@ class Row(NamedTuple):
 
 
 class Parameters(NamedTuple):
-    """Nine constants for gtd7_with; the altitudes, in km, are those as far as which a species is mixed. The defaults are the model's own."""
+    """Nine constants for gtd7_with: the gas constant, the mass of mixed air, and the altitudes in km as far as which each species is mixed. The defaults are the model's own."""
 
-    gas_constant: float = 831.4
-    mixed_air: float = 28.95
+    rgas: float = 831.4
+    xmm: float = 28.95
     he: float = 200.0
     o: float = 300.0
     n2: float = 160.0
@@ -125,13 +125,13 @@ class Descent(NamedTuple):
 class Finding(enum.IntEnum):
     """What compare_logs finds of one or two entries."""
 
-    SAME = 1
+    SAME_PAIR = 1
     """a pair whose density bits agree"""
-    OTHER = 2
+    OTHER_PAIR = 2
     """a pair whose density bits do not"""
-    BOARD_1 = 3
+    SINGLE_1 = 3
     """an entry of board 1 alone"""
-    BOARD_2 = 4
+    SINGLE_2 = 4
     """an entry of board 2 alone"""
 
 
@@ -312,7 +312,7 @@ def gtd7d(record=None, switches=ON, **fields):
 
 
 def gtd7_with(nine, record=None, switches=ON, **fields):
-    """gtd7 with nine constants of the caller's, as PRESENT._replace(gas_constant=840.0) or any nine numbers in that order."""
+    """gtd7 with nine constants of the caller's, as PRESENT._replace(rgas=840.0) or any nine numbers in that order."""
     row = _room(11)
     _call("gtd7_with", _floats(nine), *_record(record, fields), _switches(switches), row)
     return Row(*row)
@@ -375,35 +375,35 @@ class Station:
     def _ask(self, name, *arguments):
         _call(name, self._whole, self._numbers, *arguments)
 
-    def altitude(self, alt):
+    def gtd7(self, alt):
         """The Row that gtd7 gives at this altitude (km) on record and row as the station now has them."""
         row = _room(11)
         self._ask("station_gtd7", ctypes.c_double(alt), row)
         return Row(*row)
 
-    def drag(self, alt):
+    def gtd7d(self, alt):
         """The Row that gtd7d gives."""
         row = _room(11)
         self._ask("station_gtd7d", ctypes.c_double(alt), row)
         return Row(*row)
 
-    def sec(self, sec):
+    def set_sec(self, sec):
         """Changes the seconds of the day; lst does not follow."""
         self._ask("station_sec", ctypes.c_double(sec))
 
-    def lst(self, lst):
+    def set_lst(self, lst):
         """Changes the local time."""
         self._ask("station_lst", ctypes.c_double(lst))
 
-    def g_long(self, g_long):
+    def set_g_long(self, g_long):
         """Changes the longitude; lst does not follow."""
         self._ask("station_g_long", ctypes.c_double(g_long))
 
-    def fluxes(self, f107a, f107):
+    def set_fluxes(self, f107a, f107):
         """Changes both fluxes."""
         self._ask("station_fluxes", ctypes.c_double(f107a), ctypes.c_double(f107))
 
-    def switches(self, switches):
+    def set_switches(self, switches):
         """Gives it a new switch row."""
         self._ask("station_switches", _switches(switches))
 

@@ -87,7 +87,7 @@ class Densities(unittest.TestCase):
     def test_present_constants_give_gtd7(self):
         for alt in (0, 50, 72.5, 100, 160, 200, 400, 1000):
             self.assertEqual(bits(potirehu.gtd7_with(PRESENT, FIRST, alt=alt)), bits(potirehu.gtd7(FIRST, alt=alt)))
-        self.assertNotEqual(potirehu.gtd7_with(PRESENT._replace(gas_constant=840), FIRST), potirehu.gtd7(FIRST))
+        self.assertNotEqual(potirehu.gtd7_with(PRESENT._replace(rgas=840), FIRST), potirehu.gtd7(FIRST))
 
     def test_no_number_at_32_5_km(self):
         self.assertTrue(math.isnan(potirehu.gtd7(FIRST, alt=32.5).density))
@@ -163,30 +163,30 @@ class Stations(unittest.TestCase):
 
         def agree():
             for alt in (0, 72, 72.5, 90, 150, 400, 1000, 2500):
-                self.assertEqual(bits(station.altitude(alt)), bits(potirehu.gtd7(record, switches, alt=alt)))
-                self.assertEqual(bits(station.drag(alt)), bits(potirehu.gtd7d(record, switches, alt=alt)))
+                self.assertEqual(bits(station.gtd7(alt)), bits(potirehu.gtd7(record, switches, alt=alt)))
+                self.assertEqual(bits(station.gtd7d(alt)), bits(potirehu.gtd7d(record, switches, alt=alt)))
 
         agree()
-        station.sec(1000)
-        station.lst(3.5)
-        station.g_long(20)
-        station.fluxes(100, 120)
+        station.set_sec(1000)
+        station.set_lst(3.5)
+        station.set_g_long(20)
+        station.set_fluxes(100, 120)
         record = dataclasses.replace(FIRST, sec=1000, lst=3.5, g_long=20, f107a=100, f107=120)
         agree()
         switches = row_with(e7=0, e16=2)
-        station.switches(switches)
+        station.set_switches(switches)
         agree()
-        for refused in (lambda: station.lst(math.nan), lambda: station.sec(86401), lambda: station.switches(row_with(e9=-1))):
+        for refused in (lambda: station.set_lst(math.nan), lambda: station.set_sec(86401), lambda: station.set_switches(row_with(e9=-1))):
             self.assertRaises(Refusal, refused)
         agree()
 
     def test_a_copy_stands_alone(self):
         station = Station(FIRST)
         for other in (copy.copy(station), copy.deepcopy(station)):
-            before = station.altitude(400)
-            other.lst(3)
-            self.assertEqual(station.altitude(400), before)
-            self.assertNotEqual(other.altitude(400), before)
+            before = station.gtd7(400)
+            other.set_lst(3)
+            self.assertEqual(station.gtd7(400), before)
+            self.assertNotEqual(other.gtd7(400), before)
 
 
 class BandsAndDescents(unittest.TestCase):
@@ -214,9 +214,9 @@ class BandsAndDescents(unittest.TestCase):
     def test_logs(self):
         same = [1.0, 2.0, 3.0]
         found = potirehu.compare_logs([10, 20, 30], same, [11, 31, 50], [1.0, 3.5, 9.0], 2)
-        self.assertEqual(found, [Finding.SAME, Finding.BOARD_1, Finding.OTHER, Finding.BOARD_2])
+        self.assertEqual(found, [Finding.SAME_PAIR, Finding.SINGLE_1, Finding.OTHER_PAIR, Finding.SINGLE_2])
         as_bits = [struct.unpack("=Q", struct.pack("=d", x))[0] for x in same]
-        self.assertEqual(potirehu.compare_logs([1, 2, 3], same, [1, 2, 3], as_bits, 0), [Finding.SAME] * 3)
+        self.assertEqual(potirehu.compare_logs([1, 2, 3], same, [1, 2, 3], as_bits, 0), [Finding.SAME_PAIR] * 3)
         self.assertEqual(potirehu.compare_logs([], [], [], [], 2**64 - 1), [])
 
 
@@ -237,7 +237,7 @@ class Refusals(unittest.TestCase):
         for i in range(7):
             self.refused(2, 10 + i, f"ap_array[{i}]", potirehu.gtd7, FIRST, ap_array=[math.nan if k == i else 4 for k in range(7)])
         self.refused(2, 18, "altitudes[1]", potirehu.column, [100, math.nan], FIRST)
-        self.refused(2, 3, "alt is NaN", Station(FIRST).altitude, math.nan)
+        self.refused(2, 3, "alt is NaN", Station(FIRST).gtd7, math.nan)
 
     def test_3_out_of_range(self):
         ends = {
@@ -255,7 +255,7 @@ class Refusals(unittest.TestCase):
 
     def test_4_lengths(self):
         self.refused(4, 24, "switches", potirehu.gtd7, FIRST, ON[:23])
-        self.refused(4, 24, "switches", Station(FIRST).switches, ON + (1,))
+        self.refused(4, 24, "switches", Station(FIRST).set_switches, ON + (1,))
         self.refused(4, 7, "ap_array", potirehu.gtd7, FIRST, ap_array=[4] * 6)
         self.refused(4, 9, "nine", potirehu.gtd7_with, PRESENT[:8], FIRST)
 
@@ -293,8 +293,8 @@ class Refusals(unittest.TestCase):
         self.refused(15, 258, "board 2, seconds[2]", potirehu.compare_logs, [], [], [1, 2, 0], [0.0] * 3, 0)
 
     def test_16_constants(self):
-        self.refused(16, 1, "gas_constant", potirehu.gtd7_with, PRESENT._replace(gas_constant=0), FIRST)
-        self.refused(16, 2, "mixed_air", potirehu.gtd7_with, PRESENT._replace(mixed_air=28), FIRST)
+        self.refused(16, 1, "rgas", potirehu.gtd7_with, PRESENT._replace(rgas=0), FIRST)
+        self.refused(16, 2, "xmm", potirehu.gtd7_with, PRESENT._replace(xmm=28), FIRST)
         self.refused(16, 9, "number 9", potirehu.gtd7_with, PRESENT._replace(n=math.nan), FIRST)
 
     def test_17_to_19_descents(self):

@@ -30,7 +30,7 @@ mod station;
 pub use bands::Bands;
 pub use column::{column, column_into, crossings, crossings_into, first_below, MAX_ALTITUDES};
 pub use descent::{descent, descent_into, Descent, End, Ending, MAX_ORBITS};
-pub use logs::{compare_logs, Entry, Log};
+pub use logs::{compare_logs, Finding, Log};
 pub use one_altitude::{gtd7, gtd7_with, gtd7d, nrlmsise00, nrlmsise00_with_lst, Parameters};
 pub use record::{local_solar_time, ApArray, Flags, NrlmsiseInput, NrlmsiseOutput};
 pub use record::{DEFAULT_AP, DEFAULT_F107, DEFAULT_F107A, MAX_ALTITUDE_KM};

@@ -16,7 +16,7 @@ pub struct Log<'a> {
 
 /// What became of the entries of two logs.
 #[derive(Debug, Clone, Copy, PartialEq, Eq)]
-pub enum Entry {
+pub enum Finding {
     /// A pair whose density bits agree.
     SamePair,
     /// A pair whose density bits differ.
@@ -31,17 +31,17 @@ pub enum Entry {
 /// earlier stands alone; once a log is used up, the rest of the other stand alone. Pairs and singles in the order they arise.
 ///
 /// ```
-/// use potirehu::{compare_logs, Entry, Log};
+/// use potirehu::{compare_logs, Finding, Log};
 /// let (thin, thick) = (1e-12f64.to_bits(), 2e-12f64.to_bits());
 /// let one = Log { seconds: &[1000, 1060, 1120], bits: &[thin, thin, thin] };
 /// let two = Log { seconds: &[1001, 1121], bits: &[thin, thick] };
-/// assert_eq!(compare_logs(&one, &two, 2)?, [Entry::SamePair, Entry::Single1, Entry::OtherPair]);
+/// assert_eq!(compare_logs(&one, &two, 2)?, [Finding::SamePair, Finding::Single1, Finding::OtherPair]);
 ///
 /// let refusal = compare_logs(&one, &Log { seconds: &[5, 5], ..two }, 2).unwrap_err();
 /// assert_eq!(refusal.to_string(), "seconds[1] of board 2 is not above the one before it (refusal 15 at 257)");
 /// # Ok::<(), potirehu::Refusal>(())
 /// ```
-pub fn compare_logs(board_1: &Log<'_>, board_2: &Log<'_>, tolerance: u64) -> Result<Vec<Entry>, Refusal> {
+pub fn compare_logs(board_1: &Log<'_>, board_2: &Log<'_>, tolerance: u64) -> Result<Vec<Finding>, Refusal> {
     let mut report = [0; REPORT];
     // SAFETY: each pointer goes with the length of the slice it is of; report is ours alone.
     let answer = unsafe {
@@ -61,10 +61,10 @@ pub fn compare_logs(board_1: &Log<'_>, board_2: &Log<'_>, tolerance: u64) -> Res
     };
     let n = accepted(answer)?;
     let entry = |code: &u32| match code {
-        1 => Entry::SamePair,
-        2 => Entry::OtherPair,
-        3 => Entry::Single1,
-        _ => Entry::Single2,
+        1 => Finding::SamePair,
+        2 => Finding::OtherPair,
+        3 => Finding::Single1,
+        _ => Finding::Single2,
     };
     Ok(report[..n].iter().map(entry).collect())
 }

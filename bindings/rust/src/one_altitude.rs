@@ -74,50 +74,50 @@ pub fn nrlmsise00_with_lst(input: &NrlmsiseInput, lst: Option<f64>) -> Result<Nr
 #[derive(Debug, Clone, Copy, PartialEq)]
 pub struct Parameters {
     /// The gas constant, at present 831.4.
-    pub gas_constant: f64,
+    pub rgas: f64,
     /// The mass of mixed air, at present 28.95; not a species' own mass (1, 4, 14, 16, 28, 32, 40).
-    pub mixed_mass: f64,
+    pub xmm: f64,
     /// As far as which He is mixed (km), at present 200.
-    pub mixed_to_he: f64,
+    pub he: f64,
     /// The same of O, at present 300.
-    pub mixed_to_o: f64,
+    pub o: f64,
     /// The same of N2, at present 160.
-    pub mixed_to_n2: f64,
+    pub n2: f64,
     /// The same of O2, at present 250.
-    pub mixed_to_o2: f64,
+    pub o2: f64,
     /// The same of Ar, at present 240.
-    pub mixed_to_ar: f64,
+    pub ar: f64,
     /// The same of H, at present 320.
-    pub mixed_to_h: f64,
+    pub h: f64,
     /// The same of N, at present 450.
-    pub mixed_to_n: f64,
+    pub n: f64,
 }
 
 impl Parameters {
     /// The model's own nine, with which [`gtd7_with`] is [`gtd7`].
     pub const PRESENT: Parameters = Parameters {
-        gas_constant: 831.4,
-        mixed_mass: 28.95,
-        mixed_to_he: 200.0,
-        mixed_to_o: 300.0,
-        mixed_to_n2: 160.0,
-        mixed_to_o2: 250.0,
-        mixed_to_ar: 240.0,
-        mixed_to_h: 320.0,
-        mixed_to_n: 450.0,
+        rgas: 831.4,
+        xmm: 28.95,
+        he: 200.0,
+        o: 300.0,
+        n2: 160.0,
+        o2: 250.0,
+        ar: 240.0,
+        h: 320.0,
+        n: 450.0,
     };
 
     fn nine(&self) -> [f64; ffi::NINE] {
         [
-            self.gas_constant,
-            self.mixed_mass,
-            self.mixed_to_he,
-            self.mixed_to_o,
-            self.mixed_to_n2,
-            self.mixed_to_o2,
-            self.mixed_to_ar,
-            self.mixed_to_h,
-            self.mixed_to_n,
+            self.rgas,
+            self.xmm,
+            self.he,
+            self.o,
+            self.n2,
+            self.o2,
+            self.ar,
+            self.h,
+            self.n,
         ]
     }
 }
@@ -137,7 +137,7 @@ impl Default for Parameters {
 /// let flags = Flags::metric();
 /// assert_eq!(gtd7_with(&Parameters::PRESENT, &input, &flags)?, gtd7(&input, &flags)?);
 ///
-/// let nitrogen = Parameters { mixed_mass: 28.0, ..Parameters::PRESENT };
+/// let nitrogen = Parameters { xmm: 28.0, ..Parameters::PRESENT };
 /// assert_eq!(gtd7_with(&nitrogen, &input, &flags).unwrap_err().kind, Kind::UnfitConstant);
 /// # Ok::<(), potirehu::Refusal>(())
 /// ```

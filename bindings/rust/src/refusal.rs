@@ -83,8 +83,8 @@ const FIELDS: [(&str, &str); 10] = [
     ("ap", "0 to 400"),
 ];
 
-const CONSTANTS: [&str; 9] =
-    ["gas_constant", "mixed_mass", "mixed_to_he", "mixed_to_o", "mixed_to_n2", "mixed_to_o2", "mixed_to_ar", "mixed_to_h", "mixed_to_n"];
+// The constants' names, as Parameters has them.
+const CONSTANTS: [&str; 9] = ["rgas", "xmm", "he", "o", "n2", "o2", "ar", "h", "n"];
 
 /// A refusal: what is wrong and where. Whatever was lent to the refused call is as it was.
 ///
@@ -151,7 +151,7 @@ impl fmt::Display for Refusal {
             AltitudesNotRising => write!(f, "altitudes[{place}] is not above the one before it"),
             ListTooShort => write!(f, "the list needs a length of {place}"),
             N2NotMixed => {
-                write!(f, "{field} is below 72.5 km, and N2 is not mixed there: switch 15 is not 1, or mixed_to_n2 is below 72.5")
+                write!(f, "{field} is below 72.5 km, and N2 is not mixed there: switch 15 is not 1, or the N2 altitude of the nine constants is below 72.5")
             }
             NoBand => write!(f, "line {place} is no band, has FROM not below TO, ends past 2500001, or is the 65th"),
             BandOverlap => write!(f, "the band of line {place} overlaps the one before it"),
@@ -163,7 +163,7 @@ impl fmt::Display for Refusal {
             UnfitConstant => {
                 let name = CONSTANTS.get((place as usize).wrapping_sub(1)).unwrap_or(&"a constant");
                 let also = if place == 2 { ", or is a species' own mass" } else { "" };
-                write!(f, "{name} is NaN, infinite or not above 0{also}")
+                write!(f, "{name}, constant {place} of nine, is NaN, infinite or not above 0{also}")
             }
             StartOutOfRange => write!(f, "the start is outside 200000000 to 1000000000 millimetres"),
             UnfitSetting => write!(f, "the setting of orbit {place} is outside 1 to 4"),

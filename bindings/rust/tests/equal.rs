@@ -67,15 +67,15 @@ fn each_constant_has_its_place() {
     let own = gtd7(&here, &Flags::metric()).unwrap();
     let p = Parameters::PRESENT;
     for (species, p) in [
-        (0, Parameters { mixed_to_he: 110.0, ..p }),
-        (1, Parameters { mixed_to_o: 110.0, ..p }),
-        (2, Parameters { mixed_to_n2: 110.0, ..p }),
-        (3, Parameters { mixed_to_o2: 110.0, ..p }),
-        (4, Parameters { mixed_to_ar: 110.0, ..p }),
-        (6, Parameters { mixed_to_h: 110.0, ..p }),
-        (7, Parameters { mixed_to_n: 110.0, ..p }),
-        (2, Parameters { gas_constant: 840.0, ..p }),
-        (0, Parameters { mixed_mass: 29.5, ..p }),
+        (0, Parameters { he: 110.0, ..p }),
+        (1, Parameters { o: 110.0, ..p }),
+        (2, Parameters { n2: 110.0, ..p }),
+        (3, Parameters { o2: 110.0, ..p }),
+        (4, Parameters { ar: 110.0, ..p }),
+        (6, Parameters { h: 110.0, ..p }),
+        (7, Parameters { n: 110.0, ..p }),
+        (2, Parameters { rgas: 840.0, ..p }),
+        (0, Parameters { xmm: 29.5, ..p }),
     ] {
         let row = gtd7_with(&p, &here, &Flags::metric()).unwrap();
         assert_ne!(row.d[species].to_bits(), own.d[species].to_bits(), "{p:?}");
@@ -188,10 +188,10 @@ fn descents_lose_what_gtd7_says() {
 fn logs_pair_up() {
     let bits = |d: f64| d.to_bits();
     let nan = Log { seconds: &[7], bits: &[f64::NAN.to_bits()] };
-    assert_eq!(compare_logs(&nan, &nan, 0).unwrap(), [Entry::SamePair]);
+    assert_eq!(compare_logs(&nan, &nan, 0).unwrap(), [Finding::SamePair]);
     let one = Log { seconds: &[10, 20, 30], bits: &[bits(1.0), bits(2.0), bits(3.0)] };
     let two = Log { seconds: &[11, 19, 40], bits: &[bits(1.0), bits(2.5), bits(3.0)] };
-    use Entry::*;
+    use Finding::*;
     assert_eq!(compare_logs(&one, &two, 1).unwrap(), [SamePair, OtherPair, Single1, Single2]);
     assert_eq!(compare_logs(&one, &two, 0).unwrap(), [Single1, Single2, Single2, Single1, Single1, Single2]);
     let empty = Log { seconds: &[], bits: &[] };

@@ -148,13 +148,13 @@ fn numbers_4_5_8_9_of_columns() {
 #[test]
 fn number_10_where_n2_is_not_mixed() {
     let low = NrlmsiseInput { alt: 72.0, ..SAMPLE };
-    let why = "is below 72.5 km, and N2 is not mixed there: switch 15 is not 1, or mixed_to_n2 is below 72.5";
+    let why = "is below 72.5 km, and N2 is not mixed there: switch 15 is not 1, or the N2 altitude of the nine constants is below 72.5";
     refused(gtd7(&low, &with(15, 0)), 10, 3, &format!("alt {why}"));
     refused(gtd7d(&low, &with(15, 2)), 10, 3, &format!("alt {why}"));
     refused(column(&low, &with(15, 0), &[90.0, 72.5, 72.0]), 10, 19, &format!("altitudes[2] {why}"));
     let station = Station::prepare(&low, &with(15, 0)).unwrap();
     refused(station.gtd7(72.0), 10, 3, &format!("alt {why}"));
-    let p = Parameters { mixed_to_n2: 70.0, ..Parameters::PRESENT };
+    let p = Parameters { n2: 70.0, ..Parameters::PRESENT };
     refused(gtd7_with(&p, &low, &on()), 10, 3, &format!("alt {why}"));
     assert_eq!(gtd7(&low, &with(15, 0)).unwrap_err().field(), Some("alt"));
 }
@@ -197,24 +197,24 @@ fn number_16_each_constant() {
     let p = Parameters::PRESENT;
     let unfit = f64::INFINITY;
     let each = [
-        ("gas_constant", Parameters { gas_constant: unfit, ..p }),
-        ("mixed_mass", Parameters { mixed_mass: unfit, ..p }),
-        ("mixed_to_he", Parameters { mixed_to_he: unfit, ..p }),
-        ("mixed_to_o", Parameters { mixed_to_o: unfit, ..p }),
-        ("mixed_to_n2", Parameters { mixed_to_n2: unfit, ..p }),
-        ("mixed_to_o2", Parameters { mixed_to_o2: unfit, ..p }),
-        ("mixed_to_ar", Parameters { mixed_to_ar: unfit, ..p }),
-        ("mixed_to_h", Parameters { mixed_to_h: unfit, ..p }),
-        ("mixed_to_n", Parameters { mixed_to_n: unfit, ..p }),
+        ("rgas", Parameters { rgas: unfit, ..p }),
+        ("xmm", Parameters { xmm: unfit, ..p }),
+        ("he", Parameters { he: unfit, ..p }),
+        ("o", Parameters { o: unfit, ..p }),
+        ("n2", Parameters { n2: unfit, ..p }),
+        ("o2", Parameters { o2: unfit, ..p }),
+        ("ar", Parameters { ar: unfit, ..p }),
+        ("h", Parameters { h: unfit, ..p }),
+        ("n", Parameters { n: unfit, ..p }),
     ];
     let also = ", or is a species' own mass";
     for (i, (name, p)) in each.into_iter().enumerate() {
-        let words = format!("{name} is NaN, infinite or not above 0{}", if i == 1 { also } else { "" });
+        let words = format!("{name}, constant {} of nine, is NaN, infinite or not above 0{}", i + 1, if i == 1 { also } else { "" });
         refused(gtd7_with(&p, &SAMPLE, &on()), 16, i as u32 + 1, &words);
     }
-    for mixed_mass in [1.0, 4.0, 14.0, 16.0, 28.0, 32.0, 40.0, 0.0, f64::NAN] {
-        let words = format!("mixed_mass is NaN, infinite or not above 0{also}");
-        refused(gtd7_with(&Parameters { mixed_mass, ..p }, &SAMPLE, &on()), 16, 2, &words);
+    for xmm in [1.0, 4.0, 14.0, 16.0, 28.0, 32.0, 40.0, 0.0, f64::NAN] {
+        let words = format!("xmm, constant 2 of nine, is NaN, infinite or not above 0{also}");
+        refused(gtd7_with(&Parameters { xmm, ..p }, &SAMPLE, &on()), 16, 2, &words);
     }
 }
 
