@@ -95,30 +95,11 @@ pub struct Parameters {
 
 impl Parameters {
     /// The model's own nine, with which [`gtd7_with`] is [`gtd7`].
-    pub const PRESENT: Parameters = Parameters {
-        rgas: 831.4,
-        xmm: 28.95,
-        he: 200.0,
-        o: 300.0,
-        n2: 160.0,
-        o2: 250.0,
-        ar: 240.0,
-        h: 320.0,
-        n: 450.0,
-    };
+    pub const PRESENT: Parameters =
+        Parameters { rgas: 831.4, xmm: 28.95, he: 200.0, o: 300.0, n2: 160.0, o2: 250.0, ar: 240.0, h: 320.0, n: 450.0 };
 
     fn nine(&self) -> [f64; ffi::NINE] {
-        [
-            self.rgas,
-            self.xmm,
-            self.he,
-            self.o,
-            self.n2,
-            self.o2,
-            self.ar,
-            self.h,
-            self.n,
-        ]
+        [self.rgas, self.xmm, self.he, self.o, self.n2, self.o2, self.ar, self.h, self.n]
     }
 }
 
