@@ -197,7 +197,7 @@ fn count(records: usize) {
 }
 
 // The crates whose functions work out globe7 and glob7s, and the function that sines and cosines come from.
-const EXPANSIONS: [&str; 6] = ["expansion::", "levels::", "parts::", "terms::", "legendre::", "activity::"];
+const EXPANSIONS: [&str; 6] = ["expansion::", "expansion_values::", "expansion_parts::", "terms::", "legendre::", "activity::"];
 const SINUSOID: &str = "circular_functions::";
 // The function that works out an altitude's row.
 const ROW: &str = "stored::row_on";

@@ -1,7 +1,7 @@
 // Where d[5] of a column passes a level: our call against a list made from the routed Rust's rows, and time per altitude.
 use crate::host::{crossings as ours, numbers};
 use crate::random::Random;
-use crate::{altitude, judged, record, row_of, sample, spoiled, to_routed, unmixed, Input};
+use crate::{altitude, altitudes_refused, record_refused, row_and_record, sample, slices_refused, to_routed, Input};
 use std::time::Instant;
 
 // d[5] of the routed Rust at each altitude.
@@ -81,23 +81,10 @@ pub fn level(g: &mut Random, d: &[f64]) -> f64 {
 // Every refusal that fits, in the order in which the call has them; the last two only where those before leave a list.
 fn refusals(r: &Input, w: &[i32; 24], lengths: [usize; 3], alts: &[f64], wanted: Option<(usize, usize)>) -> Vec<(u64, u64)> {
     let mut all = Vec::new();
-    let (fields, ap, switches) = (lengths[0], lengths[1], lengths[2]);
-    all.extend((fields != 8).then_some((4, 8)));
-    all.extend((ap != 0 && ap != 7).then_some((4, 7)));
-    all.extend((switches != 24).then_some((4, 24)));
+    all.extend(slices_refused(lengths));
     all.extend((alts.len() > 512).then_some((5, 512)));
-    all.extend(Some(judged(&Input { alt: 0.0, ..*r }, w)).filter(|x| *x != (0, 0)));
-    all.extend(alts.iter().enumerate().find_map(|(k, z)| {
-        let place = 17 + k as u64;
-        if !z.is_finite() {
-            Some((2, place))
-        } else if !(0.0..=2500.0).contains(z) {
-            Some((3, place))
-        } else {
-            None
-        }
-    }));
-    all.extend(alts.iter().position(|z| unmixed(*z, w)).map(|k| (10, 17 + k as u64)));
+    all.extend(record_refused(r, w));
+    all.extend(altitudes_refused(alts, w));
     all.extend((1..alts.len()).find(|k| !(alts[*k] > alts[k - 1])).map(|k| (8, k as u64)));
     all.extend(wanted.filter(|(have, need)| have < need).map(|(_, need)| (9, need as u64)));
     all
@@ -108,14 +95,7 @@ pub fn crossings(g: &mut Random, count: u64) -> u64 {
     let (mut bad, mut listed, mut indices, mut longest, mut several, mut nan) = (0u64, 0u64, 0u64, 0, 0u64, 0u64);
     let mut refused = [0u64; 11];
     for i in 0..count {
-        let mut w = row_of(g);
-        if w[9] == -1 && g.below(4) > 0 {
-            w[9] = 1;
-        }
-        let mut r = record(g);
-        if i % 6 == 0 {
-            r = spoiled(g, r);
-        }
+        let (w, mut r) = row_and_record(g, i % 6 == 0);
         let alts = column(g);
         let (fields, ap, n_ap) = numbers(&r);
         let mut lengths = [8, n_ap, 24];

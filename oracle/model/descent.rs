@@ -1,7 +1,7 @@
 // Descents orbit by orbit: our call against a simulation on the routed Rust's densities, and time per orbit.
 use crate::host::{descent as ours, numbers};
 use crate::random::Random;
-use crate::{judged, record, row_of, sample, spoiled, to_routed, Input};
+use crate::{record_refused, row_and_record, sample, slices_refused, to_routed, Input};
 use std::time::Instant;
 
 const LOWEST: i64 = 200_000_000;
@@ -66,10 +66,8 @@ fn settings(g: &mut Random) -> Vec<i32> {
 fn refusals(r: &Input, w: &[i32; 24], lengths: [usize; 3], start: i64, settings: &[i32], room: usize, ends: usize) -> Vec<(u64, u64)> {
     let mut all = Vec::new();
     all.extend((ends != 3).then_some((4, 3)));
-    all.extend((lengths[0] != 8).then_some((4, 8)));
-    all.extend((lengths[1] != 0 && lengths[1] != 7).then_some((4, 7)));
-    all.extend((lengths[2] != 24).then_some((4, 24)));
-    all.extend(Some(judged(&Input { alt: 0.0, ..*r }, w)).filter(|x| *x != (0, 0)));
+    all.extend(slices_refused(lengths));
+    all.extend(record_refused(r, w));
     all.extend((!(LOWEST..=HIGHEST).contains(&start)).then_some((17, 0)));
     all.extend(settings.iter().position(|s| !(1..=4).contains(s)).map(|k| (18, k as u64 + 1)));
     if settings.len() > 10_000 {
@@ -85,14 +83,7 @@ pub fn descents(g: &mut Random, count: u64) -> u64 {
     let (mut bad, mut orbits, mut several) = (0u64, 0u64, 0u64);
     let (mut refused, mut endings) = ([0u64; 20], [0u64; 4]);
     for i in 0..count {
-        let mut w = row_of(g);
-        if w[9] == -1 && g.below(4) > 0 {
-            w[9] = 1;
-        }
-        let mut r = record(g);
-        if i % 6 == 0 {
-            r = spoiled(g, r);
-        }
+        let (w, mut r) = row_and_record(g, i % 6 == 0);
         let (start, settings) = (start(g), settings(g));
         let (fields, ap, n_ap) = numbers(&r);
         let mut lengths = [8, n_ap, 24];

@@ -2,7 +2,7 @@
 use crate::crossings::level;
 use crate::host::{first_below as ours, numbers, ours_column, NOWHERE};
 use crate::random::Random;
-use crate::{altitude, judged, record, row_of, same, sample, spoiled, to_routed, unmixed, Input};
+use crate::{altitude, altitudes_refused, record_refused, row_and_record, same, sample, slices_refused, to_routed, Input};
 use std::time::Instant;
 
 // Numbers that stand before and behind the lent row.
@@ -43,22 +43,10 @@ fn refusals(r: &Input, w: &[i32; 24], lengths: [usize; 4], alts: &[f64]) -> Vec<
     let [row, fields, ap, switches] = lengths;
     let mut all = Vec::new();
     all.extend((row != 11).then_some((4, 11)));
-    all.extend((fields != 8).then_some((4, 8)));
-    all.extend((ap != 0 && ap != 7).then_some((4, 7)));
-    all.extend((switches != 24).then_some((4, 24)));
+    all.extend(slices_refused([fields, ap, switches]));
     all.extend((alts.len() > 512).then_some((5, 512)));
-    all.extend(Some(judged(&Input { alt: 0.0, ..*r }, w)).filter(|x| *x != (0, 0)));
-    all.extend(alts.iter().enumerate().find_map(|(k, z)| {
-        let place = 17 + k as u64;
-        if !z.is_finite() {
-            Some((2, place))
-        } else if !(0.0..=2500.0).contains(z) {
-            Some((3, place))
-        } else {
-            None
-        }
-    }));
-    all.extend(alts.iter().position(|z| unmixed(*z, w)).map(|k| (10, 17 + k as u64)));
+    all.extend(record_refused(r, w));
+    all.extend(altitudes_refused(alts, w));
     all
 }
 
@@ -67,14 +55,7 @@ pub fn first_below(g: &mut Random, count: u64) -> u64 {
     let (mut bad, mut hits, mut first, mut nowhere, mut several, mut nan) = (0u64, 0u64, 0u64, 0u64, 0u64, 0u64);
     let mut refused = [0u64; 11];
     for i in 0..count {
-        let mut w = row_of(g);
-        if w[9] == -1 && g.below(4) > 0 {
-            w[9] = 1;
-        }
-        let mut r = record(g);
-        if i % 6 == 0 {
-            r = spoiled(g, r);
-        }
+        let (w, mut r) = row_and_record(g, i % 6 == 0);
         let alts = column(g);
         let (fields, ap, n_ap) = numbers(&r);
         let mut lengths = [11, 8, n_ap, 24];

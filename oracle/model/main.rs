@@ -200,6 +200,19 @@ fn spoiled(g: &mut Random, mut r: Input) -> Input {
     r
 }
 
+// A row that asks for the history in a quarter of the draws that have it, and a record, spoiled where that is asked for.
+fn row_and_record(g: &mut Random, spoil: bool) -> ([i32; 24], Input) {
+    let mut w = row_of(g);
+    if w[9] == -1 && g.below(4) > 0 {
+        w[9] = 1;
+    }
+    let mut r = record(g);
+    if spoil {
+        r = spoiled(g, r);
+    }
+    (w, r)
+}
+
 // Document 01's refusals of a record, 2, 1 and 3: (0, 0) where none fits.
 fn judged(r: &Input, w: &[i32; 24]) -> (u64, u64) {
     let mut fields = vec![r.sec, r.alt, r.g_lat, r.g_long, r.lst, r.f107a, r.f107, r.ap];
@@ -235,6 +248,37 @@ fn judged(r: &Input, w: &[i32; 24]) -> (u64, u64) {
 // Document 02's 10: below 72.5 km, switch 15 not 1.
 fn unmixed(alt: f64, w: &[i32; 24]) -> bool {
     w[15] != 1 && alt < 72.5
+}
+
+// The refusals of the record in a call that puts its own altitudes in.
+fn record_refused(r: &Input, w: &[i32; 24]) -> Option<(u64, u64)> {
+    Some(judged(&Input { alt: 0.0, ..*r }, w)).filter(|x| *x != (0, 0))
+}
+
+// Those of a column's altitudes: the first that is 2 or 3, then the first that is 10.
+fn altitudes_refused(alts: &[f64], w: &[i32; 24]) -> Vec<(u64, u64)> {
+    let mut all = Vec::new();
+    all.extend(alts.iter().enumerate().find_map(|(k, z)| {
+        let place = 17 + k as u64;
+        if !z.is_finite() {
+            Some((2, place))
+        } else if !(0.0..=2500.0).contains(z) {
+            Some((3, place))
+        } else {
+            None
+        }
+    }));
+    all.extend(alts.iter().position(|z| unmixed(*z, w)).map(|k| (10, 17 + k as u64)));
+    all
+}
+
+// Those of a record's slices: fields, ap_array, switches.
+fn slices_refused([fields, ap, switches]: [usize; 3]) -> Vec<(u64, u64)> {
+    let mut all = Vec::new();
+    all.extend((fields != 8).then_some((4, 8)));
+    all.extend((ap != 0 && ap != 7).then_some((4, 7)));
+    all.extend((switches != 24).then_some((4, 24)));
+    all
 }
 
 // What the one-altitude call answers: 2, 1, 3, then 10.
@@ -475,20 +519,7 @@ fn columns(g: &mut Random, count: u64) -> u64 {
         } else if judged(&at_zero, &w) != (0, 0) {
             judged(&at_zero, &w)
         } else {
-            let ten = || alts.iter().position(|z| unmixed(*z, &w)).map_or((0, 0), |k| (10, 17 + k as u64));
-            alts.iter()
-                .enumerate()
-                .find_map(|(k, z)| {
-                    let place = 17 + k as u64;
-                    if !z.is_finite() {
-                        Some((2, place))
-                    } else if !(0.0..=2500.0).contains(z) {
-                        Some((3, place))
-                    } else {
-                        None
-                    }
-                })
-                .unwrap_or_else(ten)
+            altitudes_refused(&alts, &w).first().copied().unwrap_or((0, 0))
         };
         tens += (want.0 == 10) as u64;
         let mut expect = before.clone();

@@ -1,7 +1,7 @@
 // The one-altitude call with nine constants: against the varied copy of the Rust, and with the present nine against gtd7.
 use crate::host::{gtd7_with as ours, numbers, one_altitude, potirehu_gtd7};
 use crate::random::Random;
-use crate::{judged, record, row_of, same, spoiled, to_routed, to_varied, Input};
+use crate::{judged, row_and_record, same, slices_refused, to_routed, to_varied, Input};
 use varied::varied::{set, PRESENT};
 
 // The masses of the species, which mixed air may not have.
@@ -69,9 +69,7 @@ fn refusals(nine: &[f64; 9], r: &Input, w: &[i32; 24], lengths: [usize; 5]) -> V
     all.extend((n_nine != 9).then_some((4, 9)));
     all.extend(unfit(nine));
     all.extend((n_row != 11).then_some((4, 11)));
-    all.extend((n_fields != 8).then_some((4, 8)));
-    all.extend((n_ap != 0 && n_ap != 7).then_some((4, 7)));
-    all.extend((n_switches != 24).then_some((4, 24)));
+    all.extend(slices_refused([n_fields, n_ap, n_switches]));
     all.extend(Some(judged(r, w)).filter(|x| *x != (0, 0)));
     all.extend((r.alt < 72.5 && (w[15] != 1 || nine[4] < 72.5)).then_some((10, 3)));
     all
@@ -79,14 +77,7 @@ fn refusals(nine: &[f64; 9], r: &Input, w: &[i32; 24], lengths: [usize; 5]) -> V
 
 // A record with a switch row, and the lengths of the five slices: now and then a record that is refused, and slices of other lengths.
 fn drawn(g: &mut Random, i: u64) -> (Input, [i32; 24], [usize; 5]) {
-    let mut w = row_of(g);
-    if w[9] == -1 && g.below(4) > 0 {
-        w[9] = 1;
-    }
-    let mut r = record(g);
-    if i % 8 == 0 {
-        r = spoiled(g, r);
-    }
+    let (w, mut r) = row_and_record(g, i % 8 == 0);
     let mut lengths = [9, 11, 8, if r.ap_array.is_some() { 7 } else { 0 }, 24];
     if g.below(20) == 0 {
         for _ in 0..1 + g.below(2) {

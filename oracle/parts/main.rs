@@ -1,4 +1,4 @@
-// Compares the functions of libhost_parts.a with the Rust's.
+// Compares the functions of liboracle_parts.a with the Rust's.
 mod atmosphere;
 mod random;
 mod routed;

@@ -33,13 +33,13 @@ sample alt long =
     }
 
 -- a case: what the definition answers, and the answer of document 01
-pub record Case : Type 0 where
+pub record AnswerCase : Type 0 where
   pub given : Answer
   pub answer : Answer
 
 -- S8 is the first two: g_long -1,000 and -1,000.5; then alt 2,500 and 2,500.5
-unfoldable pub cases : List ℤ → List Case
-cases w =
+unfoldable pub answerCases : List ℤ → List AnswerCase
+answerCases w =
     record { given = judgedOf w (sample 400·0 (neg 1000·0)); answer = Accepted } ∷
     record { given = judgedOf w (sample 400·0 (neg (dec 10005 1))); answer = Refused 3 5 } ∷
     record { given = judgedOf w (sample 2500·0 (neg 70·0)); answer = Accepted } ∷
@@ -47,21 +47,21 @@ cases w =
     []
 
 -- with its array there, no row finds the history lacking
-there : (b : Bool) → (b && false) ≡ false
-there true = refl
-there false = refl
+array-there : (b : Bool) → (b && false) ≡ false
+array-there true = refl
+array-there false = refl
 
 -- for every row, each case gives its answer
-pub cases-hold : (w : List ℤ) → map (λ (c : Case). c .given) (cases w) ≡ map (λ (c : Case). c .answer) (cases w)
-unfolding cases judgedOf lacksHistoryOf outsideOf arrayOutsideOf unfitOf arrayUnfitOf foundOf withinOf finiteOf dec neg le lt round ofBits
-cases-hold w = rw (there (asksHistoryOf w)) refl
+pub answer-cases-hold : (w : List ℤ) → map (λ (c : AnswerCase). c .given) (answerCases w) ≡ map (λ (c : AnswerCase). c .answer) (answerCases w)
+unfolding answerCases judgedOf lacksHistoryOf outsideOf arrayOutsideOf unfitOf arrayUnfitOf foundOf withinOf finiteOf dec neg le lt round ofBits
+answer-cases-hold w = rw (array-there (asksHistoryOf w)) refl
 
 -- every switch 1 but 15
 abbrev row : ℤ → List ℤ
 row s = set (replicate 24 (pos 1)) 15 s
 
 -- Refusal 10: below 72.5 km and not at it, where switch 15 is not 1 (2 is not 1), after the range checks
-unfoldable pub mixing : List Case
+unfoldable pub mixing : List AnswerCase
 mixing =
     record { given = recordAnswer (row (pos 1)) (sample 0·0 (neg 70·0)); answer = Accepted } ∷
     record { given = recordAnswer (row (pos 0)) (sample 72·5 (neg 70·0)); answer = Accepted } ∷
@@ -70,6 +70,6 @@ mixing =
     record { given = recordAnswer (row (pos 0)) (sample 0·0 (neg (dec 10005 1))); answer = Refused 3 5 } ∷
     []
 
-pub mixing-hold : map (λ (c : Case). c .given) mixing ≡ map (λ (c : Case). c .answer) mixing
+pub mixing-hold : map (λ (c : AnswerCase). c .given) mixing ≡ map (λ (c : AnswerCase). c .answer) mixing
 unfolding mixing recordAnswer unmixedOf judgedOf lacksHistoryOf asksHistoryOf outsideOf arrayOutsideOf unfitOf arrayUnfitOf foundOf withinOf finiteOf dec neg le lt round ofBits
 mixing-hold = refl

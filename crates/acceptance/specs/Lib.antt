@@ -1,3 +1,4 @@
--- The definitions that the contracts of this crate cite, and the cases of document 01.
+-- The definitions that the contracts of this crate cite, what an accepted answer says, and the cases of document 01.
 pub mod Acceptance
+pub mod Refusals
 pub mod Cases

@@ -1,9 +1,8 @@
 -- Magnetic activity: g0, sumex, sg0 of the Rust, and what globe7 leaves in apdf and apt.
-use Prim.Native.Nat.{zero}
 use mathlib.Core.Bool.{cond, not, _&&_}
 use mathlib.Core.List.{List}
 use lib.Ieee.{Float, neg, lt, eq, ne}
-use Rattle.numbers.specs.Arithmetic.{_⊕_, _⊖_, _⊗_, _⊘_, _‼_, at}
+use Rattle.numbers.specs.Arithmetic.{_⊕_, _⊖_, _⊗_, _⊘_, _‼_}
 use Rattle.numbers.specs.Literals.{0·0, 0·5, 0·99999, 10800·0, 12·0, 19·0, 1·0, 1·0E-4, 1·0E-5, 3·0, 45·0, 4·0, 8·0}
 use Rattle.elementary.specs.Exp.{expOf}
 use Rattle.elementary.specs.Root.{sqrtOf}

@@ -12,13 +12,13 @@ use Rattle.numbers.specs.Literals.{0·0}
 use Rattle.setting.specs.declared.Input.{Input}
 use Rattle.setting.specs.declared.View.{View}
 use Rattle.setting.specs.View.{viewOf}
-use Rattle.plan.specs.declared.Levels.{Levels}
-use Rattle.levels.specs.declared.Need.{Need}
-use Rattle.levels.specs.Levels.{needAt, levelsOf}
-use Rattle.upper.specs.declared.Site.{Site}
+use Rattle.plan.specs.declared.ExpansionValues.{ExpansionValues}
+use Rattle.expansion_values.specs.declared.Need.{Need}
+use Rattle.expansion_values.specs.ExpansionValues.{needAt, expansionValuesOf}
+use Rattle.gts7_arithmetic.specs.declared.Site.{Site}
 use Rattle.parameters.specs.Parameters.{presentOf}
 use Rattle.parameters.specs.declared.Parameters.{Parameters}
-use Rattle.upper.specs.Upper.{HasMass, siteWith}
+use Rattle.gts7_arithmetic.specs.Gts7Arithmetic.{HasMass, siteWith}
 use Rattle.acceptance.specs.declared.Answer.{Answer}
 use Rattle.acceptance.specs.declared.Answer.the-variants.{Refused}
 use Rattle.acceptance.specs.Acceptance.{acceptedOf}
@@ -54,9 +54,9 @@ pub site-mass : (c : Parameters) (sw : List Float) (lat doy f107a : Float) (x : 
 unfolding siteWith
 site-mass c sw lat doy f107a x e m = ap (λ (y : Site). eq (y .nine .xmm) 0·0) e ∙ m
 
-pub row-with-law : (c : Parameters) (w : List ℤ) (n : Input) (row : List Float) (l : Levels) (a : Need) (x : Site) (v : View)
+pub row-with-law : (c : Parameters) (w : List ℤ) (n : Input) (row : List Float) (l : ExpansionValues) (a : Need) (x : Site) (v : View)
     → row ≡ elevenFrom (v .sw) x l (n .alt)
-    → l ≡ levelsOf v a
+    → l ≡ expansionValuesOf v a
     → a ≡ needAt (n .alt)
     → x ≡ siteWith c (v .sw) (n .«g_lat») (v .doy) (n .f107a)
     → v ≡ viewOf w n

@@ -1,6 +1,6 @@
 -- gtd7 after the C release, and the one-altitude call: demand 2's definition.
 use Prim.Native.Nat.{ℕ}
-use mathlib.Core.Bool.{Bool, cond, not}
+use mathlib.Core.Bool.{cond, not}
 use mathlib.Core.List.{List}
 use lib.Dec.{eqb}
 use lib.IntN.{ℤ}
@@ -16,34 +16,34 @@ use Rattle.setting.specs.declared.View.{View}
 use Rattle.setting.specs.State.{freshOf}
 use Rattle.setting.specs.View.{viewOf}
 use Rattle.plan.specs.Fields.{setGravity, setDd}
-use Rattle.plan.specs.Plan.{Plan, done, ask, keep, either, _>>=_, _>>_, run, told, given}
-use Rattle.plan.specs.declared.Levels.{Levels}
-use Rattle.upper.specs.declared.Site.{Site}
-use Rattle.upper.specs.Upper.{siteWith}
+use Rattle.plan.specs.Plan.{Plan, done, ask, keep, either, _>>=_, _>>_, run, told, answerTo}
+use Rattle.plan.specs.declared.ExpansionValues.{ExpansionValues}
+use Rattle.gts7_arithmetic.specs.declared.Site.{Site}
+use Rattle.gts7_arithmetic.specs.Gts7Arithmetic.{siteWith}
 use Rattle.stages.specs.Stages.{gts7Plan}
-use Rattle.lower.specs.declared.Whole.{Whole}
-use Rattle.lower.specs.Lower.{mesoPlan, lowerPlan, aboveOf, belowOf}
+use Rattle.lower_atmosphere.specs.declared.Gtd7Output.{Gtd7Output}
+use Rattle.lower_atmosphere.specs.LowerAtmosphere.{mesoPlan, lowerPlan, gtd7Above, gtd7Below}
 use Rattle.acceptance.specs.declared.Answer.{Answer}
-use Rattle.acceptance.specs.declared.Answer.the-variants.{Accepted, Refused}
+use Rattle.acceptance.specs.declared.Answer.the-variants.{Refused}
 use Rattle.acceptance.specs.Acceptance.{acceptedOf, recordAnswer}
 
 -- gtd7: gts7 at 72.5 km or above, and from there down the lower nodes
-unfoldable pub gtd7Plan : List Float → Site → Float → Plan Whole
+unfoldable pub gtd7Plan : List Float → Site → Float → Plan Gtd7Output
 gtd7Plan sw x alt = do
   setGravity (x .gsurf) (x .re)
   u ← gts7Plan sw x (cond (lt 72·5 alt) alt 72·5)
   either (le 72·5 alt)
-      (done (aboveOf u))
+      (done (gtd7Above u))
       (do
         m ← mesoPlan sw u
         w ← lowerPlan sw alt m
-        let b = belowOf (sw ‼ 0) x alt u w
+        let b = gtd7Below (sw ‼ 0) x alt u w
         setDd (b .dd)
         done b)
 
 -- d[0] to d[8], t[0], t[1] at an altitude, from the expansions' values
-unfoldable pub elevenFrom : List Float → Site → Levels → Float → List Float
-elevenFrom sw x l alt = (told (given l) (gtd7Plan sw x alt)) .row
+unfoldable pub elevenFrom : List Float → Site → ExpansionValues → Float → List Float
+elevenFrom sw x l alt = (told (answerTo l) (gtd7Plan sw x alt)) .row
 
 -- the same from a fresh State: demand 2's definition
 unfoldable pub elevenAtOf : View → Site → Float → List Float

@@ -1,20 +1,21 @@
 -- gtd7's eleven numbers by the way that an altitude takes: at or above 72.5 km gts7's, below it those that its footing gives.
 use mathlib.Core.Path.{_≡_, refl, sym, _∙_, ap}
-use mathlib.Core.Bool.{Bool, true, false, cond, _||_}
+use mathlib.Core.Bool.{Bool, true, false, cond}
 use mathlib.Core.List.{List}
 use lib.Ieee.{Float, lt, le, eq}
 use Rattle.numbers.specs.Arithmetic.{_‼_}
 use Rattle.numbers.specs.Literals.{32·5, 72·5}
-use Rattle.plan.specs.declared.Levels.{Levels}
-use Rattle.plan.specs.Plan.{Plan, either, told, given, then, last, told-keep}
-use Rattle.upper.specs.declared.Site.{Site}
-use Rattle.upper.specs.declared.Upper.{Upper}
-use Rattle.upper.specs.Upper.{HasMass}
+use Rattle.numbers.specs.Booleans.{neither}
+use Rattle.plan.specs.declared.ExpansionValues.{ExpansionValues}
+use Rattle.plan.specs.Plan.{Plan, either, told, answerTo, then, last, told-keep}
+use Rattle.gts7_arithmetic.specs.declared.Site.{Site}
+use Rattle.gts7_arithmetic.specs.declared.Gts7Output.{Gts7Output}
+use Rattle.gts7_arithmetic.specs.Gts7Arithmetic.{HasMass}
 use Rattle.stages.specs.Stages.{gts7Plan}
-use Rattle.lower.specs.declared.Whole.{Whole}
-use Rattle.lower.specs.declared.Meso.{Meso}
-use Rattle.lower.specs.declared.Nodes.{Nodes}
-use Rattle.lower.specs.Lower.{mesoPlan, lowerPlan, aboveOf, belowOf}
+use Rattle.lower_atmosphere.specs.declared.Gtd7Output.{Gtd7Output}
+use Rattle.lower_atmosphere.specs.declared.Meso.{Meso}
+use Rattle.lower_atmosphere.specs.declared.Nodes.{Nodes}
+use Rattle.lower_atmosphere.specs.LowerAtmosphere.{mesoPlan, lowerPlan, gtd7Above, gtd7Below}
 use Rattle.footing.specs.declared.Footing.{Footing}
 use Rattle.footing.specs.Footing.{footingOf, rowBelowOf}
 use Rattle.footing.specs.Below.{row-is}
@@ -27,65 +28,61 @@ either-true b m n e = ap (λ (t : Bool). either t m n) e
 either-false : {A : Type 0} (b : Bool) (m n : Plan A) → b ≡ false → either b m n ≡ n
 either-false b m n e = ap (λ (t : Bool). either t m n) e
 
-gtd7-above : (sw : List Float) (x : Site) (alt : Float) (l : Levels) (w : Whole) (u : Upper) (altt : Float)
-    → w ≡ aboveOf u
-    → u ≡ told (given l) (gts7Plan sw x altt)
+gtd7-above : (sw : List Float) (x : Site) (alt : Float) (l : ExpansionValues) (w : Gtd7Output) (u : Gts7Output) (altt : Float)
+    → w ≡ gtd7Above u
+    → u ≡ told (answerTo l) (gts7Plan sw x altt)
     → altt ≡ cond (lt 72·5 alt) alt 72·5
     → le 72·5 alt ≡ true
-    → w ≡ told (given l) (gtd7Plan sw x alt)
+    → w ≡ told (answerTo l) (gtd7Plan sw x alt)
 unfolding gtd7Plan
 gtd7-above sw x alt l w u altt e0 e1 e2 t =
     e0
     ∙ sym
-    (told-keep (given l) _ _
-    ∙ then (given l) (gts7Plan sw x (cond (lt 72·5 alt) alt 72·5)) _ u (rw e2 at e1)
-    ∙ ap (told (given l)) (either-true (le 72·5 alt) _ _ t)
-    ∙ last (given l) _)
+    (told-keep (answerTo l) _ _
+    ∙ then (answerTo l) (gts7Plan sw x (cond (lt 72·5 alt) alt 72·5)) _ u (rw e2 at e1)
+    ∙ ap (told (answerTo l)) (either-true (le 72·5 alt) _ _ t)
+    ∙ last (answerTo l) _)
 
-gtd7-below : (sw : List Float) (x : Site) (alt : Float) (l : Levels) (w : Whole) (n : Nodes) (m : Meso) (u : Upper) (altt : Float)
-    → w ≡ belowOf (sw ‼ 0) x alt u n
-    → n ≡ told (given l) (lowerPlan sw alt m)
-    → m ≡ told (given l) (mesoPlan sw u)
-    → u ≡ told (given l) (gts7Plan sw x altt)
+gtd7-below : (sw : List Float) (x : Site) (alt : Float) (l : ExpansionValues) (w : Gtd7Output) (n : Nodes) (m : Meso) (u : Gts7Output) (altt : Float)
+    → w ≡ gtd7Below (sw ‼ 0) x alt u n
+    → n ≡ told (answerTo l) (lowerPlan sw alt m)
+    → m ≡ told (answerTo l) (mesoPlan sw u)
+    → u ≡ told (answerTo l) (gts7Plan sw x altt)
     → altt ≡ cond (lt 72·5 alt) alt 72·5
     → le 72·5 alt ≡ false
-    → w ≡ told (given l) (gtd7Plan sw x alt)
+    → w ≡ told (answerTo l) (gtd7Plan sw x alt)
 unfolding gtd7Plan
 gtd7-below sw x alt l w n m u altt e0 e1 e2 e3 e4 t =
     e0
     ∙ sym
-    (told-keep (given l) _ _
-    ∙ then (given l) (gts7Plan sw x (cond (lt 72·5 alt) alt 72·5)) _ u (rw e4 at e3)
-    ∙ ap (told (given l)) (either-false (le 72·5 alt) _ _ t)
-    ∙ then (given l) (mesoPlan sw u) _ m e2
-    ∙ then (given l) (lowerPlan sw alt m) _ n e1
-    ∙ told-keep (given l) _ _
-    ∙ last (given l) _)
+    (told-keep (answerTo l) _ _
+    ∙ then (answerTo l) (gts7Plan sw x (cond (lt 72·5 alt) alt 72·5)) _ u (rw e4 at e3)
+    ∙ ap (told (answerTo l)) (either-false (le 72·5 alt) _ _ t)
+    ∙ then (answerTo l) (mesoPlan sw u) _ m e2
+    ∙ then (answerTo l) (lowerPlan sw alt m) _ n e1
+    ∙ told-keep (answerTo l) _ _
+    ∙ last (answerTo l) _)
 
-pub eleven-above : (sw : List Float) (x : Site) (l : Levels) (alt : Float) (w : Whole) (u : Upper) (altt : Float)
-    → w ≡ aboveOf u
-    → u ≡ told (given l) (gts7Plan sw x altt)
+pub eleven-above : (sw : List Float) (x : Site) (l : ExpansionValues) (alt : Float) (w : Gtd7Output) (u : Gts7Output) (altt : Float)
+    → w ≡ gtd7Above u
+    → u ≡ told (answerTo l) (gts7Plan sw x altt)
     → altt ≡ cond (lt 72·5 alt) alt 72·5
     → le 72·5 alt ≡ true
     → w .row ≡ elevenFrom sw x l alt
 unfolding elevenFrom
-eleven-above sw x l alt w u altt e0 e1 e2 t = ap (λ (r : Whole). r .row) (gtd7-above sw x alt l w u altt e0 e1 e2 t)
+eleven-above sw x l alt w u altt e0 e1 e2 t = ap (λ (r : Gtd7Output). r .row) (gtd7-above sw x alt l w u altt e0 e1 e2 t)
 
 -- an altitude that is not at or above another is not above it
-neither : (a b : Bool) → (a || b) ≡ false → a ≡ false
-neither true b e = e
-neither false b e = refl
-
 not-above : (x y : Float) → le x y ≡ false → lt x y ≡ false
 unfolding le
-not-above x y e = neither (lt x y) (eq x y) e
+not-above x y e = neither (lt x y) (eq x y) e .0
 
 -- f is the footing of an altitude, where it lies below 72.5 km, and the mass of mixed air is not 0 there; below 32.5 km with the nodes of the
 -- troposphere
-abbrev pub Founded : List Float → Site → Levels → Footing → Float → Type 0
+abbrev pub Founded : List Float → Site → ExpansionValues → Footing → Float → Type 0
 Founded sw x l f alt = le 72·5 alt ≡ false → HasMass x × (tropo : Bool) × (f ≡ footingOf sw x l tropo) × (lt alt 32·5 ≡ true → tropo ≡ true)
 
-pub eleven-below : (sw : List Float) (x : Site) (l : Levels) (alt : Float) (tropo : Bool) (f : Footing) (row : List Float)
+pub eleven-below : (sw : List Float) (x : Site) (l : ExpansionValues) (alt : Float) (tropo : Bool) (f : Footing) (row : List Float)
     → HasMass x
     → row ≡ rowBelowOf (sw ‼ 0) f alt
     → f ≡ footingOf sw x l tropo
@@ -94,10 +91,10 @@ pub eleven-below : (sw : List Float) (x : Site) (l : Levels) (alt : Float) (trop
     → row ≡ elevenFrom sw x l alt
 unfolding elevenFrom
 eleven-below sw x l alt tropo f row gas e0 e1 c t =
-    let u = told (given l) (gts7Plan sw x 72·5) in
+    let u = told (answerTo l) (gts7Plan sw x 72·5) in
     e0
     ∙ ap (λ (g : Footing). rowBelowOf (sw ‼ 0) g alt) e1
     ∙ row-is sw x l tropo alt gas c (not-above 72·5 alt t)
-    ∙ ap (λ (r : Whole). r .row)
-    (gtd7-below sw x alt l _ (told (given l) (lowerPlan sw alt (told (given l) (mesoPlan sw u)))) (told (given l) (mesoPlan sw u)) u 72·5 refl refl refl refl
+    ∙ ap (λ (r : Gtd7Output). r .row)
+    (gtd7-below sw x alt l _ (told (answerTo l) (lowerPlan sw alt (told (answerTo l) (mesoPlan sw u)))) (told (answerTo l) (mesoPlan sw u)) u 72·5 refl refl refl refl
     (sym (ap (λ (b : Bool). cond b alt 72·5) (not-above 72·5 alt t))) t)

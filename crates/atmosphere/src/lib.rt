@@ -4,33 +4,33 @@ ghost use lib.ListN.{length};
 ghost use mathlib.Core.Bool.{true, false};
 ghost use lib.Ieee.{le, eq};
 ghost use Rattle.numbers.specs.Literals.{0·0, 72·5};
-ghost use Rattle.upper.specs.Upper.{HasMass};
+ghost use Rattle.gts7_arithmetic.specs.Gts7Arithmetic.{HasMass};
 ghost use Rattle.atmosphere.specs.Atmosphere.{elevenFrom, elevenWith, elevenOf, answerOf, rowAfter};
 ghost use Rattle.atmosphere.specs.Rows.{Founded};
 use acceptance::Answer;
 use acceptance::accepted;
 use acceptance::record_answer;
+use expansion_values::expansion_values_of;
+use expansion_values::need_at;
 use footing::Footing;
 use footing::footing_where;
 use footing::row_below;
-use levels::levels_of;
-use levels::need_at;
-use lower::above;
+use gts7_arithmetic::Site;
+use gts7_arithmetic::site_with;
+use lower_atmosphere::above;
 use mixing::limits::mixed_at;
 use mixing::limits::some_mixed;
 use numbers::pick;
 use parameters::Parameters;
 use parameters::present;
-use plan::Levels;
+use plan::ExpansionValues;
 use setting::Input;
 use setting::views::view_of;
 use thermosphere::gts7_stage;
 use unmixed::unmixed_row;
-use upper::Site;
-use upper::site_with;
 
 // The eleven numbers at or above 72.5 km: gts7's, by a shorter way where nothing is mixed.
-pub fn row_above(sw: [f64; 24], x: Site, l: Levels, alt: f64) -> [f64; 11]
+pub fn row_above(sw: [f64; 24], x: Site, l: ExpansionValues, alt: f64) -> [f64; 11]
     requires { ⌜ le 72·5 alt ≡ true ⌝ }
     ensures { λ r. ⌜ r ≡ elevenFrom sw x l alt ⌝ }
 {
@@ -47,7 +47,7 @@ pub fn row_above(sw: [f64; 24], x: Site, l: Levels, alt: f64) -> [f64; 11]
 }
 
 // The eleven numbers at an altitude, by the way that it takes; f is its footing where it lies below 72.5 km.
-pub fn eleven(sw: [f64; 24], x: Site, l: Levels, f: Footing, alt: f64) -> [f64; 11]
+pub fn eleven(sw: [f64; 24], x: Site, l: ExpansionValues, f: Footing, alt: f64) -> [f64; 11]
     requires { ⌜ Founded sw x l f alt ⌝ }
     ensures { λ r. ⌜ r ≡ elevenFrom sw x l alt ⌝ }
 {
@@ -70,7 +70,7 @@ pub fn put(out: &mut [f64], v: [f64; 11])
 }
 
 // The eleven numbers at an altitude into a lent row, from what was worked out before.
-pub fn row_on(sw: [f64; 24], x: Site, l: Levels, f: Footing, alt: f64, out: &mut [f64])
+pub fn row_on(sw: [f64; 24], x: Site, l: ExpansionValues, f: Footing, alt: f64, out: &mut [f64])
     requires { ⌜ (length (now out) ≡ 11) × Founded sw x l f alt ⌝ }
     ensures { λ _. ⌜ now (out .exit) ≡ elevenFrom sw x l alt ⌝ }
 {
@@ -79,7 +79,7 @@ pub fn row_on(sw: [f64; 24], x: Site, l: Levels, f: Footing, alt: f64, out: &mut
 }
 
 // The same for an altitude alone.
-pub fn row_at(sw: [f64; 24], x: Site, l: Levels, alt: f64, out: &mut [f64])
+pub fn row_at(sw: [f64; 24], x: Site, l: ExpansionValues, alt: f64, out: &mut [f64])
     requires { ⌜ (length (now out) ≡ 11) × HasMass x ⌝ }
     ensures { λ _. ⌜ now (out .exit) ≡ elevenFrom sw x l alt ⌝ }
 {
@@ -96,7 +96,7 @@ pub fn row_with(c: Parameters, w: [i32; 24], n: Input, out: &mut [f64])
     let sw = v.sw;
     let x = site_with(c, sw, n.g_lat, v.doy, n.f107a);
     let a = need_at(n.alt);
-    let l = levels_of(v, a);
+    let l = expansion_values_of(v, a);
     row_at(sw, x, l, n.alt, out);
 }
 

@@ -10,61 +10,61 @@ use lib.IntN.{ℤ, pos, negsuc, natAbs}
 use lib.ListN.{length, take, drop, getD}
 use lib.Signed.{ltZ, nonNeg}
 use Rattle.line_text.proofs.Choice.{cond-true, cond-false}
-use Rattle.band_table.specs.Table.{countOf, noRow, rowFrom, rowOf}
+use Rattle.band_table.specs.Table.{bandCount, noRow, rowFrom, bandRow}
 
 -- ---- a count
 
-pub count-below : (x z : ℤ) → x ≡ z → ltZ x (pos 0) ≡ true → 0 ≡ countOf z
+pub count-below : (x z : ℤ) → x ≡ z → ltZ x (pos 0) ≡ true → 0 ≡ bandCount z
 count-below x z f h = by z (ap (λ (y : ℤ). ltZ y (pos 0)) (sym f) ∙ h)
   where
-    by : (y : ℤ) → ltZ y (pos 0) ≡ true → 0 ≡ countOf y
+    by : (y : ℤ) → ltZ y (pos 0) ≡ true → 0 ≡ bandCount y
     by (pos n) e = let l : n < 0 = ltb-true n 0 e in absurd (none l)
       where
         none : n < 0 → ⊥
         none i = omega arith
     by (negsuc n) e = refl
 
-pub count-above : (x z : ℤ) → x ≡ z → ltZ (pos 64) x ≡ true → 0 ≡ countOf z
+pub count-above : (x z : ℤ) → x ≡ z → ltZ (pos 64) x ≡ true → 0 ≡ bandCount z
 count-above x z f h = by z (ap (ltZ (pos 64)) (sym f) ∙ h)
   where
-    by : (y : ℤ) → ltZ (pos 64) y ≡ true → 0 ≡ countOf y
+    by : (y : ℤ) → ltZ (pos 64) y ≡ true → 0 ≡ bandCount y
     by (pos n) e = cond-false _ _ _ (lt-leb n 64 (ltb-true 64 n e))
     by (negsuc n) e = refl
 
 pub record Counted (x z : ℤ) : Type 0 where
   pub sign : T (nonNeg x)
-  pub size : natAbs x ≡ countOf z
+  pub size : natAbs x ≡ bandCount z
   pub few : natAbs x ≤ 64
 
 pub count-is : (x z : ℤ) → x ≡ z → ltZ x (pos 0) ≡ false → ltZ (pos 64) x ≡ false → Counted x z
 count-is (pos n) z f g h =
     let l : n ≤ 64 = ltb-false 64 n h in
-    record { sign = tt; size = cond-true _ n 0 (le-leb n 64 l) ∙ ap countOf f; few = l }
+    record { sign = tt; size = cond-true _ n 0 (le-leb n 64 l) ∙ ap bandCount f; few = l }
 count-is (negsuc n) z f g h = absurd (true≢false g)
 
 -- ---- the row
 
 module _ (t : List ℤ) (metre : ℤ) where
-  pub row-length : (length t ≡ 1601 → ⊥) → noRow ≡ rowOf t metre
-  unfolding rowOf
+  pub row-length : (length t ≡ 1601 → ⊥) → noRow ≡ bandRow t metre
+  unfolding bandRow
   row-length h = cond-false _ _ _ (ne-eqb (length t) 1601 h)
 
   module _ (l : length t ≡ 1601) (x : ℤ) (f : x ≡ metre) where
-    pub row-below : ltZ x (pos 0) ≡ true → noRow ≡ rowOf t metre
-    unfolding rowOf
+    pub row-below : ltZ x (pos 0) ≡ true → noRow ≡ bandRow t metre
+    unfolding bandRow
     row-below h = cond-true _ _ _ (ap (λ (z : ℤ). ltZ z (pos 0)) (sym f) ∙ h) ∙ cond-true _ _ _ (eq-eqb (length t) 1601 l)
 
     module _ (g : ltZ x (pos 0) ≡ false) where
-      pub row-above : ltZ (pos 2500000) x ≡ true → noRow ≡ rowOf t metre
-      unfolding rowOf
+      pub row-above : ltZ (pos 2500000) x ≡ true → noRow ≡ bandRow t metre
+      unfolding bandRow
       row-above h =
           cond-true _ _ _ (ap (ltZ (pos 2500000)) (sym f) ∙ h)
           ∙ (cond-false _ _ _ (ap (λ (z : ℤ). ltZ z (pos 0)) (sym f) ∙ g) ∙ cond-true _ _ _ (eq-eqb (length t) 1601 l))
 
-      pub row-within : ltZ (pos 2500000) x ≡ false → rowFrom (countOf (getD t 0 (pos 0))) t 1 x ≡ rowOf t metre
-      unfolding rowOf
+      pub row-within : ltZ (pos 2500000) x ≡ false → rowFrom (bandCount (getD t 0 (pos 0))) t 1 x ≡ bandRow t metre
+      unfolding bandRow
       row-within h =
-          ap (rowFrom (countOf (getD t 0 (pos 0))) t 1) f
+          ap (rowFrom (bandCount (getD t 0 (pos 0))) t 1) f
           ∙ (cond-false _ _ _ (ap (ltZ (pos 2500000)) (sym f) ∙ h)
           ∙ (cond-false _ _ _ (ap (λ (z : ℤ). ltZ z (pos 0)) (sym f) ∙ g) ∙ cond-true _ _ _ (eq-eqb (length t) 1601 l)))
 
@@ -99,11 +99,11 @@ unfolding rowFrom
 row-none m t k metre e = rw e
 
 -- a metre that has a row lies from 0 to 2,500,000
-pub found-inside : (t : List ℤ) (metre : ℤ) → (rowOf t metre) .found ≡ true → (ltZ metre (pos 0) ≡ false) × (ltZ (pos 2500000) metre ≡ false)
-unfolding rowOf
+pub found-inside : (t : List ℤ) (metre : ℤ) → (bandRow t metre) .found ≡ true → (ltZ metre (pos 0) ≡ false) × (ltZ (pos 2500000) metre ≡ false)
+unfolding bandRow
 found-inside t metre h = go (eqb (length t) 1601) (ltZ metre (pos 0)) (ltZ (pos 2500000) metre) h
   where
-    go : (l a b : Bool) → (cond l (cond a noRow (cond b noRow (rowFrom (countOf (getD t 0 (pos 0))) t 1 metre))) noRow) .found ≡ true → (a ≡ false) × (b ≡ false)
+    go : (l a b : Bool) → (cond l (cond a noRow (cond b noRow (rowFrom (bandCount (getD t 0 (pos 0))) t 1 metre))) noRow) .found ≡ true → (a ≡ false) × (b ≡ false)
     go false a b e = absurd (true≢false (sym e))
     go true true b e = absurd (true≢false (sym e))
     go true false true e = absurd (true≢false (sym e))

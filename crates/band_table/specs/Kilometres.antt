@@ -5,5 +5,5 @@ use Rattle.numbers.specs.Arithmetic.{_⊘_}
 use Rattle.numbers.specs.Literals.{1000·0}
 
 -- metres / 1000 km
-unfoldable pub kilometresOf : ℤ → Float
-kilometresOf metre = ofInt binary64 metre ⊘ 1000·0
+unfoldable pub kilometresOfMetres : ℤ → Float
+kilometresOfMetres metre = ofInt binary64 metre ⊘ 1000·0

@@ -5,8 +5,8 @@ ghost use lib.ListN.{length, take, drop};
 ghost use lib.Signed.{ltZ};
 ghost use mathlib.Core.Bool.{false};
 ghost use lib.IntN.{pos};
-ghost use Rattle.band_table.specs.Table.{countOf, noRow, rowOf};
-ghost use Rattle.band_table.specs.Kilometres.{kilometresOf};
+ghost use Rattle.band_table.specs.Table.{bandCount, noRow, bandRow};
+ghost use Rattle.band_table.specs.Kilometres.{kilometresOfMetres};
 
 // The row of a metre, if there is one.
 pub struct Row {
@@ -25,7 +25,7 @@ pub fn no_row() -> Row
 
 // How many bands a table says that it has.
 pub fn count(z: i32) -> usize
-    ensures { λ r. ⌜ (r ≡ countOf z) × (r ≤ 64) ⌝ }
+    ensures { λ r. ⌜ (r ≡ bandCount z) × (r ≤ 64) ⌝ }
 {
     if z < 0 {
         return 0;
@@ -58,7 +58,7 @@ pub fn row_from(table: &[i32], k: usize) -> [i32; 24]
 
 // Any table, whatever it holds.
 pub fn row_at(table: &[i32], metre: i64) -> Row
-    ensures { λ r. ⌜ r ≡ rowOf (now (table .entry)) metre ⌝ }
+    ensures { λ r. ⌜ r ≡ bandRow (now (table .entry)) metre ⌝ }
 {
     if table.len() != 1601 {
         return no_row();
@@ -90,7 +90,7 @@ pub fn row_at(table: &[i32], metre: i64) -> Row
 // A whole metre as an altitude in km: one division.
 pub fn kilometres(metre: i64) -> f64
     requires { ⌜ (ltZ metre (pos 0) ≡ false) × (ltZ (pos 2500000) metre ≡ false) ⌝ }
-    ensures { λ r. ⌜ r ≡ kilometresOf metre ⌝ }
+    ensures { λ r. ⌜ r ≡ kilometresOfMetres metre ⌝ }
 {
     metre as f64 / 1000.0
 }

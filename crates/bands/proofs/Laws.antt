@@ -11,7 +11,7 @@ use Rattle.acceptance.specs.declared.Answer.{Answer}
 use Rattle.acceptance.specs.declared.Answer.the-variants.{Refused}
 use Rattle.atmosphere.specs.Atmosphere.{answerOf, rowAfter}
 use Rattle.band_table.specs.declared.Row.{Row}
-use Rattle.band_table.specs.Table.{rowOf}
+use Rattle.band_table.specs.Table.{bandRow}
 use Rattle.bands.specs.Bands.{atMetre, bandedAnswer, bandedAfter}
 
 module _ (t : List ℤ) (metre : ℤ) (n : Input) (xs : List Float) where
@@ -19,7 +19,7 @@ module _ (t : List ℤ) (metre : ℤ) (n : Input) (xs : List Float) where
   unfolding bandedAnswer bandedAfter
   longer h = let e = ne-eqb (length xs) 11 h in (simp e, simp e)
 
-  module _ (l : length xs ≡ 11) (r : Row) (e : r ≡ rowOf t metre) where
+  module _ (l : length xs ≡ 11) (r : Row) (e : r ≡ bandRow t metre) where
     pub no-band : r .found ≡ false → (Refused 3 3 ≡ bandedAnswer t metre n (length xs)) × (xs ≡ bandedAfter t metre n xs)
     unfolding bandedAnswer bandedAfter
     no-band h =

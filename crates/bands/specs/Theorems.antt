@@ -14,7 +14,7 @@ use Rattle.acceptance.specs.Acceptance.{acceptedOf}
 use Rattle.atmosphere.specs.Atmosphere.{answerOf, elevenOf, rowAfter}
 use Rattle.band_table.specs.declared.Row.{Row}
 use Rattle.band_table.specs.Band.{noBand}
-use Rattle.band_table.specs.Table.{rowOf, OneBand}
+use Rattle.band_table.specs.Table.{bandRow, OneBand}
 use Rattle.band_form.specs.Bands.{bandsOf, Gave}
 use Rattle.band_form.proofs.Theorems.{one-band}
 use Rattle.shutoff.specs.Shut.{Alike}
@@ -23,7 +23,7 @@ use Rattle.bands.specs.Bands.{atMetre, bandedAnswer, bandedAfter}
 
 -- ---- a metre that has a row, in any table
 
-module _ (t : List ℤ) (metre : ℤ) (w : List ℤ) (e : rowOf t metre ≡ record { found = true; switches = w }) (n : Input) where
+module _ (t : List ℤ) (metre : ℤ) (w : List ℤ) (e : bandRow t metre ≡ record { found = true; switches = w }) (n : Input) where
   -- answer and lent row are the one-altitude call's with that row at that altitude
   pub answer-told : (len : ℕ) → bandedAnswer t metre n len ≡ answerOf w (atMetre n metre) len
   unfolding bandedAnswer answerOf
@@ -36,7 +36,7 @@ module _ (t : List ℤ) (metre : ℤ) (w : List ℤ) (e : rowOf t metre ≡ reco
   pub row-told : (xs : List Float) → bandedAfter t metre n xs ≡ rowAfter w (atMetre n metre) xs
   unfolding bandedAfter rowAfter
   row-told xs =
-      ap (λ (a : Answer). cond (acceptedOf a) (elevenOf ((rowOf t metre) .switches) (atMetre n metre)) xs) (answer-told (length xs))
+      ap (λ (a : Answer). cond (acceptedOf a) (elevenOf ((bandRow t metre) .switches) (atMetre n metre)) xs) (answer-told (length xs))
       ∙ ap (λ (r : Row). cond (acceptedOf (answerOf w (atMetre n metre) (length xs))) (elevenOf (r .switches) (atMetre n metre)) xs) e
 
 -- ---- a table that reading gave
@@ -59,21 +59,21 @@ found-of true f x e = absurd (subst (λ (r : Answer). T (not (acceptedOf r))) e 
 found-of false true x e = refl
 found-of false false x e = absurd (subst (λ (r : Answer). T (not (acceptedOf r))) e tt)
 
-row-found : (t : List ℤ) (metre : ℤ) (n : Input) (len : ℕ) → bandedAnswer t metre n len ≡ Accepted → rowOf t metre ≡ record { found = true; switches = (rowOf t metre) .switches }
+row-found : (t : List ℤ) (metre : ℤ) (n : Input) (len : ℕ) → bandedAnswer t metre n len ≡ Accepted → bandRow t metre ≡ record { found = true; switches = (bandRow t metre) .switches }
 unfolding bandedAnswer
-row-found t metre n len e = ap (λ (f : Bool). record { found = f; switches = (rowOf t metre) .switches }) (found-of (not (eqb len 11)) ((rowOf t metre) .found) _ e)
+row-found t metre n len e = ap (λ (f : Bool). record { found = f; switches = (bandRow t metre) .switches }) (found-of (not (eqb len 11)) ((bandRow t metre) .found) _ e)
 
 -- For any table and metre, and any two accepted runs on records alike under the row that the table has there, one altitude in both: both write
 -- the same eleven numbers, and these are the definition's with that row for the one record and for the other.
 pub demand-3-bands : (t : List ℤ) (metre : ℤ) (a b : Input) (xs ys : List Float)
-    → Alike ((rowOf t metre) .switches) (atMetre a metre) (atMetre b metre)
+    → Alike ((bandRow t metre) .switches) (atMetre a metre) (atMetre b metre)
     → bandedAnswer t metre a (length xs) ≡ Accepted
     → bandedAnswer t metre b (length ys) ≡ Accepted
     → (bandedAfter t metre a xs ≡ bandedAfter t metre b ys)
-    × (bandedAfter t metre a xs ≡ elevenOf ((rowOf t metre) .switches) (atMetre a metre))
-    × (bandedAfter t metre b ys ≡ elevenOf ((rowOf t metre) .switches) (atMetre b metre))
+    × (bandedAfter t metre a xs ≡ elevenOf ((bandRow t metre) .switches) (atMetre a metre))
+    × (bandedAfter t metre b ys ≡ elevenOf ((bandRow t metre) .switches) (atMetre b metre))
 demand-3-bands t metre a b xs ys like e f =
-    let w = (rowOf t metre) .switches in
+    let w = (bandRow t metre) .switches in
     let r = row-found t metre a (length xs) e in
     let d = demand-3 w (atMetre a metre) (atMetre b metre) xs ys like (sym (answer-told t metre w r a (length xs)) ∙ e) (sym (answer-told t metre w r b (length ys)) ∙ f) in
     let p = row-told t metre w r a xs in

@@ -1,5 +1,5 @@
 -- S1 to S10 of document 01: one table, and one statement that covers it; and ccor at e = 70 and -70.
-use Prim.Native.Nat.{ℕ, _≤_}
+use Prim.Native.Nat.{_≤_}
 use mathlib.Core.Path.{_≡_, refl, ap}
 use mathlib.Core.List.{List, [], _∷_}
 use lib.IntN.{ℤ, pos}
@@ -15,9 +15,9 @@ use Rattle.setting.specs.declared.Input.{Input}
 use Rattle.setting.specs.declared.State.{State}
 use Rattle.setting.specs.Switches.{given, swOf, swcOf}
 use Rattle.setting.specs.Cases.{s5, s6}
-use Rattle.calls.specs.declared.Expanded.{Expanded}
-use Rattle.calls.specs.Calls.{accepted, glob7sCallOf}
-use Rattle.calls.specs.Cases.{s7}
+use Rattle.expansion_calls.specs.declared.Expanded.{Expanded}
+use Rattle.expansion_calls.specs.ExpansionCalls.{acceptedCall, glob7sCallOf}
+use Rattle.expansion_calls.specs.Cases.{s7}
 use Rattle.acceptance.specs.declared.Answer.{Answer}
 use Rattle.acceptance.specs.declared.Answer.the-variants.{Accepted, Refused}
 use Rattle.acceptance.specs.Acceptance.{judgedOf}
@@ -57,7 +57,7 @@ cases zhm xmm xm r w p n s =
     number (ccorOf 100·0 r 1·0 0·0) 1·0 ∷
     number (swOf w ‼ 3) 0·0 ∷ number (swcOf w ‼ 3) 1·0 ∷
     number (swOf w ‼ 9) 2·0 ∷ number (swcOf w ‼ 9) 2·0 ∷
-    expanded (glob7sCallOf w n p s) (accepted (neg 1·0) s) ∷
+    expanded (glob7sCallOf w n p s) (acceptedCall (neg 1·0) s) ∷
     answer (judgedOf w (accept.sample 400·0 (neg 1000·0))) Accepted ∷
     answer (judgedOf w (accept.sample 400·0 (neg (dec 10005 1)))) (Refused 3 5) ∷
     number (splintOf xa ya y2a 2 0·5) 3·0 ∷
@@ -75,12 +75,12 @@ spline-holds = (refl, refl)
 
 -- S8, from the table in the crate acceptance
 long : (w : List ℤ) → judgedOf w (accept.sample 400·0 (neg 1000·0)) ≡ Accepted
-unfolding accept.cases
-long w = ap (λ (l : List Answer). getD l 0 Accepted) (accept.cases-hold w)
+unfolding accept.answerCases
+long w = ap (λ (l : List Answer). getD l 0 Accepted) (accept.answer-cases-hold w)
 
 short : (w : List ℤ) → judgedOf w (accept.sample 400·0 (neg (dec 10005 1))) ≡ Refused 3 5
-unfolding accept.cases
-short w = ap (λ (l : List Answer). getD l 1 Accepted) (accept.cases-hold w)
+unfolding accept.answerCases
+short w = ap (λ (l : List Answer). getD l 1 Accepted) (accept.answer-cases-hold w)
 
 -- Each case holds: S5 and S6 where switches 3 and 9 are at 2, S7 where there are 100 to 150 coefficients and p[99] = 1.
 pub cases-hold : (zhm xmm xm r : Float) (w : List ℤ) (p : List Float) (n : Input) (s : State)

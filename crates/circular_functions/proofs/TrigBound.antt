@@ -1,13 +1,12 @@
 -- Bounds of the tables of sin and cos, and of the numbers that their kernels and their reduction go through. Assumes nothing.
-use mathlib.Core.Path.{_≡_}
-use Prim.Native.Nat.{ℕ, zero, suc, _+_, _-_, _*_, _/_, _%_, _^_, _≤_, _<_}
+use Prim.Native.Nat.{ℕ, _+_, _-_, _*_, _/_, _%_, _^_, _≤_, _<_}
 use native.Mathlib.Omega.{arith}
 use native.Mathlib.Nat.{mul-le-mul-left, mul-le-mul-right}
 use lib.ListN.{getD}
 use Rattle.fixed_point.proofs.Product.{below-mul}
 use Rattle.fixed_point.proofs.Table.{at-most, at-least}
 use Rattle.circular_tables.specs.Tables.{sines, cosines}
-use Rattle.circular_functions.specs.Trig.{squareOf, cubeOf, fourthOf, cubicOf, versineOf, scalingOf, decrementOf, quartersOf, leftOf}
+use Rattle.circular_functions.specs.Trig.{circularSquare, cubeOf, fourthOf, sineCubic, versineOf, scalingOf, decrementOf, quartersOf, circularLeft}
 
 pub sines-le : (i : ℕ) → getD sines i 0 ≤ 2 ^ 58
 unfolding sines
@@ -35,28 +34,28 @@ module _ (d : ℕ) (h : d < 2 ^ 50) where
   pub square-product : d / 2 ^ 18 * (d / 2 ^ 18) ≤ 4294967295 * 4294967295
   square-product = below-mul 4294967295 4294967295 s-le s-le
 
-  pub square-le : squareOf (d / 2 ^ 18) ≤ 4294967295
+  pub square-le : circularSquare (d / 2 ^ 18) ≤ 4294967295
   square-le = omega (arith, square-product)
 
-  third-le : 715827883 * squareOf (d / 2 ^ 18) / 2 ^ 32 ≤ 715827883
+  third-le : 715827883 * circularSquare (d / 2 ^ 18) / 2 ^ 32 ≤ 715827883
   third-le = omega (arith, square-le)
 
-  pub cube-product : d / 2 ^ 18 * (715827883 * squareOf (d / 2 ^ 18) / 2 ^ 32) ≤ 4294967295 * 715827883
+  pub cube-product : d / 2 ^ 18 * (715827883 * circularSquare (d / 2 ^ 18) / 2 ^ 32) ≤ 4294967295 * 715827883
   cube-product = below-mul 4294967295 715827883 s-le third-le
 
   pub cube-le : cubeOf (d / 2 ^ 18) ≤ d
   cube-le = omega (arith, mul-le-mul-left (d / 2 ^ 18) third-le)
 
-  fine-le : 178956971 * squareOf (d / 2 ^ 18) / 2 ^ 40 ≤ 699051
+  fine-le : 178956971 * circularSquare (d / 2 ^ 18) / 2 ^ 40 ≤ 699051
   fine-le = omega (arith, square-le)
 
-  pub fourth-product : squareOf (d / 2 ^ 18) * (178956971 * squareOf (d / 2 ^ 18) / 2 ^ 40) ≤ 4294967295 * 699051
+  pub fourth-product : circularSquare (d / 2 ^ 18) * (178956971 * circularSquare (d / 2 ^ 18) / 2 ^ 40) ≤ 4294967295 * 699051
   fourth-product = below-mul 4294967295 699051 square-le fine-le
 
-  pub fourth-le : fourthOf (squareOf (d / 2 ^ 18)) ≤ squareOf (d / 2 ^ 18)
-  fourth-le = omega (arith, mul-le-mul-left (squareOf (d / 2 ^ 18)) fine-le)
+  pub fourth-le : fourthOf (circularSquare (d / 2 ^ 18)) ≤ circularSquare (d / 2 ^ 18)
+  fourth-le = omega (arith, mul-le-mul-left (circularSquare (d / 2 ^ 18)) fine-le)
 
-  pub cubic-le : cubicOf d ≤ 2 ^ 42
+  pub cubic-le : sineCubic d ≤ 2 ^ 42
   cubic-le = omega arith
 
   pub versine-le : versineOf d ≤ 2 ^ 32
@@ -126,7 +125,7 @@ module _ (m : ℕ) (h : m ≤ 65536 * 2 ^ 46) where
       more : (m n : ℕ) → n ≤ 41722 → 110534964875444 * n ≤ m + 55267482437723 → n * 1629119075 / 2 ^ 20 ≤ (m + 2 ^ 46 - n * 110534964875444) * 4096
       more m n f h = omega arith
 
-  pub left-in : leftOf m (quartersOf m) ≤ 2 ^ 59
+  pub left-in : circularLeft m (quartersOf m) ≤ 2 ^ 59
   left-in = less ((m + 2 ^ 46 - quartersOf m * 110534964875444) * 4096) (quartersOf m * 1629119075 / 2 ^ 20) left-fits
     where
       less : (a b : ℕ) → a ≤ 2 ^ 59 → a - b ≤ 2 ^ 59

@@ -1,6 +1,6 @@
 -- sin and cos as arithmetic on whole numbers.
 use Prim.Native.Nat.{ℕ, zero, suc, _+_, _-_, _*_, _/_, _%_, _^_}
-use mathlib.Core.Bool.{Bool, true, false, cond}
+use mathlib.Core.Bool.{Bool, false, cond}
 use lib.ListN.{getD}
 use lib.Dec.{leb, ltb, eqb}
 use lib.Ieee.{Float, nan, binary64, round}
@@ -9,24 +9,24 @@ use Rattle.fixed_point.specs.Fixed.{scaledOf, apartOf}
 use Rattle.fixed_point.specs.Float.{over, minusSign, nought}
 
 -- d ^ 2 in units of 2 ^ -48, for s = d * 2 ^ 40
-abbrev pub squareOf : ℕ → ℕ
-squareOf s = s * s / 2 ^ 32
+abbrev pub circularSquare : ℕ → ℕ
+circularSquare s = s * s / 2 ^ 32
 
 -- d ^ 3 / 6 in units of 2 ^ -58
 abbrev pub cubeOf : ℕ → ℕ
-cubeOf s = s * (715827883 * squareOf s / 2 ^ 32) / 2 ^ 30
+cubeOf s = s * (715827883 * circularSquare s / 2 ^ 32) / 2 ^ 30
 
 -- d ^ 4 / 24 in units of 2 ^ -49, for q = d ^ 2 * 2 ^ 48
 abbrev pub fourthOf : ℕ → ℕ
 fourthOf q = q * (178956971 * q / 2 ^ 40) / 2 ^ 39
 
 -- sin d in units of 2 ^ -50, for d in units of 2 ^ -58: d - d ^ 3 / 6
-abbrev pub cubicOf : ℕ → ℕ
-cubicOf d = (d - cubeOf (d / 2 ^ 18)) / 2 ^ 8
+abbrev pub sineCubic : ℕ → ℕ
+sineCubic d = (d - cubeOf (d / 2 ^ 18)) / 2 ^ 8
 
 -- 1 - cos d in units of 2 ^ -49: d ^ 2 / 2 - d ^ 4 / 24
 abbrev pub versineOf : ℕ → ℕ
-versineOf d = squareOf (d / 2 ^ 18) - fourthOf (squareOf (d / 2 ^ 18))
+versineOf d = circularSquare (d / 2 ^ 18) - fourthOf (circularSquare (d / 2 ^ 18))
 
 -- a * p in units of 2 ^ -58, for p in units of 2 ^ -50, and a * e for e in units of 2 ^ -49
 abbrev pub scalingOf : ℕ → ℕ → ℕ
@@ -37,10 +37,10 @@ decrementOf a e = e * (a / 2 ^ 27) / 2 ^ 22
 
 -- sin r and cos r in units of 2 ^ -58, for r in units of 2 ^ -58, from 0 to 1
 abbrev pub sineFrom : ℕ → ℕ → ℕ → ℕ
-sineFrom a b d = a + scalingOf b (cubicOf d) - decrementOf a (versineOf d)
+sineFrom a b d = a + scalingOf b (sineCubic d) - decrementOf a (versineOf d)
 
 abbrev pub cosineFrom : ℕ → ℕ → ℕ → ℕ
-cosineFrom a b d = b - scalingOf a (cubicOf d) - decrementOf b (versineOf d)
+cosineFrom a b d = b - scalingOf a (sineCubic d) - decrementOf b (versineOf d)
 
 abbrev pub sineOf : ℕ → ℕ
 sineOf r = sineFrom (getD sines (r / 2 ^ 50) 0) (getD cosines (r / 2 ^ 50) 0) (r % 2 ^ 50)
@@ -49,8 +49,8 @@ abbrev pub cosineOf : ℕ → ℕ
 cosineOf r = cosineFrom (getD sines (r / 2 ^ 50) 0) (getD cosines (r / 2 ^ 50) 0) (r % 2 ^ 50)
 
 -- the one for a parity of 0, the other for a parity of 1
-abbrev pub partOf : ℕ → ℕ → ℕ
-partOf h r = cond (eqb h 0) (sineOf r) (cosineOf r)
+abbrev pub circularPart : ℕ → ℕ → ℕ
+circularPart h r = cond (eqb h 0) (sineOf r) (cosineOf r)
 
 -- the sign of q with the sign s: a zero has none
 abbrev pub signOf : Bool → ℕ → Bool
@@ -58,8 +58,8 @@ signOf s zero = false
 signOf s (suc q) = s
 
 -- q / 2 ^ 51, below zero in the third and fourth quarters; a zero has no sign
-abbrev pub signedOf : ℕ → ℕ → Float
-signedOf n q = cond (eqb q 0) nought (round binary64 (leb 2 (n % 4)) q (2 ^ 51))
+abbrev pub circularSigned : ℕ → ℕ → Float
+circularSigned n q = cond (eqb q 0) nought (round binary64 (leb 2 (n % 4)) q (2 ^ 51))
 
 -- the quarter that decides the sign: a sine below 0 has a half turn more
 abbrev pub quarterOf : ℕ → ℕ → ℕ
@@ -67,27 +67,27 @@ quarterOf n t = cond (ltb t (2 ^ 58)) (cond (eqb (n % 2) 0) (n + 2) n) n
 
 -- the sine of n quarter turns and t - 1, for t in units of 2 ^ -58, from 0 to 2
 abbrev pub sinusoidOf : ℕ → ℕ → Float
-sinusoidOf n t = signedOf (quarterOf n t) (partOf (n % 2) (apartOf t (2 ^ 58)) / 128)
+sinusoidOf n t = circularSigned (quarterOf n t) (circularPart (n % 2) (apartOf t (2 ^ 58)) / 128)
 
 -- how many quarter turns are nearest to m, in units of 2 ^ -46
 abbrev pub quartersOf : ℕ → ℕ
 quartersOf m = (m / 2 ^ 31 * 2734261102 + 2 ^ 46) / 2 ^ 47
 
 -- m less n quarter turns, and 1 more, in units of 2 ^ -58: the digits of a quarter turn are 110534964875444 and 1629119075 / 2 ^ 32 more
-abbrev pub leftOf : ℕ → ℕ → ℕ
-leftOf m n = (m + 2 ^ 46 - n * 110534964875444) * 4096 - n * 1629119075 / 2 ^ 20
+abbrev pub circularLeft : ℕ → ℕ → ℕ
+circularLeft m n = (m + 2 ^ 46 - n * 110534964875444) * 4096 - n * 1629119075 / 2 ^ 20
 
 -- the sine of k quarter turns and m
-abbrev pub reducedOf : ℕ → ℕ → Float
-reducedOf m k = sinusoidOf (quartersOf m + k) (leftOf m (quartersOf m))
+abbrev pub circularReduced : ℕ → ℕ → Float
+circularReduced m k = sinusoidOf (quartersOf m + k) (circularLeft m (quartersOf m))
 
 -- the sine of k quarter turns and |x|
-abbrev pub turnedOf : Float → ℕ → Float
-turnedOf x k = cond (over 1 x) (reducedOf (scaledOf 46 x) k) (sinusoidOf k (2 ^ 58 + scaledOf 58 x))
+abbrev pub circularTurned : Float → ℕ → Float
+circularTurned x k = cond (over 1 x) (circularReduced (scaledOf 46 x) k) (sinusoidOf k (2 ^ 58 + scaledOf 58 x))
 
 -- NaN for a NaN and beyond 65,536; a half turn more for a minus sign
 unfoldable pub sinOf : Float → Float
-sinOf x = cond (over 65536 x) nan (turnedOf x (minusSign x * 2))
+sinOf x = cond (over 65536 x) nan (circularTurned x (minusSign x * 2))
 
 unfoldable pub cosOf : Float → Float
-cosOf x = cond (over 65536 x) nan (turnedOf x 1)
+cosOf x = cond (over 65536 x) nan (circularTurned x 1)

@@ -11,12 +11,12 @@ ghost use mathlib.Core.Path.{_≡_};
 ghost use Prim.Native.Nat.{ℕ, _+_, _-_, _*_, _/_, _^_, _<_, _≤_};
 ghost use lib.Ieee.{Float, fin, binary64, isNan};
 ghost use Rattle.fixed_point.specs.Float.{Within};
-ghost use Rattle.circular_functions.specs.Trig.{cubicOf, versineOf, scalingOf, decrementOf, partOf, signedOf, quarterOf, sinusoidOf, reducedOf, turnedOf, sinOf, cosOf};
+ghost use Rattle.circular_functions.specs.Trig.{sineCubic, versineOf, scalingOf, decrementOf, circularPart, circularSigned, quarterOf, sinusoidOf, circularReduced, circularTurned, sinOf, cosOf};
 
 // sin d in units of 2^-50, for d in units of 2^-58, below 2^50: d - d^3/6.
 pub fn cubic(d: u64) -> u64
     requires { ⌜ d < 2 ^ 50 ⌝ }
-    ensures { λ r. ⌜ (r ≡ cubicOf d) × (r ≤ 2 ^ 42) ⌝ }
+    ensures { λ r. ⌜ (r ≡ sineCubic d) × (r ≤ 2 ^ 42) ⌝ }
 {
     let s = d / 262144;
     let q = s * s / 4294967296;
@@ -52,7 +52,7 @@ pub fn decrement(a: u64, e: u64) -> u64
 // sin r for a parity of 0 and cos r for a parity of 1, in units of 2^-58, for r in units of 2^-58, from 0 to 1.
 pub fn part(h: u64, r: u64) -> u64
     requires { ⌜ r ≤ 2 ^ 58 ⌝ }
-    ensures { λ v. ⌜ (v ≡ partOf h r) × (v ≤ 2 ^ 59) ⌝ }
+    ensures { λ v. ⌜ (v ≡ circularPart h r) × (v ≤ 2 ^ 59) ⌝ }
 {
     let a = sine_at(r / 1125899906842624);
     let b = cosine_at(r / 1125899906842624);
@@ -65,7 +65,7 @@ pub fn part(h: u64, r: u64) -> u64
 // v in units of 2^-58 as a float, cut to 2^-51, below zero in the third and fourth quarters.
 pub fn signed(n: u64, v: u64) -> f64
     requires { ⌜ v ≤ 2 ^ 59 ⌝ }
-    ensures { λ r. ⌜ r ≡ signedOf n (v / 128) ⌝ }
+    ensures { λ r. ⌜ r ≡ circularSigned n (v / 128) ⌝ }
 {
     let q = v / 128;
     if q == 0 {
@@ -98,7 +98,7 @@ pub fn sinusoid(n: u64, t: u64) -> f64
 // The sine of k quarter turns and m, for m in units of 2^-46.
 pub fn reduced(m: u64, k: u64) -> f64
     requires { ⌜ (m ≤ 65536 * 2 ^ 46) × (k ≤ 2) ⌝ }
-    ensures { λ r. ⌜ r ≡ reducedOf m k ⌝ }
+    ensures { λ r. ⌜ r ≡ circularReduced m k ⌝ }
 {
     let n = (m / 2147483648 * 2734261102 + 70368744177664) / 140737488355328;
     let t = (m + 70368744177664 - n * 110534964875444) * 4096 - n * 1629119075 / 1048576;
@@ -108,7 +108,7 @@ pub fn reduced(m: u64, k: u64) -> f64
 // The sine of k quarter turns and |x|.
 pub fn turned(x: f64, k: u64) -> f64
     requires { ⌜ Within x 65536 × (k ≤ 2) ⌝ }
-    ensures { λ r. ⌜ r ≡ turnedOf x k ⌝ }
+    ensures { λ r. ⌜ r ≡ circularTurned x k ⌝ }
 {
     let b = f64::to_bits(x) % 9223372036854775808;
     if 4607182418800017408 < b {

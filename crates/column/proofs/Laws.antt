@@ -15,13 +15,13 @@ use Rattle.numbers.specs.Literals.{0·0}
 use Rattle.setting.specs.declared.Input.{Input}
 use Rattle.setting.specs.declared.View.{View}
 use Rattle.setting.specs.View.{viewOf}
-use Rattle.upper.specs.declared.Site.{Site}
-use Rattle.upper.specs.Upper.{siteOf}
+use Rattle.gts7_arithmetic.specs.declared.Site.{Site}
+use Rattle.gts7_arithmetic.specs.Gts7Arithmetic.{siteOf}
 use Rattle.acceptance.specs.declared.Answer.the-variants.{Accepted}
 use Rattle.acceptance.specs.Acceptance.{acceptedOf, withAltOf}
-use Rattle.plan.specs.declared.Levels.{Levels}
-use Rattle.levels.specs.declared.Need.{Need}
-use Rattle.levels.specs.Levels.{levelsOf}
+use Rattle.plan.specs.declared.ExpansionValues.{ExpansionValues}
+use Rattle.expansion_values.specs.declared.Need.{Need}
+use Rattle.expansion_values.specs.ExpansionValues.{expansionValuesOf}
 use Rattle.stored_parts.specs.declared.Parts.{Parts}
 use Rattle.stored_parts.specs.Parts.{partsAt, noParts, eitherParts, partsFrom}
 use Rattle.stored_parts.specs.Held.{second-of, before-held}
@@ -76,7 +76,7 @@ Each P (z ∷ zs) = P z × Each P zs
 abbrev Row : List ℤ → Input → List Float → Parts → Float → Type 0
 Row w n rec p z =
     rowStored ((viewOf w n) .sw ‼ 0) ((viewOf w n) .sw ‼ 15)
-    (rec ++ storedOf p ((viewOf w n) .sw) (siteOf ((viewOf w n) .sw) (n .«g_lat») ((viewOf w n) .doy) (n .f107a)) (levelsOf (viewOf w n) (needOf p))) z
+    (rec ++ storedOf p ((viewOf w n) .sw) (siteOf ((viewOf w n) .sw) (n .«g_lat») ((viewOf w n) .doy) (n .f107a)) (expansionValuesOf (viewOf w n) (needOf p))) z
     ≡ elevenOf w (withAltOf n z)
 
 each-held : (w : List ℤ) (n : Input) (rec : List Float) → length rec ≡ 14 → (m : Parts) (k : ℕ) (alts : List Float) → altitudesFrom k alts ≡ Accepted
@@ -107,8 +107,8 @@ pub rows-are : (w : List ℤ) (n : Input) (alts numbers sw xs : List Float)
     → rowsStored (sw ‼ 0) (sw ‼ 15) numbers alts ++ xs ≡ columnRows w n alts ++ xs
 rows-are w n alts numbers sw xs es en e = ap (λ (r : List Float). r ++ xs) (rows-of w n (sw ‼ 0) (sw ‼ 15) numbers alts (each-row w n alts numbers sw es en e))
 
-pub stored-are : (w : List ℤ) (n : Input) (alts rec numbers : List Float) (v : View) (x : Site) (p : Parts) (a : Need) (l : Levels)
-    → v ≡ viewOf w n → x ≡ siteOf (v .sw) (n .«g_lat») (v .doy) (n .f107a) → p ≡ partsFrom noParts alts → a ≡ needOf p → l ≡ levelsOf v a
+pub stored-are : (w : List ℤ) (n : Input) (alts rec numbers : List Float) (v : View) (x : Site) (p : Parts) (a : Need) (l : ExpansionValues)
+    → v ≡ viewOf w n → x ≡ siteOf (v .sw) (n .«g_lat») (v .doy) (n .f107a) → p ≡ partsFrom noParts alts → a ≡ needOf p → l ≡ expansionValuesOf v a
     → numbers ≡ rec ++ storedOf p (v .sw) x l
     → (v .sw ≡ (viewOf w n) .sw) × (numbers ≡ rec ++ storedFor w n alts)
 unfolding storedFor

@@ -4,8 +4,8 @@ use lib.IntN.{ℤ}
 use lib.Ieee.{Float}
 use Rattle.setting.specs.declared.Input.{Input}
 use Rattle.setting.specs.View.{viewOf}
-use Rattle.upper.specs.Upper.{siteOf}
-use Rattle.levels.specs.Levels.{levelsOf}
+use Rattle.gts7_arithmetic.specs.Gts7Arithmetic.{siteOf}
+use Rattle.expansion_values.specs.ExpansionValues.{expansionValuesOf}
 use Rattle.stored.specs.Stored.{needOf, storedOf, rowStored}
 use Rattle.stored_parts.specs.Parts.{noParts, partsFrom}
 
@@ -14,7 +14,7 @@ unfoldable pub storedFor : List ℤ → Input → List Float → List Float
 storedFor w n alts =
     let v = viewOf w n in
     let p = partsFrom noParts alts in
-    storedOf p (v .sw) (siteOf (v .sw) (n .«g_lat») (v .doy) (n .f107a)) (levelsOf v (needOf p))
+    storedOf p (v .sw) (siteOf (v .sw) (n .«g_lat») (v .doy) (n .f107a)) (expansionValuesOf v (needOf p))
 
 -- the rows at the altitudes, one after the other
 unfoldable pub rowsStored : Float → Float → List Float → List Float → List Float

@@ -11,14 +11,14 @@ ghost use Rattle.column.specs.Parts.{storedFor, rowsStored};
 use acceptance::Answer;
 use acceptance::accepted;
 use altitudes::column_answer;
-use levels::levels_of;
+use expansion_values::expansion_values_of;
+use gts7_arithmetic::site_of;
 use setting::Input;
 use setting::views::view_of;
 use stored::need_of;
 use stored::row_on;
 use stored::store;
 use stored_parts::parts_of;
-use upper::site_of;
 
 // Each altitude's row into its own part of the buffer, out of the stored numbers; sw0 and sw15 are the main effects of switches 0 and 15.
 pub fn rows_at(sw0: f64, sw15: f64, numbers: &[f64], alts: &[f64], out: &mut [f64])
@@ -46,7 +46,7 @@ pub fn stored_for(w: [i32; 24], n: Input, alts: &[f64], numbers: &mut [f64]) -> 
     let x = site_of(sw, n.g_lat, v.doy, n.f107a);
     let p = parts_of(alts);
     let a = need_of(p);
-    let l = levels_of(v, a);
+    let l = expansion_values_of(v, a);
     store(p, sw, x, l, numbers);
     sw
 }

@@ -25,28 +25,28 @@ use Rattle.altitudes.proofs.Laws.{accepted-altitudes}
 use Rattle.column.proofs.Laws.{Each, each-row}
 use Rattle.crossings_list.specs.declared.Listing.{Listing}
 use Rattle.crossings_list.specs.declared.Listing.the-variants.{Listed}
-use Rattle.crossings_list.specs.CrossingsList.{crossingsOf, listAnswer, listAfter, risesOf}
-use Rattle.crossings.specs.Crossings.{densityOf, densitiesOf, listOf, afterColumn, checkedOf, refusedOr, crossingsAnswer, crossingsAfter}
+use Rattle.crossings_list.specs.CrossingsList.{crossingsOf, listAnswer, listAfter, altitudesRise}
+use Rattle.crossings.specs.Crossings.{totalDensity, densitiesOf, listOf, afterColumn, crossingsChecked, crossingsRefusedOr, crossingsAnswer, crossingsAfter}
 use Rattle.crossings.specs.Stored.{densitiesStored}
 use Rattle.crossings.specs.Theorems.{densities-length, checked-column}
 
 -- ---- the checks
 
 module _ (w : List ℤ) (n : Input) (alts : List Float) (a : Answer) (e : a ≡ columnAnswer w n alts (11 * length alts)) (v : Bool) (f : v ≡ acceptedOf a) where
-  pub column-refused : not v ≡ true → a ≡ checkedOf w n alts
-  unfolding checkedOf afterColumn
+  pub column-refused : not v ≡ true → a ≡ crossingsChecked w n alts
+  unfolding crossingsChecked afterColumn
   column-refused t = rw (← e) (simp (← f) (simp t))
 
-  module _ (t : not v ≡ false) (k : ℕ) (g : k ≡ risesOf alts) where
-    pub no-rise : k < length alts → Refused 8 k ≡ checkedOf w n alts
-    unfolding checkedOf afterColumn
+  module _ (t : not v ≡ false) (k : ℕ) (g : k ≡ altitudesRise alts) where
+    pub no-rise : k < length alts → Refused 8 k ≡ crossingsChecked w n alts
+    unfolding crossingsChecked afterColumn
     no-rise h = rw (← e, ← g) (simp (← f, lt-ltb _ _ h) (simp t))
 
-    pub rising : length alts ≤ k → Accepted ≡ checkedOf w n alts
-    unfolding checkedOf afterColumn
+    pub rising : length alts ≤ k → Accepted ≡ crossingsChecked w n alts
+    unfolding crossingsChecked afterColumn
     rising h = rw (← e, ← g) (simp (← f, le-ltb _ _ h) (simp t))
 
-pub checked-altitudes : (w : List ℤ) (n : Input) (alts : List Float) → acceptedOf (checkedOf w n alts) ≡ true → altitudesFrom 0 alts ≡ Accepted
+pub checked-altitudes : (w : List ℤ) (n : Input) (alts : List Float) → acceptedOf (crossingsChecked w n alts) ≡ true → altitudesFrom 0 alts ≡ Accepted
 checked-altitudes w n alts h = accepted-altitudes w n alts (11 * length alts) (checked-column w n alts h)
 
 -- ---- the densities
@@ -79,7 +79,7 @@ module _ (sw0 sw15 : Float) (s : List Float) where
 
 same-densities : (w : List ℤ) (n : Input) (sw0 sw15 : Float) (s alts : List Float) → Each (λ (z : Float). rowStored sw0 sw15 s z ≡ elevenOf w (withAltOf n z)) alts
     → densitiesStored sw0 sw15 s alts ≡ densitiesOf w n alts
-unfolding densitiesStored densitiesOf densityOf
+unfolding densitiesStored densitiesOf totalDensity
 same-densities w n sw0 sw15 s [] h = refl
 same-densities w n sw0 sw15 s (z ∷ zs) h = ap₂ (λ (x : Float) (l : List Float). x ∷ l) (ap (λ (r : List Float). r ‼ 5) (h .0)) (same-densities w n sw0 sw15 s zs (h .1))
 
@@ -92,25 +92,25 @@ densities-are w n alts numbers sw xs es en e =
 
 -- ---- the call
 
-stays : (a : Answer) (x y : Listing) → acceptedOf a ≡ false → refusedOr a x ≡ refusedOr a y
+stays : (a : Answer) (x y : Listing) → acceptedOf a ≡ false → crossingsRefusedOr a x ≡ crossingsRefusedOr a y
 stays Accepted x y h = absurd (true≢false h)
 stays (Refused i j) x y h = refl
 
-pub goes-on : (a : Answer) (x : Listing) → acceptedOf a ≡ true → refusedOr a x ≡ x
+pub goes-on : (a : Answer) (x : Listing) → acceptedOf a ≡ true → crossingsRefusedOr a x ≡ x
 goes-on Accepted x h = refl
 goes-on (Refused i j) x h = absurd (false≢true h)
 
 module _ (w : List ℤ) (n : Input) (alts : List Float) (level : Float) (xs : List ℕ) (r : Listing) where
-  pub refused : (a : Answer) → a ≡ checkedOf w n alts → acceptedOf a ≡ false → r ≡ refusedOr a (Listed 0)
+  pub refused : (a : Answer) → a ≡ crossingsChecked w n alts → acceptedOf a ≡ false → r ≡ crossingsRefusedOr a (Listed 0)
       → (r ≡ crossingsAnswer w n alts level (length xs)) × (xs ≡ crossingsAfter w n alts level xs)
   unfolding crossingsAnswer crossingsAfter
-  refused a e t f = (f ∙ (stays a _ _ t ∙ ap (λ (b : Answer). refusedOr b (listAnswer (listOf w n alts level) (length xs))) e), rw (← e, t))
+  refused a e t f = (f ∙ (stays a _ _ t ∙ ap (λ (b : Answer). crossingsRefusedOr b (listAnswer (listOf w n alts level) (length xs))) e), rw (← e, t))
 
-  pub answered : (d ds xs' : List Float) (ys : List ℕ) → acceptedOf (checkedOf w n alts) ≡ true → ds ≡ densitiesOf w n alts ++ xs' → d ≡ take (length alts - 0) ds
+  pub answered : (d ds xs' : List Float) (ys : List ℕ) → acceptedOf (crossingsChecked w n alts) ≡ true → ds ≡ densitiesOf w n alts ++ xs' → d ≡ take (length alts - 0) ds
       → r ≡ listAnswer (crossingsOf level d) (length xs) → ys ≡ listAfter (crossingsOf level d) xs
       → (r ≡ crossingsAnswer w n alts level (length xs)) × (ys ≡ crossingsAfter w n alts level xs)
   unfolding crossingsAnswer crossingsAfter listOf
   answered d ds xs' ys t e f g h =
       let whole : length (densitiesOf w n alts) ≡ length alts - 0 = densities-length w n alts ∙ omega arith in
       let same : d ≡ densitiesOf w n alts = f ∙ (ap (take (length alts - 0)) e ∙ take-at (densitiesOf w n alts) xs' (length alts - 0) whole) in
-      (g ∙ rw same (sym (goes-on (checkedOf w n alts) _ t)), h ∙ rw (same, t))
+      (g ∙ rw same (sym (goes-on (crossingsChecked w n alts) _ t)), h ∙ rw (same, t))

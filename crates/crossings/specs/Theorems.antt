@@ -3,9 +3,7 @@ use Prim.Native.Nat.{ℕ, zero, suc, _+_, _*_, _<_, _≤_}
 use mathlib.Core.Path.{_≡_, refl, sym, ap, ap₂}
 use mathlib.Core.Bool.{Bool, true, false, cond, false≢true, true≢false}
 use mathlib.Core.List.{List, [], _∷_, _++_, List·Memᴰ}
-use native.Mathlib.Nat.{le-refl}
 use native.Mathlib.Omega.{arith}
-use borrow.Author.Tests.{le-ltb, ltb-false}
 use lib.Dec.{ltb}
 use lib.IntN.{ℤ}
 use lib.ListN.{length, drop, length-map}
@@ -20,21 +18,22 @@ use Rattle.atmosphere.specs.Atmosphere.{elevenOf}
 use Rattle.shutoff.specs.Shut.{Alike}
 use Rattle.shutoff.specs.Theorems.{eleven≡}
 use Rattle.altitudes.specs.Altitudes.{columnAnswer}
+use Rattle.altitudes.specs.Room.{at-most-512}
 use Rattle.column.specs.Theorems.{column-known, at-altitude}
 use Rattle.crossings_list.specs.declared.Listing.{Listing}
 use Rattle.crossings_list.specs.declared.Listing.the-variants as listing
 use Rattle.crossings_list.specs.CrossingsList.{passesOf, crossingsOf, listAnswer, listAfter}
 use Rattle.crossings_list.specs.Theorems.{Rising}
 use Rattle.crossings_list.specs.Theorems as list
-use Rattle.crossings.specs.Crossings.{densityOf, densitiesOf, listOf, afterColumn, checkedOf, refusedOr, crossingsAnswer, crossingsAfter}
+use Rattle.crossings.specs.Crossings.{totalDensity, densitiesOf, listOf, afterColumn, crossingsChecked, crossingsRefusedOr, crossingsAnswer, crossingsAfter}
 
 module _ (w : List ℤ) (n : Input) where
   -- as many densities as altitudes, each at its altitude
   pub densities-length : (alts : List Float) → length (densitiesOf w n alts) ≡ length alts
   unfolding densitiesOf
-  densities-length alts = length-map alts (densityOf w n)
+  densities-length alts = length-map alts (totalDensity w n)
 
-  pub density-at : (alts : List Float) (i : ℕ) → i < length alts → densitiesOf w n alts ‼ i ≡ densityOf w n (alts ‼ i)
+  pub density-at : (alts : List Float) (i : ℕ) → i < length alts → densitiesOf w n alts ‼ i ≡ totalDensity w n (alts ‼ i)
   unfolding densitiesOf
   density-at [] i h = absurd (none h)
     where
@@ -45,14 +44,14 @@ module _ (w : List ℤ) (n : Input) where
 
   module _ (alts : List Float) (level : Float) (i : ℕ) where
     -- An index is in the list exactly if it and the next one are indices of altitudes and d[5] passes the level between the two.
-    pub in-list : List·Memᴰ i (listOf w n alts level) → (i + 1 < length alts) × (passesOf level (densityOf w n (alts ‼ i)) (densityOf w n (alts ‼ (i + 1))) ≡ true)
+    pub in-list : List·Memᴰ i (listOf w n alts level) → (i + 1 < length alts) × (passesOf level (totalDensity w n (alts ‼ i)) (totalDensity w n (alts ‼ (i + 1))) ≡ true)
     unfolding listOf
     in-list m =
         let s = list.in-list level (densitiesOf w n alts) i m in
         let h : i + 1 < length alts = rw (densities-length alts) at s .0 in
         (h, rw (density-at alts i (omega arith), density-at alts (i + 1) h) at s .1)
 
-    pub list-has : i + 1 < length alts → passesOf level (densityOf w n (alts ‼ i)) (densityOf w n (alts ‼ (i + 1))) ≡ true → List·Memᴰ i (listOf w n alts level)
+    pub list-has : i + 1 < length alts → passesOf level (totalDensity w n (alts ‼ i)) (totalDensity w n (alts ‼ (i + 1))) ≡ true → List·Memᴰ i (listOf w n alts level)
     unfolding listOf
     list-has h e =
         list.list-has level (densitiesOf w n alts) i (rw (densities-length alts) h)
@@ -65,28 +64,20 @@ module _ (w : List ℤ) (n : Input) where
 
 -- ---- the answer
 
--- The column's own refusals are those that it has with any buffer long enough, so none of them is for the buffer: 4 does not occur.
-pub any-room : (w : List ℤ) (n : Input) (alts : List Float) (len : ℕ) → 11 * length alts ≤ len → columnAnswer w n alts len ≡ columnAnswer w n alts (11 * length alts)
-unfolding columnAnswer
-any-room w n alts len h = rw (le-ltb len (11 * length alts) h, le-ltb (11 * length alts) (11 * length alts) (le-refl _))
+-- The column's refusals are those with room for its rows (`any-room`, crate altitudes), so none of them is for the buffer: 4 does not occur.
 
 column-passed : (a : Answer) (alts : List Float) → acceptedOf (afterColumn a alts) ≡ true → acceptedOf a ≡ true
 unfolding afterColumn
 column-passed Accepted alts h = refl
 column-passed (Refused i j) alts h = h
 
-few : (b : Bool) (i j : ℕ) (a : Answer) → acceptedOf (cond b (Refused i j) a) ≡ true → b ≡ false
-few true i j a h = absurd (false≢true h)
-few false i j a h = refl
-
 -- what passes the checks passes the column's, and has at most 512 altitudes
-pub checked-column : (w : List ℤ) (n : Input) (alts : List Float) → acceptedOf (checkedOf w n alts) ≡ true → acceptedOf (columnAnswer w n alts (11 * length alts)) ≡ true
-unfolding checkedOf
+pub checked-column : (w : List ℤ) (n : Input) (alts : List Float) → acceptedOf (crossingsChecked w n alts) ≡ true → acceptedOf (columnAnswer w n alts (11 * length alts)) ≡ true
+unfolding crossingsChecked
 checked-column w n alts h = column-passed (columnAnswer w n alts (11 * length alts)) alts h
 
-pub checked-few : (w : List ℤ) (n : Input) (alts : List Float) → acceptedOf (checkedOf w n alts) ≡ true → length alts ≤ 512
-unfolding columnAnswer
-checked-few w n alts h = ltb-false 512 (length alts) (few (ltb 512 (length alts)) 5 512 _ (checked-column w n alts h))
+pub checked-few : (w : List ℤ) (n : Input) (alts : List Float) → acceptedOf (crossingsChecked w n alts) ≡ true → length alts ≤ 512
+checked-few w n alts h = at-most-512 w n alts (11 * length alts) (checked-column w n alts h)
 
 -- a length comes from no refusal
 abbrev isListed : Listing → Bool
@@ -97,10 +88,10 @@ abbrev lengthIn : Listing → ℕ
 lengthIn (listing.Listed m) = m
 lengthIn (listing.Refused i j) = 0
 
-no-refusal : (a : Answer) (b : Bool) (m k : ℕ) → refusedOr a (cond b (listing.Refused 9 m) (listing.Listed m)) ≡ listing.Listed k → (acceptedOf a ≡ true) × (m ≡ k)
-no-refusal Accepted false m k e = (refl, ap (λ (r : Listing). lengthIn r) e)
-no-refusal Accepted true m k e = absurd (false≢true (ap (λ (r : Listing). isListed r) e))
-no-refusal (Refused i j) b m k e = absurd (false≢true (ap (λ (r : Listing). isListed r) e))
+listed : (a : Answer) (b : Bool) (m k : ℕ) → crossingsRefusedOr a (cond b (listing.Refused 9 m) (listing.Listed m)) ≡ listing.Listed k → (acceptedOf a ≡ true) × (m ≡ k)
+listed Accepted false m k e = (refl, ap (λ (r : Listing). lengthIn r) e)
+listed Accepted true m k e = absurd (false≢true (ap (λ (r : Listing). isListed r) e))
+listed (Refused i j) b m k e = absurd (false≢true (ap (λ (r : Listing). isListed r) e))
 
 -- A length that is answered is the list's, and at most 511.
 pub length-told : (w : List ℤ) (n : Input) (alts : List Float) (level : Float) (len k : ℕ) → crossingsAnswer w n alts level len ≡ listing.Listed k
@@ -108,21 +99,21 @@ pub length-told : (w : List ℤ) (n : Input) (alts : List Float) (level : Float)
 unfolding crossingsAnswer listAnswer listOf
 length-told w n alts level len k e =
     let d = densitiesOf w n alts in
-    let s = no-refusal (checkedOf w n alts) (ltb len (length (crossingsOf level d))) (length (crossingsOf level d)) k e in
+    let s = listed (crossingsChecked w n alts) (ltb len (length (crossingsOf level d))) (length (crossingsOf level d)) k e in
     (sym (s .1), omega (arith, s .1, list.list-short level d, densities-length w n alts, checked-few w n alts (s .0)))
 
 -- the buffer xs after a list l and an answer a that stands before it
-written : (a : Answer) (b : Bool) (l xs : List ℕ) (k : ℕ) → refusedOr a (cond b (listing.Refused 9 (length l)) (listing.Listed (length l))) ≡ listing.Listed k
+buffer-written : (a : Answer) (b : Bool) (l xs : List ℕ) (k : ℕ) → crossingsRefusedOr a (cond b (listing.Refused 9 (length l)) (listing.Listed (length l))) ≡ listing.Listed k
     → cond (acceptedOf a) (cond b xs (l ++ drop (length l) xs)) xs ≡ l ++ drop k xs
-written Accepted false l xs k e = ap (λ (m : ℕ). l ++ drop m xs) (no-refusal Accepted false (length l) k e .1)
-written Accepted true l xs k e = absurd (false≢true (ap (λ (r : Listing). isListed r) e))
-written (Refused i j) b l xs k e = absurd (false≢true (ap (λ (r : Listing). isListed r) e))
+buffer-written Accepted false l xs k e = ap (λ (m : ℕ). l ++ drop m xs) (listed Accepted false (length l) k e .1)
+buffer-written Accepted true l xs k e = absurd (false≢true (ap (λ (r : Listing). isListed r) e))
+buffer-written (Refused i j) b l xs k e = absurd (false≢true (ap (λ (r : Listing). isListed r) e))
 
-kept : (a : Answer) (b : Bool) (l xs : List ℕ) (i j : ℕ) → refusedOr a (cond b (listing.Refused 9 (length l)) (listing.Listed (length l))) ≡ listing.Refused i j
+list-kept : (a : Answer) (b : Bool) (l xs : List ℕ) (i j : ℕ) → crossingsRefusedOr a (cond b (listing.Refused 9 (length l)) (listing.Listed (length l))) ≡ listing.Refused i j
     → cond (acceptedOf a) (cond b xs (l ++ drop (length l) xs)) xs ≡ xs
-kept Accepted false l xs i j e = absurd (true≢false (ap (λ (r : Listing). isListed r) e))
-kept Accepted true l xs i j e = refl
-kept (Refused m n) b l xs i j e = refl
+list-kept Accepted false l xs i j e = absurd (true≢false (ap (λ (r : Listing). isListed r) e))
+list-kept Accepted true l xs i j e = refl
+list-kept (Refused m n) b l xs i j e = refl
 
 -- Where a length is answered the list stands at the start of the buffer and the rest is as it was; any refusal leaves the buffer as it was.
 pub list-written : (w : List ℤ) (n : Input) (alts : List Float) (level : Float) (xs : List ℕ) (k : ℕ) → crossingsAnswer w n alts level (length xs) ≡ listing.Listed k
@@ -130,20 +121,20 @@ pub list-written : (w : List ℤ) (n : Input) (alts : List Float) (level : Float
 unfolding crossingsAnswer crossingsAfter listAnswer listAfter
 list-written w n alts level xs k e =
     let l = listOf w n alts level in
-    written (checkedOf w n alts) (ltb (length xs) (length l)) l xs k e
+    buffer-written (crossingsChecked w n alts) (ltb (length xs) (length l)) l xs k e
 
 pub buffer-kept : (w : List ℤ) (n : Input) (alts : List Float) (level : Float) (xs : List ℕ) (i j : ℕ) → crossingsAnswer w n alts level (length xs) ≡ listing.Refused i j
     → crossingsAfter w n alts level xs ≡ xs
 unfolding crossingsAnswer crossingsAfter listAnswer listAfter
 buffer-kept w n alts level xs i j e =
     let l = listOf w n alts level in
-    kept (checkedOf w n alts) (ltb (length xs) (length l)) l xs i j e
+    list-kept (crossingsChecked w n alts) (ltb (length xs) (length l)) l xs i j e
 
 -- ---- demand 3
 
 densities≡ : (w : List ℤ) (a b : Input) → ((z : Float) → elevenOf w (withAltOf a z) ≡ elevenOf w (withAltOf b z)) → (alts : List Float)
     → densitiesOf w a alts ≡ densitiesOf w b alts
-unfolding densitiesOf densityOf
+unfolding densitiesOf totalDensity
 densities≡ w a b h [] = refl
 densities≡ w a b h (z ∷ zs) = ap₂ (λ (x : Float) (l : List Float). x ∷ l) (ap (λ (r : List Float). r ‼ 5) (h z)) (densities≡ w a b h zs)
 
@@ -156,7 +147,7 @@ pub demand-3-crossings : (w : List ℤ) (a b : Input) (alts : List Float) (level
     → (listOf w a alts level ≡ listOf w b alts level)
     × (crossingsAnswer w a alts level (length xs) ≡ crossingsAnswer w b alts level (length xs))
     × (crossingsAfter w a alts level xs ≡ crossingsAfter w b alts level xs)
-unfolding listOf crossingsAnswer crossingsAfter checkedOf
+unfolding listOf crossingsAnswer crossingsAfter crossingsChecked
 demand-3-crossings w a b alts level xs like e f =
     let h : (z : Float) → elevenOf w (withAltOf a z) ≡ elevenOf w (withAltOf b z) =
     λ z.

@@ -6,7 +6,7 @@ ghost use lib.ListN.{length, drop};
 ghost use Rattle.acceptance.specs.declared.Answer.the-variants.{Accepted};
 ghost use Rattle.crossings_list.specs.declared.Listing.the-variants.{Listed};
 ghost use Rattle.altitudes.specs.Altitudes.{altitudesFrom};
-ghost use Rattle.crossings.specs.Crossings.{densitiesOf, checkedOf, refusedOr, crossingsAnswer, crossingsAfter};
+ghost use Rattle.crossings.specs.Crossings.{densitiesOf, crossingsChecked, crossingsRefusedOr, crossingsAnswer, crossingsAfter};
 ghost use Rattle.crossings.specs.Stored.{densitiesStored};
 use acceptance::Answer;
 use acceptance::accepted;
@@ -20,7 +20,7 @@ use stored::row_on;
 
 // The column's refusals, its buffer taken to be long enough; then 8.
 pub fn checked(w: [i32; 24], n: Input, alts: &[f64]) -> Answer
-    ensures { λ r. ⌜ r ≡ checkedOf w n (now (alts .entry)) ⌝ }
+    ensures { λ r. ⌜ r ≡ crossingsChecked w n (now (alts .entry)) ⌝ }
 {
     let a = column_answer(w, n, alts, 11 * alts.len());
     if !accepted(a) {
@@ -60,7 +60,7 @@ pub fn densities(w: [i32; 24], n: Input, alts: &[f64], d: &mut [f64])
 
 // A refusal as the list's answer; nobody asks for an accepted one.
 pub fn refusal(a: Answer) -> Listing
-    ensures { λ r. ⌜ r ≡ refusedOr a (Listed 0) ⌝ }
+    ensures { λ r. ⌜ r ≡ crossingsRefusedOr a (Listed 0) ⌝ }
 {
     match a {
         Answer::Accepted => Listing::Listed(0),

@@ -11,7 +11,7 @@ use lib.ListN.{length, drop, getD, set, length-append}
 use lib.Seq.{append-snoc, drop-cons, drop-length, set-at}
 use lib.Ieee.{Float, nan, lt}
 use Rattle.crossings_list.specs.declared.Listing.the-variants.{Listed, Refused}
-use Rattle.crossings_list.specs.CrossingsList.{passesAt, below, those, crossingsOf, listAnswer, listAfter, risesFrom, risesOf}
+use Rattle.crossings_list.specs.CrossingsList.{passesAt, below, those, crossingsOf, listAnswer, listAfter, altitudesRiseFrom, altitudesRise}
 use Rattle.crossings_list.specs.Theorems.{those-more, grows}
 
 -- ---- the list, index by index
@@ -86,11 +86,11 @@ module _ (level : Float) (d : List Float) (xs : List ℕ) (n : ℕ) (e : n ≡ l
 
 -- ---- rising altitudes
 
-pub begins : (s : List Float) → (length s ≡ 0 → ⊥) → risesFrom 1 (getD s 0 nan) (drop 1 s) ≡ risesOf s
+pub begins : (s : List Float) → (length s ≡ 0 → ⊥) → altitudesRiseFrom 1 (getD s 0 nan) (drop 1 s) ≡ altitudesRise s
 begins [] h = absurd (h refl)
 begins (a ∷ s) h = refl
 
-pub none-there : (s : List Float) → length s ≡ 0 → 0 ≡ risesOf s
+pub none-there : (s : List Float) → length s ≡ 0 → 0 ≡ altitudesRise s
 none-there [] h = refl
 none-there (a ∷ s) h = absurd (none h)
   where
@@ -98,14 +98,14 @@ none-there (a ∷ s) h = absurd (none h)
     none g = omega arith
 
 module _ (s : List Float) (last : Float) (i : ℕ) where
-  pub falls-here : i < length s → not (lt last (getD s i nan)) ≡ true → i ≡ risesFrom i last (drop i s)
-  unfolding risesFrom
+  pub falls-here : i < length s → not (lt last (getD s i nan)) ≡ true → i ≡ altitudesRiseFrom i last (drop i s)
+  unfolding altitudesRiseFrom
   falls-here h g = rw (drop-cons s i nan h) (simp (not-true (lt last (getD s i nan)) g))
 
-  pub rises-here : i < length s → not (lt last (getD s i nan)) ≡ false → risesFrom (i + 1) (getD s i nan) (drop (i + 1) s) ≡ risesFrom i last (drop i s)
-  unfolding risesFrom
+  pub rises-here : i < length s → not (lt last (getD s i nan)) ≡ false → altitudesRiseFrom (i + 1) (getD s i nan) (drop (i + 1) s) ≡ altitudesRiseFrom i last (drop i s)
+  unfolding altitudesRiseFrom
   rises-here h g = rw (drop-cons s i nan h, add-one) (simp (not-false (lt last (getD s i nan)) g))
 
-  pub all-rise : i ≡ length s → i ≡ risesFrom i last (drop i s)
-  unfolding risesFrom
+  pub all-rise : i ≡ length s → i ≡ altitudesRiseFrom i last (drop i s)
+  unfolding altitudesRiseFrom
   all-rise h = rw (h, drop-length s)

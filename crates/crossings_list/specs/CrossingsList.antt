@@ -41,10 +41,10 @@ listAfter l xs = cond (ltb (length xs) (length l)) xs (l ++ drop (length l) xs)
 
 -- 8's place: the lowest index whose altitude is not above the one before it, or how many altitudes there are where they rise strictly; a is the
 -- last of the i altitudes that were passed
-unfoldable pub risesFrom : ℕ → Float → List Float → ℕ
-risesFrom i a [] = i
-risesFrom i a (b ∷ s) = cond (lt a b) (risesFrom (i + 1) b s) i
+unfoldable pub altitudesRiseFrom : ℕ → Float → List Float → ℕ
+altitudesRiseFrom i a [] = i
+altitudesRiseFrom i a (b ∷ s) = cond (lt a b) (altitudesRiseFrom (i + 1) b s) i
 
-abbrev pub risesOf : List Float → ℕ
-risesOf [] = 0
-risesOf (a ∷ s) = risesFrom 1 a s
+abbrev pub altitudesRise : List Float → ℕ
+altitudesRise [] = 0
+altitudesRise (a ∷ s) = altitudesRiseFrom 1 a s

@@ -13,7 +13,8 @@ use lib.ListN.{length, getD, length-append, List·getD-append}
 use lib.Seq.{getD-at}
 use lib.Ieee.{Float, nan, inf, fin, lt, le, eq}
 use Rattle.numbers.specs.Arithmetic.{_‼_}
-use Rattle.crossings_list.specs.CrossingsList.{passesOf, passesAt, below, those, crossingsOf, risesFrom, risesOf}
+use Rattle.numbers.specs.Tests.{lt-nan}
+use Rattle.crossings_list.specs.CrossingsList.{passesOf, passesAt, below, those, crossingsOf, altitudesRiseFrom, altitudesRise}
 
 -- ---- a list made index by index
 
@@ -173,12 +174,6 @@ no-pair level d h = let e : length d - 1 ≡ 0 = omega arith in rw e
 
 -- ---- a NaN makes no pair
 
-lt-nan : (x : Float) → lt x nan ≡ false
-unfolding lt
-lt-nan nan = refl
-lt-nan (inf s) = refl
-lt-nan (fin s m e) = refl
-
 le-nan : (x : Float) → le x nan ≡ false
 unfolding le lt eq
 le-nan nan = refl
@@ -189,9 +184,9 @@ nan-le : (x : Float) → le nan x ≡ false
 unfolding le lt eq
 nan-le x = refl
 
-pub level-nan : (a b : Float) → passesOf nan a b ≡ false
+pub pair-level-nan : (a b : Float) → passesOf nan a b ≡ false
 unfolding passesOf
-level-nan a b = simp (nan-le, lt-nan)
+pair-level-nan a b = simp (nan-le, lt-nan)
 
 pub lower-nan : (level b : Float) → passesOf level nan b ≡ false
 unfolding passesOf lt
@@ -208,36 +203,36 @@ upper-nan level a = simp (le-nan, and-false)
 -- ---- the place of 8
 
 -- what holds at the place, with i altitudes passed, the last of them a
-rises-from : (i : ℕ) (a : Float) (s : List Float) → (i ≤ risesFrom i a s) × (risesFrom i a s ≤ i + length s)
-    × ((k : ℕ) → i + k < risesFrom i a s → lt ((a ∷ s) ‼ k) (s ‼ k) ≡ true)
-    × ((k : ℕ) → risesFrom i a s ≡ i + k → k < length s → lt ((a ∷ s) ‼ k) (s ‼ k) ≡ false)
-unfolding risesFrom
-rises-from i a [] = (omega arith, omega arith, λ k h. absurd (none k h), λ k e h. absurd (none' k h))
+altitudes-rise-from : (i : ℕ) (a : Float) (s : List Float) → (i ≤ altitudesRiseFrom i a s) × (altitudesRiseFrom i a s ≤ i + length s)
+    × ((k : ℕ) → i + k < altitudesRiseFrom i a s → lt ((a ∷ s) ‼ k) (s ‼ k) ≡ true)
+    × ((k : ℕ) → altitudesRiseFrom i a s ≡ i + k → k < length s → lt ((a ∷ s) ‼ k) (s ‼ k) ≡ false)
+unfolding altitudesRiseFrom
+altitudes-rise-from i a [] = (omega arith, omega arith, λ k h. absurd (none k h), λ k e h. absurd (none' k h))
   where
     none : (k : ℕ) → i + k < i → ⊥
     none k h = omega arith
 
     none' : (k : ℕ) → k < 0 → ⊥
     none' k h = omega arith
-rises-from i a (b ∷ s) = go (lt a b) refl (rises-from (i + 1) b s)
+altitudes-rise-from i a (b ∷ s) = go (lt a b) refl (altitudes-rise-from (i + 1) b s)
   where
     go : (p : Bool) → lt a b ≡ p
-        → (i + 1 ≤ risesFrom (i + 1) b s) × (risesFrom (i + 1) b s ≤ i + 1 + length s)
-        × ((k : ℕ) → i + 1 + k < risesFrom (i + 1) b s → lt ((b ∷ s) ‼ k) (s ‼ k) ≡ true)
-        × ((k : ℕ) → risesFrom (i + 1) b s ≡ i + 1 + k → k < length s → lt ((b ∷ s) ‼ k) (s ‼ k) ≡ false)
-        → (i ≤ cond p (risesFrom (i + 1) b s) i) × (cond p (risesFrom (i + 1) b s) i ≤ i + suc (length s))
-        × ((k : ℕ) → i + k < cond p (risesFrom (i + 1) b s) i → lt ((a ∷ b ∷ s) ‼ k) ((b ∷ s) ‼ k) ≡ true)
-        × ((k : ℕ) → cond p (risesFrom (i + 1) b s) i ≡ i + k → k < suc (length s) → lt ((a ∷ b ∷ s) ‼ k) ((b ∷ s) ‼ k) ≡ false)
+        → (i + 1 ≤ altitudesRiseFrom (i + 1) b s) × (altitudesRiseFrom (i + 1) b s ≤ i + 1 + length s)
+        × ((k : ℕ) → i + 1 + k < altitudesRiseFrom (i + 1) b s → lt ((b ∷ s) ‼ k) (s ‼ k) ≡ true)
+        × ((k : ℕ) → altitudesRiseFrom (i + 1) b s ≡ i + 1 + k → k < length s → lt ((b ∷ s) ‼ k) (s ‼ k) ≡ false)
+        → (i ≤ cond p (altitudesRiseFrom (i + 1) b s) i) × (cond p (altitudesRiseFrom (i + 1) b s) i ≤ i + suc (length s))
+        × ((k : ℕ) → i + k < cond p (altitudesRiseFrom (i + 1) b s) i → lt ((a ∷ b ∷ s) ‼ k) ((b ∷ s) ‼ k) ≡ true)
+        × ((k : ℕ) → cond p (altitudesRiseFrom (i + 1) b s) i ≡ i + k → k < suc (length s) → lt ((a ∷ b ∷ s) ‼ k) ((b ∷ s) ‼ k) ≡ false)
     go true e r = (omega (arith, r .0), omega (arith, r .1), up, down)
       where
-        up : (k : ℕ) → i + k < risesFrom (i + 1) b s → lt ((a ∷ b ∷ s) ‼ k) ((b ∷ s) ‼ k) ≡ true
+        up : (k : ℕ) → i + k < altitudesRiseFrom (i + 1) b s → lt ((a ∷ b ∷ s) ‼ k) ((b ∷ s) ‼ k) ≡ true
         up zero h = e
         up (suc k) h = r .2 k (omega arith)
 
-        down : (k : ℕ) → risesFrom (i + 1) b s ≡ i + k → k < suc (length s) → lt ((a ∷ b ∷ s) ‼ k) ((b ∷ s) ‼ k) ≡ false
+        down : (k : ℕ) → altitudesRiseFrom (i + 1) b s ≡ i + k → k < suc (length s) → lt ((a ∷ b ∷ s) ‼ k) ((b ∷ s) ‼ k) ≡ false
         down zero f h = absurd (no (r .0) f)
           where
-            no : i + 1 ≤ risesFrom (i + 1) b s → risesFrom (i + 1) b s ≡ i + 0 → ⊥
+            no : i + 1 ≤ altitudesRiseFrom (i + 1) b s → altitudesRiseFrom (i + 1) b s ≡ i + 0 → ⊥
             no g f' = omega arith
         down (suc k) f h = r .3 k (omega arith) (omega arith)
     go false e r = (omega arith, omega arith, up, down)
@@ -257,14 +252,14 @@ rises-from i a (b ∷ s) = go (lt a b) refl (rises-from (i + 1) b s)
 
 -- 8's place: it is a later altitude's or the number of altitudes; those before it rise strictly; where it is an altitude's, that one is not
 -- above the one before it.
-pub first-fall : (s : List Float) → (risesOf s ≤ length s)
-    × (0 < length s → 0 < risesOf s)
-    × ((k : ℕ) → suc k < risesOf s → lt (s ‼ k) (s ‼ suc k) ≡ true)
-    × ((k : ℕ) → risesOf s ≡ suc k → suc k < length s → lt (s ‼ k) (s ‼ suc k) ≡ false)
-first-fall [] = (omega arith, λ h. h, λ k h. absurd (none k h), λ k e h. absurd (none k h))
+pub altitudes-first-fall : (s : List Float) → (altitudesRise s ≤ length s)
+    × (0 < length s → 0 < altitudesRise s)
+    × ((k : ℕ) → suc k < altitudesRise s → lt (s ‼ k) (s ‼ suc k) ≡ true)
+    × ((k : ℕ) → altitudesRise s ≡ suc k → suc k < length s → lt (s ‼ k) (s ‼ suc k) ≡ false)
+altitudes-first-fall [] = (omega arith, λ h. h, λ k h. absurd (none k h), λ k e h. absurd (none k h))
   where
     none : (k : ℕ) → suc k < 0 → ⊥
     none k h = omega arith
-first-fall (a ∷ s) =
-    let r = rises-from 1 a s in
+altitudes-first-fall (a ∷ s) =
+    let r = altitudes-rise-from 1 a s in
     (omega (arith, r .1), λ h. r .0, λ k h. r .2 k (omega arith), λ k e h. r .3 k (omega arith) (omega arith))

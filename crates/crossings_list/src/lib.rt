@@ -4,7 +4,7 @@ ghost use mathlib.Core.Bool.{true, cond};
 ghost use mathlib.Core.List.{_++_};
 ghost use Prim.Native.Nat.{_+_, _-_, _<_, _≤_};
 ghost use lib.ListN.{length, drop, set};
-ghost use Rattle.crossings_list.specs.CrossingsList.{passesOf, crossingsOf, listAnswer, listAfter, risesOf};
+ghost use Rattle.crossings_list.specs.CrossingsList.{passesOf, crossingsOf, listAnswer, listAfter, altitudesRise};
 
 // How long the list is, or a refusal's number and place.
 pub enum Listing {
@@ -94,7 +94,7 @@ pub fn listed(d: &[f64], level: f64, out: &mut [u64]) -> Listing
 
 // The index of the first altitude that is not above the one before it, or how many there are.
 pub fn rises(alts: &[f64]) -> usize
-    ensures { λ r. ⌜ r ≡ risesOf (now (alts .entry)) ⌝ }
+    ensures { λ r. ⌜ r ≡ altitudesRise (now (alts .entry)) ⌝ }
 {
     if alts.len() == 0 {
         return 0;

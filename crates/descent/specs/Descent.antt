@@ -13,8 +13,8 @@ use Rattle.acceptance.specs.declared.Answer.{Answer}
 use Rattle.acceptance.specs.declared.Answer.the-variants.{Refused}
 use Rattle.acceptance.specs.Acceptance.{judgedOf, acceptedOf, withAltOf}
 use Rattle.atmosphere.specs.Atmosphere.{elevenOf}
-use Rattle.descent_orbits.specs.DescentOrbits.{kilometresOf, millimetresOf, Descent, descentFrom, descentRefusal}
-use Rattle.descent_orbits.specs.Lent.{endOf, endNumbers, lossesAfter}
+use Rattle.descent_orbits.specs.DescentOrbits.{kilometresOfMillimetres, millimetresOf, Descent, descentFrom, descentRefusal}
+use Rattle.descent_orbits.specs.Lent.{endOfDescent, endNumbers, lossesAfter}
 
 -- 'switch 0 taken as 1', whatever the row says
 unfoldable pub unitRow : List ℤ → List ℤ
@@ -22,7 +22,7 @@ unitRow w = set w 0 (pos 1)
 
 -- d[5] of the one-altitude call at an altitude in millimetres
 unfoldable pub densityAt : List ℤ → Input → ℕ → Float
-densityAt w n a = elevenOf w (withAltOf n (kilometresOf a)) ‼ 5
+densityAt w n a = elevenOf w (withAltOf n (kilometresOfMillimetres a)) ‼ 5
 
 -- the descent of a record
 unfoldable pub descentOf : List ℤ → Input → ℤ → List ℤ → Descent
@@ -30,17 +30,17 @@ descentOf w n start ss = descentFrom (densityAt (unitRow w) n) (millimetresOf st
 
 -- 'after the one-altitude refusals for the record, its altitude not looked at, 17, .. then 18, .. then 19'. Of these 10 is for altitudes below 72.5 km, which
 -- a descent never comes to: it stays at or above 200 km (km-mixed)
-unfoldable pub checkedOf : List ℤ → Input → ℤ → List ℤ → ℕ → Answer
-checkedOf w n start ss room =
+unfoldable pub descentChecked : List ℤ → Input → ℤ → List ℤ → ℕ → Answer
+descentChecked w n start ss room =
     cond (not (acceptedOf (judgedOf w (withAltOf n 0·0)))) (judgedOf w (withAltOf n 0·0)) (descentRefusal start ss room)
 
 -- the answer, to a list of room losses and to ends numbers for the ending, the last altitude and the count: 4 first where these are not three
 unfoldable pub descentAnswer : List ℤ → Input → ℤ → List ℤ → ℕ → ℕ → Answer
-descentAnswer w n start ss room ends = cond (not (eqb ends 3)) (Refused 4 3) (checkedOf (unitRow w) n start ss room)
+descentAnswer w n start ss room ends = cond (not (eqb ends 3)) (Refused 4 3) (descentChecked (unitRow w) n start ss room)
 
 -- the lent list afterwards, and the lent three numbers; refused, both are as they were
 unfoldable pub descentLosses : List ℤ → Input → ℤ → List ℤ → List ℤ → ℕ → List ℤ
 descentLosses w n start ss xs ends = cond (acceptedOf (descentAnswer w n start ss (length xs) ends)) (lossesAfter (descentOf w n start ss) xs) xs
 
 unfoldable pub descentEnd : List ℤ → Input → ℤ → List ℤ → ℕ → List ℤ → List ℤ
-descentEnd w n start ss room ys = cond (acceptedOf (descentAnswer w n start ss room (length ys))) (endNumbers (endOf (descentOf w n start ss))) ys
+descentEnd w n start ss room ys = cond (acceptedOf (descentAnswer w n start ss room (length ys))) (endNumbers (endOfDescent (descentOf w n start ss))) ys

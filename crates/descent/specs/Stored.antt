@@ -7,7 +7,7 @@ use lib.Ieee.{Float}
 use Rattle.numbers.specs.Arithmetic.{_‼_}
 use Rattle.numbers.specs.Literals.{0·0}
 use Rattle.station.specs.Station.{altitudeRow}
-use Rattle.descent_orbits.specs.DescentOrbits.{kilometresOf}
+use Rattle.descent_orbits.specs.DescentOrbits.{kilometresOfMillimetres}
 
 unfoldable pub stationDensity : List ℤ → List Float → ℕ → Float
-stationDensity whole xs a = altitudeRow whole xs (kilometresOf a) (replicate 11 0·0) ‼ 5
+stationDensity whole xs a = altitudeRow whole xs (kilometresOfMillimetres a) (replicate 11 0·0) ‼ 5

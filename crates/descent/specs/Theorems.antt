@@ -15,10 +15,10 @@ use Rattle.acceptance.specs.declared.Answer.the-variants.{Accepted, Refused}
 use Rattle.acceptance.specs.Acceptance.{judgedOf, withAltOf}
 use Rattle.shutoff.specs.Shut.{shut, AlikeBut, Alike}
 use Rattle.shutoff.specs.Theorems.{Known, known, known-at, alike-at, eleven≡}
-use Rattle.descent_orbits.specs.DescentOrbits.{lowest, spent, kilometresOf, Descent}
-use Rattle.descent_orbits.specs.Lent.{endOf, endNumbers, lossesAfter}
+use Rattle.descent_orbits.specs.DescentOrbits.{lowestAltitude, spent, kilometresOfMillimetres, Descent}
+use Rattle.descent_orbits.specs.Lent.{endOfDescent, endNumbers, lossesAfter}
 use Rattle.descent_orbits.specs.Theorems.{total, start-minus-end, never-rises, stays-above, all-done, joined, spent-then, ended-then}
-use Rattle.descent.specs.Descent.{unitRow, densityAt, descentOf, checkedOf, descentAnswer, descentLosses, descentEnd}
+use Rattle.descent.specs.Descent.{unitRow, densityAt, descentOf, descentChecked, descentAnswer, descentLosses, descentEnd}
 
 -- ---- the descent
 
@@ -36,7 +36,7 @@ module _ (w : List ℤ) (n : Input) (a : ℕ) (ss : List ℤ) where
   no-rise = never-rises (densityAt (unitRow w) n) ss a
 
   -- from 200 km or above it stays there
-  pub above-200 : lowest ≤ a → lowest ≤ r .last
+  pub above-200 : lowestAltitude ≤ a → lowestAltitude ≤ r .last
   unfolding descentOf
   above-200 = stays-above (densityAt (unitRow w) n) ss a
 
@@ -59,7 +59,7 @@ module _ (w : List ℤ) (n : Input) (a : ℕ) (ss : List ℤ) where
 module _ (w : List ℤ) (n : Input) (start : ℤ) (ss xs ys : List ℤ) where
   -- accepted, the list has the losses at its start and the rest as it was, and the three numbers are the ending, the last altitude and the count
   pub told : descentAnswer w n start ss (length xs) (length ys) ≡ Accepted
-      → (descentLosses w n start ss xs (length ys) ≡ lossesAfter (descentOf w n start ss) xs) × (descentEnd w n start ss (length xs) ys ≡ endNumbers (endOf (descentOf w n start ss)))
+      → (descentLosses w n start ss xs (length ys) ≡ lossesAfter (descentOf w n start ss) xs) × (descentEnd w n start ss (length xs) ys ≡ endNumbers (endOfDescent (descentOf w n start ss)))
   unfolding descentLosses descentEnd
   told e = (rw e, rw e)
 
@@ -100,14 +100,14 @@ module _ (w : List ℤ) (a b : Input) (like : Alike w (withAltOf a 0·0) (withAl
   unfolding densityAt
   densities≡ =
       fun-ext
-      (λ k. ap (λ (l : List Float). l ‼ 5) (eleven≡ (unitRow w) (withAltOf a (kilometresOf k)) (withAltOf b (kilometresOf k)) (at-altitude (kilometresOf k)) (known-there a (kilometresOf k) e) (known-there b (kilometresOf k) f)))
+      (λ k. ap (λ (l : List Float). l ‼ 5) (eleven≡ (unitRow w) (withAltOf a (kilometresOfMillimetres k)) (withAltOf b (kilometresOfMillimetres k)) (at-altitude (kilometresOfMillimetres k)) (known-there a (kilometresOfMillimetres k) e) (known-there b (kilometresOfMillimetres k) f)))
 
   pub demand-3-descent : (start : ℤ) (ss xs ys : List ℤ)
       → (descentOf w a start ss ≡ descentOf w b start ss)
       × (descentAnswer w a start ss (length xs) (length ys) ≡ descentAnswer w b start ss (length xs) (length ys))
       × (descentLosses w a start ss xs (length ys) ≡ descentLosses w b start ss xs (length ys))
       × (descentEnd w a start ss (length xs) ys ≡ descentEnd w b start ss (length xs) ys)
-  unfolding descentOf descentAnswer descentLosses descentEnd checkedOf
+  unfolding descentOf descentAnswer descentLosses descentEnd descentChecked
   demand-3-descent start ss xs ys =
       let g = units-judged w (withAltOf a 0·0) ∙ e in
       let h = units-judged w (withAltOf b 0·0) ∙ f in

@@ -7,8 +7,8 @@ ghost use Rattle.numbers.specs.Literals.{0·0};
 ghost use Rattle.acceptance.specs.declared.Answer.the-variants.{Accepted};
 ghost use Rattle.acceptance.specs.Acceptance.{judgedOf, withAltOf};
 ghost use Rattle.descent_orbits.specs.DescentOrbits.{startWithin, millimetresOf, descentFrom};
-ghost use Rattle.descent_orbits.specs.Lent.{endOf, lossesAfter};
-ghost use Rattle.descent.specs.Descent.{unitRow, densityAt, checkedOf, descentAnswer, descentLosses, descentEnd};
+ghost use Rattle.descent_orbits.specs.Lent.{endOfDescent, lossesAfter};
+ghost use Rattle.descent.specs.Descent.{unitRow, densityAt, descentChecked, descentAnswer, descentLosses, descentEnd};
 ghost use Rattle.descent.specs.Stored.{stationDensity};
 use acceptance::Answer;
 use acceptance::accepted;
@@ -62,7 +62,7 @@ pub fn orbits(
     losses: &mut [i64],
 ) -> End
     requires { ⌜ (200000000 ≤ start) × (start ≤ 1000000000) × (length (now settings) ≤ length (now losses)) ⌝ }
-    ensures { λ r. ⌜ (r ≡ endOf (descentFrom (stationDensity (now (whole .entry)) (now (numbers .entry))) start (now (settings .entry))))
+    ensures { λ r. ⌜ (r ≡ endOfDescent (descentFrom (stationDensity (now (whole .entry)) (now (numbers .entry))) start (now (settings .entry))))
         × (now (losses .exit) ≡ lossesAfter (descentFrom (stationDensity (now (whole .entry)) (now (numbers .entry))) start (now (settings .entry))) (now (losses .entry))) ⌝ }
 {
     let mut a = start;
@@ -91,7 +91,7 @@ pub fn orbits(
 // The descent of a record that is accepted, from a start that is.
 pub fn flown(w: [i32; 24], n: Input, start: i64, settings: &[i32], losses: &mut [i64]) -> End
     requires { ⌜ (judgedOf w (withAltOf n 0·0) ≡ Accepted) × (startWithin start ≡ true) × (length (now settings) ≤ length (now losses)) ⌝ }
-    ensures { λ r. ⌜ (r ≡ endOf (descentFrom (densityAt w n) (millimetresOf start) (now (settings .entry))))
+    ensures { λ r. ⌜ (r ≡ endOfDescent (descentFrom (densityAt w n) (millimetresOf start) (now (settings .entry))))
         × (now (losses .exit) ≡ lossesAfter (descentFrom (densityAt w n) (millimetresOf start) (now (settings .entry))) (now (losses .entry))) ⌝ }
 {
     values(n);
@@ -104,7 +104,7 @@ pub fn flown(w: [i32; 24], n: Input, start: i64, settings: &[i32], losses: &mut 
 
 // The record's refusals, its altitude not looked at; then 17, 18 and 19.
 pub fn checked(w: [i32; 24], n: Input, start: i64, settings: &[i32], room: usize) -> Answer
-    ensures { λ r. ⌜ r ≡ checkedOf w n start (now (settings .entry)) room ⌝ }
+    ensures { λ r. ⌜ r ≡ descentChecked w n start (now (settings .entry)) room ⌝ }
 {
     let m = with_alt(n, 0.0);
     let a = judge(w, m);

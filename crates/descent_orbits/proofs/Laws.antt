@@ -1,6 +1,6 @@
 -- Ranges, the whole part, the outcomes of an orbit, the settings passed one by one, and the refusals.
 use mathlib.Core.Path.{_≡_, refl, sym, ap, _∙_}
-use mathlib.Core.Bool.{Bool, true, false, not, _&&_, _||_, true≢false, false≢true}
+use mathlib.Core.Bool.{Bool, true, false, not, _&&_, _||_, and-false, true≢false, false≢true}
 use mathlib.Core.List.{List, [], _∷_}
 use Prim.Native.Nat.{ℕ, suc, _+_, _*_, _/_, _^_, _<_, _≤_}
 use native.Mathlib.Numerals.{add-one}
@@ -17,43 +17,36 @@ use lib.Ieee.Scale.{finite}
 use Rattle.fixed_point.specs.Fixed.{scaledOf}
 use Rattle.fixed_point.proofs.Range.{clash}
 use Rattle.numbers.specs.Literals.{0·0, 1·0E9}
+use Rattle.numbers.specs.Booleans.{both}
 use Rattle.acceptance.specs.declared.Answer.the-variants.{Accepted, Refused}
 use Rattle.descent_orbits.specs.declared.Orbit.{Orbit}
 use Rattle.descent_orbits.specs.declared.End.{End}
 use Rattle.descent_orbits.specs.Lent.{endNumbers}
-use Rattle.descent_orbits.specs.DescentOrbits.{wholePart, noDensityOf, afterOf, orbitOf, withinOf, startWithin, millimetresOf, settingWithin, unfitFrom, unfitOf, descentRefusal}
+use Rattle.descent_orbits.specs.DescentOrbits.{wholePart, noDensityOf, orbitAfter, orbitOf, wholeWithin, startWithin, millimetresOf, settingWithin, unfitSettingFrom, unfitSetting, descentRefusal}
 
 -- ---- ranges; x is the number as the machine reads it
 
-and-false : (b : Bool) → (b && false) ≡ false
-and-false true = refl
-and-false false = refl
-
 module _ (lo hi : ℕ) (x z : ℤ) (f : x ≡ z) where
-  pub below-range : ltZ x (pos lo) ≡ true → false ≡ withinOf lo hi z
+  pub below-range : ltZ x (pos lo) ≡ true → false ≡ wholeWithin lo hi z
   below-range e = by z (ap (λ (y : ℤ). ltZ y (pos lo)) (sym f) ∙ e)
     where
-      by : (y : ℤ) → ltZ y (pos lo) ≡ true → false ≡ withinOf lo hi y
+      by : (y : ℤ) → ltZ y (pos lo) ≡ true → false ≡ wholeWithin lo hi y
       by (pos k) h = sym (ap (λ (b : Bool). b && leb k hi) (lt-leb lo k (ltb-true k lo h)))
       by (negsuc k) h = refl
 
-  pub above-range : ltZ (pos hi) x ≡ true → false ≡ withinOf lo hi z
+  pub above-range : ltZ (pos hi) x ≡ true → false ≡ wholeWithin lo hi z
   above-range e = by z (ap (ltZ (pos hi)) (sym f) ∙ e)
     where
-      by : (y : ℤ) → ltZ (pos hi) y ≡ true → false ≡ withinOf lo hi y
+      by : (y : ℤ) → ltZ (pos hi) y ≡ true → false ≡ wholeWithin lo hi y
       by (pos k) h = sym (ap (λ (b : Bool). leb lo k && b) (lt-leb k hi (ltb-true hi k h)) ∙ and-false (leb lo k))
       by (negsuc k) h = refl
 
-  pub in-range : ltZ x (pos lo) ≡ false → ltZ (pos hi) x ≡ false → true ≡ withinOf lo hi z
+  pub in-range : ltZ x (pos lo) ≡ false → ltZ (pos hi) x ≡ false → true ≡ wholeWithin lo hi z
   in-range e g = by z (ap (λ (y : ℤ). ltZ y (pos lo)) (sym f) ∙ e) (ap (ltZ (pos hi)) (sym f) ∙ g)
     where
-      by : (y : ℤ) → ltZ y (pos lo) ≡ false → ltZ (pos hi) y ≡ false → true ≡ withinOf lo hi y
+      by : (y : ℤ) → ltZ y (pos lo) ≡ false → ltZ (pos hi) y ≡ false → true ≡ wholeWithin lo hi y
       by (pos k) h i = sym (ap (λ (b : Bool). b && leb k hi) (le-leb lo k (ltb-false k lo h)) ∙ le-leb k hi (ltb-false hi k i))
       by (negsuc k) h i = absurd (true≢false h)
-
-both : (a b : Bool) → (a && b) ≡ true → (a ≡ true) × (b ≡ true)
-both true b e = (refl, e)
-both false b e = absurd (false≢true e)
 
 le-of : (a b : ℕ) → leb a b ≡ true → a ≤ b
 le-of a b e = leb→le a b (rw e tt)
@@ -121,32 +114,32 @@ whole-fits (fin false m e) h =
 
 -- y is the product as it was worked out, o what was answered
 module _ (a : ℕ) (y x : Float) (p : y ≡ x) (t : Bool) (e : t ≡ noDensityOf y) (o : Orbit) where
-  pub thin : t ≡ true → o ≡ afterOf 1 a 0 → o ≡ orbitOf a x
+  pub thin : t ≡ true → o ≡ orbitAfter 1 a 0 → o ≡ orbitOf a x
   unfolding orbitOf
   thin h q = q ∙ rw (← p) (simp (← e) (simp h))
 
   module _ (f : t ≡ false) (l : ℕ) (g : l ≡ wholePart y) where
-    pub arrives : a < 200000000 + l → o ≡ afterOf 2 a 0 → o ≡ orbitOf a x
+    pub arrives : a < 200000000 + l → o ≡ orbitAfter 2 a 0 → o ≡ orbitOf a x
     unfolding orbitOf
     arrives h q = q ∙ rw (← p, ← g) (simp (← e, lt-ltb _ _ h) (simp f))
 
-    pub sinks : 200000000 + l ≤ a → o ≡ afterOf 0 a l → o ≡ orbitOf a x
+    pub sinks : 200000000 + l ≤ a → o ≡ orbitAfter 0 a l → o ≡ orbitOf a x
     unfolding orbitOf
     sinks h q = q ∙ rw (← p, ← g) (simp (← e, le-ltb _ _ h) (simp f))
 
 -- ---- the settings
 
 module _ (ss : List ℤ) (i : ℕ) (t : Bool) where
-  pub unfit-here : i < length ss → t ≡ settingWithin (getD ss i (pos 0)) → not t ≡ true → i ≡ unfitFrom i (drop i ss)
-  unfolding unfitFrom
+  pub unfit-here : i < length ss → t ≡ settingWithin (getD ss i (pos 0)) → not t ≡ true → i ≡ unfitSettingFrom i (drop i ss)
+  unfolding unfitSettingFrom
   unfit-here h e f = rw (drop-cons ss i (pos 0) h) (simp (← e) (simp f))
 
-  pub fits-here : i < length ss → t ≡ settingWithin (getD ss i (pos 0)) → not t ≡ false → unfitFrom (i + 1) (drop (i + 1) ss) ≡ unfitFrom i (drop i ss)
-  unfolding unfitFrom
+  pub fits-here : i < length ss → t ≡ settingWithin (getD ss i (pos 0)) → not t ≡ false → unfitSettingFrom (i + 1) (drop (i + 1) ss) ≡ unfitSettingFrom i (drop i ss)
+  unfolding unfitSettingFrom
   fits-here h e f = rw (drop-cons ss i (pos 0) h, add-one) (simp (← e) (simp f))
 
-pub all-fit : (ss : List ℤ) (i : ℕ) → i ≡ length ss → i ≡ unfitFrom i (drop i ss)
-unfolding unfitFrom
+pub all-fit : (ss : List ℤ) (i : ℕ) → i ≡ length ss → i ≡ unfitSettingFrom i (drop i ss)
+unfolding unfitSettingFrom
 all-fit ss i h = rw (h, drop-length ss)
 
 -- ---- the refusals; x is the start as the machine reads it
@@ -156,7 +149,7 @@ module _ (start : ℤ) (ss : List ℤ) (room : ℕ) (x : ℤ) (f : x ≡ start) 
   unfolding descentRefusal
   start-off h = rw (← f) (simp (← e) (simp h))
 
-  module _ (h : not t ≡ false) (k : ℕ) (g : k ≡ unfitOf ss) where
+  module _ (h : not t ≡ false) (k : ℕ) (g : k ≡ unfitSetting ss) where
     pub ill-set : k < length ss → Refused 18 (k + 1) ≡ descentRefusal start ss room
     unfolding descentRefusal
     ill-set l = rw (← f, ← g) (simp (← e, lt-ltb _ _ l) (simp h))

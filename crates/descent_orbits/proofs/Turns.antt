@@ -13,8 +13,8 @@ use lib.Seq.{append-snoc, drop-cons, drop-length, set-at}
 use lib.Ieee.{Float}
 use Rattle.descent_orbits.specs.declared.Orbit.{Orbit}
 use Rattle.descent_orbits.specs.declared.End.{End}
-use Rattle.descent_orbits.specs.DescentOrbits.{lowest, productOf, orbitOf, Descent, ended, lost, descentFrom}
-use Rattle.descent_orbits.specs.Lent.{endOf, lossesAfter}
+use Rattle.descent_orbits.specs.DescentOrbits.{lowestAltitude, densityBySetting, orbitOf, Descent, ended, lost, descentFrom}
+use Rattle.descent_orbits.specs.Lent.{endOfDescent, lossesAfter}
 use Rattle.descent_orbits.specs.Theorems.{orbit-taken}
 
 -- a descent with losses before it
@@ -30,7 +30,7 @@ pub record Flown (d : ℕ → Float) (start : ℕ) (ss ys : List ℤ) (a i : ℕ
 
 -- what is answered and what is written
 abbrev pub Answered : (ℕ → Float) → ℕ → List ℤ → List ℤ → End → List ℤ → Type 0
-Answered d start ss ys e xs = (e ≡ endOf (descentFrom d start ss)) × (xs ≡ lossesAfter (descentFrom d start ss) ys)
+Answered d start ss ys e xs = (e ≡ endOfDescent (descentFrom d start ss)) × (xs ≡ lossesAfter (descentFrom d start ss) ys)
 
 module _ (d : ℕ → Float) (start : ℕ) (ss ys : List ℤ) where
   pub begun : Flown d start ss ys start 0 ys
@@ -39,7 +39,7 @@ module _ (d : ℕ → Float) (start : ℕ) (ss ys : List ℤ) where
   module _ (a i : ℕ) (xs : List ℤ) (f : Flown d start ss ys a i xs) where
     -- the descent ends here
     here : (e b : ℕ) → descentFrom d a (drop i ss) ≡ ended e b → Answered d start ss ys (record { ending = e; last = b; taken = i }) xs
-    unfolding endOf lossesAfter
+    unfolding endOfDescent lossesAfter
     here e b g =
         let w : descentFrom d start ss ≡ led (f .done) (ended e b) = f .whole ∙ ap (led (f .done)) g in
         let n : length (f .done ++ []) ≡ i = ap length (append-nil (f .done)) ∙ f .count in
@@ -49,7 +49,7 @@ module _ (d : ℕ → Float) (start : ℕ) (ss ys : List ℤ) where
     unfolding descentFrom
     all-flown h = here 3 a (rw (h, drop-length ss))
 
-    module _ (h : i < length ss) (o : Orbit) (p : o ≡ orbitOf a (productOf (d a) (getD ss i (pos 0)))) where
+    module _ (h : i < length ss) (o : Orbit) (p : o ≡ orbitOf a (densityBySetting (d a) (getD ss i (pos 0)))) where
       next : descentFrom d a (drop i ss) ≡ cond (eqb (o .ending) 0) (lost (o .loss) (descentFrom d (o .last) (drop (suc i) ss))) (ended (o .ending) (o .last))
       unfolding descentFrom
       next = rw (drop-cons ss i (pos 0) h, p)
@@ -58,8 +58,8 @@ module _ (d : ℕ → Float) (start : ℕ) (ss ys : List ℤ) where
       stopped g = here (o .ending) (o .last) (next ∙ rw (ne-eqb _ _ g))
 
       module _ (g : o .ending ≡ 0) where
-        pub sunk : (o .last + o .loss ≡ a) × (lowest ≤ o .last)
-        sunk = rw p (orbit-taken a (productOf (d a) (getD ss i (pos 0))) (rw (← p) (eq-eqb _ _ g)))
+        pub sunk : (o .last + o .loss ≡ a) × (lowestAltitude ≤ o .last)
+        sunk = rw p (orbit-taken a (densityBySetting (d a) (getD ss i (pos 0))) (rw (← p) (eq-eqb _ _ g)))
 
         pub flies : length ss ≤ length ys → Flown d start ss ys (o .last) (i + 1) (set xs i (pos (o .loss)))
         flies m =

@@ -15,19 +15,19 @@ use Rattle.descent_orbits.specs.declared.Orbit.{Orbit}
 -- ---- an orbit
 
 -- 200 km and 1,000 km in millimetres
-abbrev pub lowest : ℕ
-lowest = 200000000
+abbrev pub lowestAltitude : ℕ
+lowestAltitude = 200000000
 
-abbrev pub highest : ℕ
-highest = 1000000000
+abbrev pub highestAltitude : ℕ
+highestAltitude = 1000000000
 
 -- 'The density is taken at millimetres / 1E6 km'
-unfoldable pub kilometresOf : ℕ → Float
-kilometresOf a = ofInt binary64 (pos a) ⊘ 1·0E6
+unfoldable pub kilometresOfMillimetres : ℕ → Float
+kilometresOfMillimetres a = ofInt binary64 (pos a) ⊘ 1·0E6
 
 -- '(d[5] × 1E15) × setting'
-abbrev pub productOf : Float → ℤ → Float
-productOf d s = (d ⊗ 1·0E15) ⊗ ofInt binary64 s
+abbrev pub densityBySetting : Float → ℤ → Float
+densityBySetting d s = (d ⊗ 1·0E15) ⊗ ofInt binary64 s
 
 -- 'negative, NaN or above 1E9'; -0 is not negative
 unfoldable pub noDensityOf : Float → Bool
@@ -53,16 +53,16 @@ abbrev pub spent : ℕ
 spent = 3
 
 -- what an orbit leaves that takes a loss of l millimetres at a
-abbrev pub afterOf : ℕ → ℕ → ℕ → Orbit
-afterOf e a l = record { ending = e; last = a - l; loss = l }
+abbrev pub orbitAfter : ℕ → ℕ → ℕ → Orbit
+orbitAfter e a l = record { ending = e; last = a - l; loss = l }
 
 -- the orbit at a millimetres with the product x: 'no density when the product is negative, NaN or above 1E9; else as reached when the loss would take
 -- it below 200 km, without taking that loss'
 unfoldable pub orbitOf : ℕ → Float → Orbit
 orbitOf a x =
-    cond (noDensityOf x) (afterOf noDensity a 0)
-    (cond (ltb a (lowest + wholePart x)) (afterOf reached a 0)
-    (afterOf onward a (wholePart x)))
+    cond (noDensityOf x) (orbitAfter noDensity a 0)
+    (cond (ltb a (lowestAltitude + wholePart x)) (orbitAfter reached a 0)
+    (orbitAfter onward a (wholePart x)))
 
 -- ---- the descent
 
@@ -82,19 +82,19 @@ lost l r = record { ending = r .ending; last = r .last; losses = l ∷ r .losses
 unfoldable pub descentFrom : (ℕ → Float) → ℕ → List ℤ → Descent
 descentFrom d a [] = ended spent a
 descentFrom d a (s ∷ ss) =
-    let o = orbitOf a (productOf (d a) s) in
+    let o = orbitOf a (densityBySetting (d a) s) in
     cond (eqb (o .ending) onward) (lost (o .loss) (descentFrom d (o .last) ss)) (ended (o .ending) (o .last))
 
 -- ---- refusals
 
 -- from lo to hi, both included
-abbrev pub withinOf : ℕ → ℕ → ℤ → Bool
-withinOf lo hi (pos a) = leb lo a && leb a hi
-withinOf lo hi (negsuc a) = false
+abbrev pub wholeWithin : ℕ → ℕ → ℤ → Bool
+wholeWithin lo hi (pos a) = leb lo a && leb a hi
+wholeWithin lo hi (negsuc a) = false
 
 -- 'a start outside 200 to 1,000 km' is refused
 abbrev pub startWithin : ℤ → Bool
-startWithin start = withinOf lowest highest start
+startWithin start = wholeWithin lowestAltitude highestAltitude start
 
 -- its millimetres; one below 0 is refused
 abbrev pub millimetresOf : ℤ → ℕ
@@ -103,21 +103,21 @@ millimetresOf (negsuc a) = 0
 
 -- 'a setting 1 to 4'
 abbrev pub settingWithin : ℤ → Bool
-settingWithin s = withinOf 1 4 s
+settingWithin s = wholeWithin 1 4 s
 
 -- the index of the first setting outside 1 to 4, or how many settings there are; i were passed
-unfoldable pub unfitFrom : ℕ → List ℤ → ℕ
-unfitFrom i [] = i
-unfitFrom i (s ∷ ss) = cond (not (settingWithin s)) i (unfitFrom (i + 1) ss)
+unfoldable pub unfitSettingFrom : ℕ → List ℤ → ℕ
+unfitSettingFrom i [] = i
+unfitSettingFrom i (s ∷ ss) = cond (not (settingWithin s)) i (unfitSettingFrom (i + 1) ss)
 
-abbrev pub unfitOf : List ℤ → ℕ
-unfitOf ss = unfitFrom 0 ss
+abbrev pub unfitSetting : List ℤ → ℕ
+unfitSetting ss = unfitSettingFrom 0 ss
 
 -- '17, a start outside 200 to 1,000 km (place 0), then 18, the first setting outside 1 to 4 (place, its orbit from 1), then 19, more than 10,000
 -- settings (place 10,000), else a loss list shorter than the settings (place, the length needed)'
 unfoldable pub descentRefusal : ℤ → List ℤ → ℕ → Answer
 descentRefusal start ss room =
     cond (not (startWithin start)) (Refused 17 0)
-    (cond (ltb (unfitOf ss) (length ss)) (Refused 18 (unfitOf ss + 1))
+    (cond (ltb (unfitSetting ss) (length ss)) (Refused 18 (unfitSetting ss + 1))
     (cond (ltb 10000 (length ss)) (Refused 19 10000)
     (cond (ltb room (length ss)) (Refused 19 (length ss)) Accepted)))

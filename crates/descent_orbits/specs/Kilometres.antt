@@ -15,7 +15,7 @@ use Rattle.numbers.specs.Arithmetic.{_⊘_}
 use Rattle.numbers.specs.Literals.{dec, 0·0, 72·5, 2500·0, 1·0E6, is-0·0, is-72·5, is-2500·0}
 use Rattle.numbers.specs.Tests.{finiteOf}
 use Rattle.acceptance.specs.Acceptance.{withinOf, unmixedOf}
-use Rattle.descent_orbits.specs.DescentOrbits.{lowest, highest, kilometresOf}
+use Rattle.descent_orbits.specs.DescentOrbits.{lowestAltitude, highestAltitude, kilometresOfMillimetres}
 
 -- ---- the division, rounded once
 
@@ -33,8 +33,8 @@ over-million (fin false m e) a h =
     by : (n d : ℕ) → n * 1 ≡ a * d → n * 1 * 1000000 ≡ a * (15625 * 2 ^ 6 * d)
     by n d g = omega arith
 
-pub kilometres-round : (a : ℕ) → a ≤ highest → kilometresOf a ≡ round binary64 false a 1000000
-unfolding kilometresOf ofInt
+pub kilometres-round : (a : ℕ) → a ≤ highestAltitude → kilometresOfMillimetres a ≡ round binary64 false a 1000000
+unfolding kilometresOfMillimetres ofInt
 kilometres-round a h = over-million (round binary64 false a 1) a (round-whole binary64 false a (omega arith))
 
 -- ---- tests
@@ -43,8 +43,8 @@ is-true : (b : Bool) → T b → b ≡ true
 is-true true t = refl
 is-true false t = absurd t
 
-pair : (a b : Bool) → T a → T b → (a && b) ≡ true
-pair a b s t = rw (is-true a s, is-true b t)
+both-there : (a b : Bool) → T a → T b → (a && b) ≡ true
+both-there a b s t = rw (is-true a s, is-true b t)
 
 -- what lies from 0 to 2500 is finite
 finite-between : (x : Float) → T (le 0·0 x) → T (le x 2500·0) → finiteOf x ≡ true
@@ -73,27 +73,27 @@ not-under (fin false m e) h = go (ltb (145 * 1 * down e) (m * up e * 2)) refl h
 
 -- ---- a descent's altitudes
 
-module _ (a : ℕ) (l : lowest ≤ a) (h : a ≤ highest) where
-  not-negative : T (le 0·0 (kilometresOf a))
+module _ (a : ℕ) (l : lowestAltitude ≤ a) (h : a ≤ highestAltitude) where
+  not-negative : T (le 0·0 (kilometresOfMillimetres a))
   unfolding dec
   not-negative = rw (kilometres-round a h, is-0·0) (round-mono binary64 0 1 a 1000000 (omega arith) (omega arith) (omega arith))
 
-  under-2500 : T (le (kilometresOf a) 2500·0)
+  under-2500 : T (le (kilometresOfMillimetres a) 2500·0)
   unfolding dec
   under-2500 = rw (kilometres-round a h, is-2500·0) (round-mono binary64 a 1000000 2500 1 (omega arith) (omega arith) (omega arith))
 
-  over-72 : T (le 72·5 (kilometresOf a))
+  over-72 : T (le 72·5 (kilometresOfMillimetres a))
   unfolding dec
   over-72 = rw (kilometres-round a h, is-72·5) (round-mono binary64 725 10 a 1000000 (omega arith) (omega arith) (omega arith))
 
-  pub km-finite : finiteOf (kilometresOf a) ≡ true
-  km-finite = finite-between (kilometresOf a) not-negative under-2500
+  pub km-finite : finiteOf (kilometresOfMillimetres a) ≡ true
+  km-finite = finite-between (kilometresOfMillimetres a) not-negative under-2500
 
-  pub km-within : withinOf 0·0 2500·0 (kilometresOf a) ≡ true
+  pub km-within : withinOf 0·0 2500·0 (kilometresOfMillimetres a) ≡ true
   unfolding withinOf
-  km-within = pair (le 0·0 (kilometresOf a)) (le (kilometresOf a) 2500·0) not-negative under-2500
+  km-within = both-there (le 0·0 (kilometresOfMillimetres a)) (le (kilometresOfMillimetres a) 2500·0) not-negative under-2500
 
-  pub km-mixed : (one : Bool) → unmixedOf one (kilometresOf a) ≡ false
+  pub km-mixed : (one : Bool) → unmixedOf one (kilometresOfMillimetres a) ≡ false
   unfolding unmixedOf
   km-mixed true = refl
-  km-mixed false = not-under (kilometresOf a) over-72
+  km-mixed false = not-under (kilometresOfMillimetres a) over-72

@@ -6,8 +6,8 @@ use Rattle.descent_orbits.specs.declared.End.{End}
 use Rattle.descent_orbits.specs.DescentOrbits.{Descent}
 
 -- 'the ending, the last altitude and how many losses were taken'
-unfoldable pub endOf : Descent → End
-endOf r = record { ending = r .ending; last = r .last; taken = length (r .losses) }
+unfoldable pub endOfDescent : Descent → End
+endOfDescent r = record { ending = r .ending; last = r .last; taken = length (r .losses) }
 
 -- as the three lent numbers
 unfoldable pub endNumbers : End → List ℤ

@@ -15,36 +15,36 @@ use Rattle.acceptance.specs.declared.Answer.{Answer}
 use Rattle.acceptance.specs.declared.Answer.the-variants.{Accepted, Refused}
 use Rattle.acceptance.specs.Acceptance.{acceptedOf}
 use Rattle.descent_orbits.specs.declared.Orbit.{Orbit}
-use Rattle.descent_orbits.specs.DescentOrbits.{lowest, highest, productOf, noDensityOf, wholePart, onward, noDensity, reached, spent, afterOf, orbitOf, Descent, ended, lost, descentFrom, startWithin, settingWithin, unfitFrom, unfitOf, descentRefusal}
+use Rattle.descent_orbits.specs.DescentOrbits.{lowestAltitude, highestAltitude, densityBySetting, noDensityOf, wholePart, onward, noDensity, reached, spent, orbitAfter, orbitOf, Descent, ended, lost, descentFrom, startWithin, settingWithin, unfitSettingFrom, unfitSetting, descentRefusal}
 
 -- ---- an orbit
 
 -- the orbit at a with the loss l, by the two tests
-abbrev chosen : ℕ → ℕ → Bool → Bool → Orbit
-chosen a l thin low =
-    cond thin (afterOf noDensity a 0) (cond low (afterOf reached a 0) (afterOf onward a l))
+abbrev chosenOrbit : ℕ → ℕ → Bool → Bool → Orbit
+chosenOrbit a l thin low =
+    cond thin (orbitAfter noDensity a 0) (cond low (orbitAfter reached a 0) (orbitAfter onward a l))
 
 -- an orbit that goes on takes its loss and stays at or above 200 km
-taken : (a l : ℕ) (thin low : Bool) → ltb a (lowest + l) ≡ low → eqb ((chosen a l thin low) .ending) 0 ≡ true
-    → ((chosen a l thin low) .last + (chosen a l thin low) .loss ≡ a) × (lowest ≤ (chosen a l thin low) .last)
+taken : (a l : ℕ) (thin low : Bool) → ltb a (lowestAltitude + l) ≡ low → eqb ((chosenOrbit a l thin low) .ending) 0 ≡ true
+    → ((chosenOrbit a l thin low) .last + (chosenOrbit a l thin low) .loss ≡ a) × (lowestAltitude ≤ (chosenOrbit a l thin low) .last)
 taken a l true low e f = absurd (false≢true f)
 taken a l false true e f = absurd (false≢true f)
-taken a l false false e f = let h = ltb-false a (lowest + l) e in (omega (arith, h), omega (arith, h))
+taken a l false false e f = let h = ltb-false a (lowestAltitude + l) e in (omega (arith, h), omega (arith, h))
 
 -- one that ends the descent stays where it is, and is not the spent one
-stays : (a l : ℕ) (thin low : Bool) → eqb ((chosen a l thin low) .ending) 0 ≡ false → ((chosen a l thin low) .last ≡ a) × ((chosen a l thin low) .ending ≤ 2)
+stays : (a l : ℕ) (thin low : Bool) → eqb ((chosenOrbit a l thin low) .ending) 0 ≡ false → ((chosenOrbit a l thin low) .last ≡ a) × ((chosenOrbit a l thin low) .ending ≤ 2)
 stays a l true low f = (omega arith, omega arith)
 stays a l false true f = (omega arith, omega arith)
 stays a l false false f = absurd (true≢false f)
 
 module _ (a : ℕ) (x : Float) where
-  pub orbit-taken : eqb ((orbitOf a x) .ending) 0 ≡ true → ((orbitOf a x) .last + (orbitOf a x) .loss ≡ a) × (lowest ≤ (orbitOf a x) .last)
+  pub orbit-taken : eqb ((orbitOf a x) .ending) 0 ≡ true → ((orbitOf a x) .last + (orbitOf a x) .loss ≡ a) × (lowestAltitude ≤ (orbitOf a x) .last)
   unfolding orbitOf
-  orbit-taken = taken a (wholePart x) (noDensityOf x) (ltb a (lowest + wholePart x)) refl
+  orbit-taken = taken a (wholePart x) (noDensityOf x) (ltb a (lowestAltitude + wholePart x)) refl
 
   pub orbit-stays : eqb ((orbitOf a x) .ending) 0 ≡ false → ((orbitOf a x) .last ≡ a) × ((orbitOf a x) .ending ≤ 2)
   unfolding orbitOf
-  orbit-stays = stays a (wholePart x) (noDensityOf x) (ltb a (lowest + wholePart x))
+  orbit-stays = stays a (wholePart x) (noDensityOf x) (ltb a (lowestAltitude + wholePart x))
 
 -- ---- the descent
 
@@ -58,21 +58,21 @@ module _ (d : ℕ → Float) where
   by-orbit : (P : ℕ → List ℤ → Descent → Type 0)
       → ((a : ℕ) → P a [] (ended spent a))
       → ((a e : ℕ) (s : ℤ) (ss : List ℤ) → e ≤ 2 → P a (s ∷ ss) (ended e a))
-      → ((a b l : ℕ) (s : ℤ) (ss : List ℤ) (r : Descent) → b + l ≡ a → lowest ≤ b → P b ss r → P a (s ∷ ss) (lost l r))
+      → ((a b l : ℕ) (s : ℤ) (ss : List ℤ) (r : Descent) → b + l ≡ a → lowestAltitude ≤ b → P b ss r → P a (s ∷ ss) (lost l r))
       → (ss : List ℤ) (a : ℕ) → P a ss (descentFrom d a ss)
   unfolding descentFrom
   by-orbit P none stop on [] a = none a
   by-orbit P none stop on (s ∷ ss) a = go (by-orbit P none stop on ss) (eqb (o .ending) 0) refl
     where
       o : Orbit
-      o = orbitOf a (productOf (d a) s)
+      o = orbitOf a (densityBySetting (d a) s)
 
       go : ((k : ℕ) → P k ss (descentFrom d k ss)) → (b : Bool) → eqb (o .ending) 0 ≡ b → P a (s ∷ ss) (cond b (lost (o .loss) (descentFrom d (o .last) ss)) (ended (o .ending) (o .last)))
       go rest true e =
-          let t = orbit-taken a (productOf (d a) s) e in
+          let t = orbit-taken a (densityBySetting (d a) s) e in
           on a (o .last) (o .loss) s ss (descentFrom d (o .last) ss) (t .0) (t .1) (rest (o .last))
       go rest false e =
-          let t = orbit-stays a (productOf (d a) s) e in
+          let t = orbit-stays a (densityBySetting (d a) s) e in
           subst (λ (k : ℕ). P a (s ∷ ss) (ended (o .ending) k)) (sym (t .0)) (stop a (o .ending) s ss (t .1))
 
   -- 'Start minus end equals the sum of the losses listed'
@@ -87,9 +87,9 @@ module _ (d : ℕ → Float) where
   never-rises ss a = omega (arith, start-minus-end ss a)
 
   -- From 200 km or above it never falls below 200 km.
-  pub stays-above : (ss : List ℤ) (a : ℕ) → lowest ≤ a → lowest ≤ (descentFrom d a ss) .last
+  pub stays-above : (ss : List ℤ) (a : ℕ) → lowestAltitude ≤ a → lowestAltitude ≤ (descentFrom d a ss) .last
   stays-above =
-      by-orbit (λ (a : ℕ) (ss : List ℤ) (r : Descent). lowest ≤ a → lowest ≤ r .last) (λ a h. h) (λ a e s ss g h. h) (λ a b l s ss r h g i j. i g)
+      by-orbit (λ (a : ℕ) (ss : List ℤ) (r : Descent). lowestAltitude ≤ a → lowestAltitude ≤ r .last) (λ a h. h) (λ a e s ss g h. h) (λ a b l s ss r h g i j. i g)
 
   -- At most one loss for each setting, and one for each where it ends as spent; the ending is 1, 2 or 3.
   pub losses-few : (ss : List ℤ) (a : ℕ) → length ((descentFrom d a ss) .losses) ≤ length ss
@@ -119,9 +119,9 @@ joined r q = record { ending = q .ending; last = q .last; losses = r .losses ++ 
 abbrev pub continued : Descent → (ℕ → Descent) → Descent
 continued r f = cond (eqb (r .ending) spent) (joined r (f (r .last))) r
 
-later : (l : ℕ) (r : Descent) (f : ℕ → Descent) (b : Bool) → lost l (cond b (joined r (f (r .last))) r) ≡ cond b (joined (lost l r) (f (r .last))) (lost l r)
-later l r f true = refl
-later l r f false = refl
+later-joined : (l : ℕ) (r : Descent) (f : ℕ → Descent) (b : Bool) → lost l (cond b (joined r (f (r .last))) r) ≡ cond b (joined (lost l r) (f (r .last))) (lost l r)
+later-joined l r f true = refl
+later-joined l r f false = refl
 
 -- The descent over all settings is the one over the first of them, and from where that ended the one over the rest if it is spent; if it ended as no
 -- density or reached, nothing comes after it.
@@ -131,7 +131,7 @@ in-parts d ts [] a = refl
 in-parts d ts (s ∷ ss) a = go (in-parts d ts ss (o .last)) (eqb (o .ending) 0) refl
   where
     o : Orbit
-    o = orbitOf a (productOf (d a) s)
+    o = orbitOf a (densityBySetting (d a) s)
 
     f : ℕ → Descent
     f b = descentFrom d b ts
@@ -139,8 +139,8 @@ in-parts d ts (s ∷ ss) a = go (in-parts d ts ss (o .last)) (eqb (o .ending) 0)
     go : descentFrom d (o .last) (ss ++ ts) ≡ continued (descentFrom d (o .last) ss) f → (b : Bool) → eqb (o .ending) 0 ≡ b
         → cond b (lost (o .loss) (descentFrom d (o .last) (ss ++ ts))) (ended (o .ending) (o .last))
         ≡ continued (cond b (lost (o .loss) (descentFrom d (o .last) ss)) (ended (o .ending) (o .last))) f
-    go rest true e = ap (lost (o .loss)) rest ∙ later (o .loss) (descentFrom d (o .last) ss) f (eqb ((descentFrom d (o .last) ss) .ending) spent)
-    go rest false e = sym (ap (λ (b : Bool). cond b (joined (ended (o .ending) (o .last)) (f (o .last))) (ended (o .ending) (o .last))) (other (o .ending) (orbit-stays a (productOf (d a) s) e .1)))
+    go rest true e = ap (lost (o .loss)) rest ∙ later-joined (o .loss) (descentFrom d (o .last) ss) f (eqb ((descentFrom d (o .last) ss) .ending) spent)
+    go rest false e = sym (ap (λ (b : Bool). cond b (joined (ended (o .ending) (o .last)) (f (o .last))) (ended (o .ending) (o .last))) (other (o .ending) (orbit-stays a (densityBySetting (d a) s) e .1)))
       where
         other : (k : ℕ) → k ≤ 2 → eqb k 3 ≡ false
         other k h = ne-eqb k 3 (λ g. no g)
@@ -173,19 +173,19 @@ module _ (d : ℕ → Float) (ss ts : List ℤ) (a : ℕ) where
 -- ---- densities
 
 -- The descent reads the density at altitudes from 200 to 1,000 km only, where it starts there.
-pub same-descent : (d e : ℕ → Float) → ((a : ℕ) → lowest ≤ a → a ≤ highest → d a ≡ e a) → (ss : List ℤ) (a : ℕ) → lowest ≤ a → a ≤ highest
+pub same-descent : (d e : ℕ → Float) → ((a : ℕ) → lowestAltitude ≤ a → a ≤ highestAltitude → d a ≡ e a) → (ss : List ℤ) (a : ℕ) → lowestAltitude ≤ a → a ≤ highestAltitude
     → descentFrom d a ss ≡ descentFrom e a ss
 unfolding descentFrom
 same-descent d e same [] a h g = refl
 same-descent d e same (s ∷ ss) a h g = rw (same a h g) (go (same-descent d e same ss) (eqb (o .ending) 0) refl)
   where
     o : Orbit
-    o = orbitOf a (productOf (e a) s)
+    o = orbitOf a (densityBySetting (e a) s)
 
-    go : ((b : ℕ) → lowest ≤ b → b ≤ highest → descentFrom d b ss ≡ descentFrom e b ss) → (b : Bool) → eqb (o .ending) 0 ≡ b
+    go : ((b : ℕ) → lowestAltitude ≤ b → b ≤ highestAltitude → descentFrom d b ss ≡ descentFrom e b ss) → (b : Bool) → eqb (o .ending) 0 ≡ b
         → cond b (lost (o .loss) (descentFrom d (o .last) ss)) (ended (o .ending) (o .last)) ≡ cond b (lost (o .loss) (descentFrom e (o .last) ss)) (ended (o .ending) (o .last))
     go rest true f =
-        let t = orbit-taken a (productOf (e a) s) f in
+        let t = orbit-taken a (densityBySetting (e a) s) f in
         ap (lost (o .loss)) (rest (o .last) (t .1) (omega (arith, t .0, g)))
     go rest false f = refl
 
@@ -206,8 +206,8 @@ Before i ss u = (k : ℕ) → i + k < u → settingWithin (getD ss k (pos 0)) �
 abbrev There : ℕ → List ℤ → ℕ → Type 0
 There i ss u = u < i + length ss → settingWithin (getD ss (u - i) (pos 0)) ≡ false
 
-first-from : (ss : List ℤ) (i : ℕ) → (i ≤ unfitFrom i ss) × Before i ss (unfitFrom i ss) × There i ss (unfitFrom i ss)
-unfolding unfitFrom
+first-from : (ss : List ℤ) (i : ℕ) → (i ≤ unfitSettingFrom i ss) × Before i ss (unfitSettingFrom i ss) × There i ss (unfitSettingFrom i ss)
+unfolding unfitSettingFrom
 first-from [] i = (le-refl i, (λ k h. absurd (no k h)), (λ h. absurd (over h)))
   where
     no : (k : ℕ) → i + k < i → ⊥
@@ -217,17 +217,17 @@ first-from [] i = (le-refl i, (λ k h. absurd (no k h)), (λ h. absurd (over h))
     over h = omega arith
 first-from (s ∷ ss) i = go (settingWithin s) refl (first-from ss (i + 1))
   where
-    go : (b : Bool) → settingWithin s ≡ b → (i + 1 ≤ unfitFrom (i + 1) ss) × Before (i + 1) ss (unfitFrom (i + 1) ss) × There (i + 1) ss (unfitFrom (i + 1) ss)
-        → (i ≤ cond (not b) i (unfitFrom (i + 1) ss)) × Before i (s ∷ ss) (cond (not b) i (unfitFrom (i + 1) ss)) × There i (s ∷ ss) (cond (not b) i (unfitFrom (i + 1) ss))
+    go : (b : Bool) → settingWithin s ≡ b → (i + 1 ≤ unfitSettingFrom (i + 1) ss) × Before (i + 1) ss (unfitSettingFrom (i + 1) ss) × There (i + 1) ss (unfitSettingFrom (i + 1) ss)
+        → (i ≤ cond (not b) i (unfitSettingFrom (i + 1) ss)) × Before i (s ∷ ss) (cond (not b) i (unfitSettingFrom (i + 1) ss)) × There i (s ∷ ss) (cond (not b) i (unfitSettingFrom (i + 1) ss))
     go true e r = (omega (arith, r .0), earlier, there)
       where
-        earlier : Before i (s ∷ ss) (unfitFrom (i + 1) ss)
+        earlier : Before i (s ∷ ss) (unfitSettingFrom (i + 1) ss)
         earlier zero h = e
         earlier (suc k) h = r .1 k (omega arith)
 
-        there : There i (s ∷ ss) (unfitFrom (i + 1) ss)
+        there : There i (s ∷ ss) (unfitSettingFrom (i + 1) ss)
         there h =
-            let m : unfitFrom (i + 1) ss - i ≡ suc (unfitFrom (i + 1) ss - (i + 1)) = omega (arith, r .0) in
+            let m : unfitSettingFrom (i + 1) ss - i ≡ suc (unfitSettingFrom (i + 1) ss - (i + 1)) = omega (arith, r .0) in
             rw m (r .2 (omega arith))
     go false e r = (le-refl i, (λ k h. absurd (no k h)), (λ h. rw zeroed e))
       where
@@ -238,18 +238,18 @@ first-from (s ∷ ss) i = go (settingWithin s) refl (first-from ss (i + 1))
         zeroed = omega arith
 
 -- 18's place, less one: every setting before it is from 1 to 4, and the one there is not.
-pub before-unfit : (ss : List ℤ) (k : ℕ) → k < unfitOf ss → settingWithin (getD ss k (pos 0)) ≡ true
+pub before-unfit : (ss : List ℤ) (k : ℕ) → k < unfitSetting ss → settingWithin (getD ss k (pos 0)) ≡ true
 before-unfit ss k h = first-from ss 0 .1 k (omega arith)
 
-pub first-unfit : (ss : List ℤ) → unfitOf ss < length ss → settingWithin (getD ss (unfitOf ss) (pos 0)) ≡ false
+pub first-unfit : (ss : List ℤ) → unfitSetting ss < length ss → settingWithin (getD ss (unfitSetting ss) (pos 0)) ≡ false
 first-unfit ss h =
-    let z : unfitOf ss - 0 ≡ unfitOf ss = omega arith in
+    let z : unfitSetting ss - 0 ≡ unfitSetting ss = omega arith in
     rw z at (first-from ss 0 .2 (omega arith))
 
 -- what is met by no refusal of the descent's own
 pub record Met (start : ℤ) (ss : List ℤ) (room : ℕ) : Type 0 where
   pub within : startWithin start ≡ true
-  pub set : length ss ≤ unfitOf ss
+  pub set : length ss ≤ unfitSetting ss
   pub few : length ss ≤ 10000
   pub fits : length ss ≤ room
 
@@ -257,7 +257,7 @@ pub accepted-met : (start : ℤ) (ss : List ℤ) (room : ℕ) → acceptedOf (de
 unfolding descentRefusal
 accepted-met start ss room h =
     let a = none (not (startWithin start)) 17 0 _ h in
-    let b = none (ltb (unfitOf ss) (length ss)) 18 (unfitOf ss + 1) _ (a .1) in
+    let b = none (ltb (unfitSetting ss) (length ss)) 18 (unfitSetting ss + 1) _ (a .1) in
     let c = none (ltb 10000 (length ss)) 19 10000 _ (b .1) in
     let e = none (ltb room (length ss)) 19 (length ss) Accepted (c .1) in
     record { within = positive _ (a .0); set = ltb-false _ _ (b .0); few = ltb-false _ _ (c .0); fits = ltb-false _ _ (e .0) }

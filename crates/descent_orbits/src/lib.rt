@@ -4,7 +4,7 @@ ghost use mathlib.Core.Bool.{true, false};
 ghost use Prim.Native.Nat.{_≤_, _<_};
 ghost use lib.IntN.{pos};
 ghost use lib.ListN.{length, set};
-ghost use Rattle.descent_orbits.specs.DescentOrbits.{wholePart, productOf, noDensityOf, afterOf, orbitOf, kilometresOf, startWithin, millimetresOf, settingWithin, unfitOf, descentRefusal};
+ghost use Rattle.descent_orbits.specs.DescentOrbits.{wholePart, densityBySetting, noDensityOf, orbitAfter, orbitOf, kilometresOfMillimetres, startWithin, millimetresOf, settingWithin, unfitSetting, descentRefusal};
 ghost use Rattle.descent_orbits.specs.Lent.{endNumbers};
 use acceptance::Answer;
 use fixed_point::scaled;
@@ -29,13 +29,13 @@ pub struct End {
 // Millimetres as an altitude in km: one division.
 pub fn kilometres(a: u64) -> f64
     requires { ⌜ a ≤ 1000000000 ⌝ }
-    ensures { λ r. ⌜ r ≡ kilometresOf a ⌝ }
+    ensures { λ r. ⌜ r ≡ kilometresOfMillimetres a ⌝ }
 {
     a as f64 / 1.0E6
 }
 
 pub fn product(d: f64, s: i32) -> f64
-    ensures { λ r. ⌜ r ≡ productOf d s ⌝ }
+    ensures { λ r. ⌜ r ≡ densityBySetting d s ⌝ }
 {
     (d * 1.0E15) * (s as f64)
 }
@@ -57,7 +57,7 @@ pub fn whole_part(x: f64) -> u64
 // What an orbit leaves with a loss taken at an altitude of a millimetres.
 pub fn after(ending: u64, a: u64, loss: u64) -> Orbit
     requires { ⌜ loss ≤ a ⌝ }
-    ensures { λ r. ⌜ r ≡ afterOf ending a loss ⌝ }
+    ensures { λ r. ⌜ r ≡ orbitAfter ending a loss ⌝ }
 {
     Orbit {
         ending: ending,
@@ -68,7 +68,7 @@ pub fn after(ending: u64, a: u64, loss: u64) -> Orbit
 
 // The orbit at an altitude of a millimetres, from d[5] there and its setting.
 pub fn orbit_at(a: u64, d: f64, s: i32) -> Orbit
-    ensures { λ r. ⌜ r ≡ orbitOf a (productOf d s) ⌝ }
+    ensures { λ r. ⌜ r ≡ orbitOf a (densityBySetting d s) ⌝ }
 {
     let x = product(d, s);
     if no_density(x) {
@@ -119,7 +119,7 @@ pub fn setting_within(s: i32) -> bool
 
 // The index of the first setting outside 1 to 4, or how many there are.
 pub fn unfit(settings: &[i32]) -> usize
-    ensures { λ r. ⌜ (r ≡ unfitOf (now (settings .entry))) × (r ≤ length (now (settings .entry))) ⌝ }
+    ensures { λ r. ⌜ (r ≡ unfitSetting (now (settings .entry))) × (r ≤ length (now (settings .entry))) ⌝ }
 {
     let mut i: usize = 0;
     while i < settings.len() {

@@ -23,16 +23,16 @@ use Rattle.drag.specs.Drag.{dragOf, dragAfter}
 use Rattle.drag.specs.Length.{eleven-long}
 
 -- an entry of one of two lists is that of one of two others, where those agree
-chosen : (b : Bool) (ys zs xs : List Float) (k : ℕ) → ys ‼ k ≡ zs ‼ k → cond b ys xs ‼ k ≡ cond b zs xs ‼ k
-chosen true ys zs xs k e = e
-chosen false ys zs xs k e = refl
+chosen-entry : (b : Bool) (ys zs xs : List Float) (k : ℕ) → ys ‼ k ≡ zs ‼ k → cond b ys xs ‼ k ≡ cond b zs xs ‼ k
+chosen-entry true ys zs xs k e = e
+chosen-entry false ys zs xs k e = refl
 
 -- Every number but d[5] is gtd7's, whatever the answer and the lent row.
 pub others-kept : (w : List ℤ) (n : Input) (xs : List Float) (k : ℕ) → (k ≡ 5 → ⊥) → dragAfter w n xs ‼ k ≡ rowAfter w n xs ‼ k
 unfolding dragAfter rowAfter dragOf draggedOf
 others-kept w n xs k h =
     let d = elevenOf w n in
-    chosen (acceptedOf (answerOf w n (length xs))) (set d 5 (dragMassOf (swAt w 0) d)) d xs k (getD-set-other d 5 k (dragMassOf (swAt w 0) d) nan h)
+    chosen-entry (acceptedOf (answerOf w n (length xs))) (set d 5 (dragMassOf (swAt w 0) d)) d xs k (getD-set-other d 5 k (dragMassOf (swAt w 0) d) nan h)
 
 -- d[5] of an accepted call is summed anew from the numbers of gtd7's row.
 pub mass-summed : (w : List ℤ) (n : Input) (xs : List Float) → answerOf w n (length xs) ≡ Accepted

@@ -1,13 +1,13 @@
 -- The kernel of exp lies near the power series. W stands for 20! * D ^ 20 and L for 20! * D ^ 19, with D = 2 ^ 58. Assumes nothing.
-use mathlib.Core.Path.{_≡_, refl, sym, ap, _∙_, subst}
+use mathlib.Core.Path.{_≡_, sym, ap, _∙_, subst}
 use mathlib.Core.List.{List, [], _∷_}
-use Prim.Native.Nat.{ℕ, zero, suc, _+_, _-_, _*_, _/_, _%_, _^_, _≤_, _<_, zero-le}
+use Prim.Native.Nat.{ℕ, _+_, _-_, _*_, _/_, _%_, _^_, _≤_, _<_}
 use native.Mathlib.Omega.{arith}
 use native.Mathlib.Nat.{le-trans, le-of-lt, le-of-eq, le-of-mul-le-mul-left, mul-le-mul, mul-le-mul-left, mul-le-mul-right, mul-assoc, div-add-mod', div-mul-le-self, mod-lt, zero-add}
-use lib.Dec.{T, leb, leb→le}
+use lib.Dec.{leb→le}
 use lib.ListN.{getD}
 use lib.Pow.{pow-pos, shr-shr, mod-pow-add}
-use Rattle.natural_exponential.specs.Exp.{coarse, fine, tailOf, remainderOf, expm1Of, compoundedOf, kernelOf}
+use Rattle.natural_exponential.specs.Exp.{coarse, fine, expTail, remainderOf, expm1Of, compoundedOf, kernelOf}
 use Rattle.fixed_point.specs.Fixed.{highOf, termOf}
 use Rattle.natural_exponential.proofs.Bound.{coarse-le, fine-le, high-le, remainder-product, upper-le, lower-le}
 use Rattle.elementary_bounds.specs.Series.{ev}
@@ -31,9 +31,9 @@ remainder-below : (s : ℕ) → s < 2 ^ 32 → Below (remainderOf s) 193 (ev ben
 remainder-below s h =
     let b₁ = term 715827883 (2 ^ 42) s 178956971 0 0 178956971 1 (pow-pos 42) (omega arith) (start 178956971) in
     let b₂ = term 2147483648 (2 ^ 42) s (termOf 715827883 42 s 178956971) 1 1 _ _ (pow-pos 42) (omega arith) b₁ in
-    let b₃ = term 0 (2 ^ 32) s (tailOf s) 2 2 _ _ (pow-pos 32) (omega arith) b₂ in
-    let b₃' = subst (λ (z : ℕ). Below z 3 (0 * (1 * 2 ^ 42 * 2 ^ 42 * 2 ^ 32) + s * (2147483648 * (1 * 2 ^ 42 * 2 ^ 42) + s * (715827883 * (1 * 2 ^ 42) + s * 178956971))) (1 * 2 ^ 42 * 2 ^ 42 * 2 ^ 32)) (zero-add (s * tailOf s / 2 ^ 32)) b₃ in
-    let b₄ = term 0 (2 ^ 26) s (s * tailOf s / 2 ^ 32) 3 192 _ _ (pow-pos 26) (omega arith) b₃' in
+    let b₃ = term 0 (2 ^ 32) s (expTail s) 2 2 _ _ (pow-pos 32) (omega arith) b₂ in
+    let b₃' = subst (λ (z : ℕ). Below z 3 (0 * (1 * 2 ^ 42 * 2 ^ 42 * 2 ^ 32) + s * (2147483648 * (1 * 2 ^ 42 * 2 ^ 42) + s * (715827883 * (1 * 2 ^ 42) + s * 178956971))) (1 * 2 ^ 42 * 2 ^ 42 * 2 ^ 32)) (zero-add (s * expTail s / 2 ^ 32)) b₃ in
+    let b₄ = term 0 (2 ^ 26) s (s * expTail s / 2 ^ 32) 3 192 _ _ (pow-pos 26) (omega arith) b₃' in
     subst (λ (z : ℕ). Below z 193 (ev bent s) (2 ^ 142)) (zero-add (remainderOf s))
     (subst (λ (z : ℕ). Below (0 + remainderOf s) 193 z (2 ^ 142)) (nested 2147483648 715827883 178956971 (1 * 2 ^ 42) (1 * 2 ^ 42 * 2 ^ 42) (1 * 2 ^ 42 * 2 ^ 42 * 2 ^ 32) (1 * 2 ^ 42 * 2 ^ 42 * 2 ^ 32 * 2 ^ 26) s) b₄)
 

@@ -2,16 +2,15 @@
 use mathlib.Core.Path.{_≡_, refl, sym, ap, _∙_, subst}
 use mathlib.Core.Bool.{Bool, true, false, _&&_}
 use mathlib.Core.List.{List, [], _∷_}
-use Prim.Native.Nat.{ℕ, zero, suc, _+_, _-_, _*_, _/_, _%_, _^_, _≤_, _<_, zero-le}
+use Prim.Native.Nat.{ℕ, _+_, _-_, _*_, _/_, _%_, _^_, _≤_, _<_}
 use native.Mathlib.Omega.{arith}
-use native.Mathlib.Nat.{le-trans, le-of-lt, le-of-eq, le-of-mul-le-mul-left, mul-le-mul-left, mul-le-mul-right, mul-comm, mul-assoc, div-add-mod', mod-lt, lt-of-lt-of-le, zero-add, zero-div}
-use lib.Dec.{T, eqb, eqb→eq, ltb, leb, leb→le, lit≤}
+use native.Mathlib.Nat.{le-of-lt, mul-assoc, div-add-mod', mod-lt, lt-of-lt-of-le, zero-add}
+use lib.Dec.{T, eqb, eqb→eq, lit≤}
 use lib.Ieee.Fits.{and-l, and-r, down-pos}
 use lib.ListN.{length}
 use lib.Pow.{pow-pos, pow-mono, shl-lt}
-use lib.IntN.{ℤ, pos, negsuc}
-use borrow.Author.Tests.{le-ltb, ltb-false}
-use lib.Ieee.{Float, fin, binary64, up, down, round, lt, isNan}
+use lib.IntN.{ℤ}
+use lib.Ieee.{Float, fin, binary64, up, down, isNan}
 use lib.Ieee.Exact.{HasValue, round-exact}
 use lib.Ieee.Scale.{round-same}
 use Rattle.fixed_point.specs.Float.{Within, digit}

@@ -1,11 +1,11 @@
 -- exp's two tables against its power series: computed tests over the tables, and what they say of every argument. Assumes nothing.
 use mathlib.Core.Path.{_≡_, refl}
 use mathlib.Core.List.{List, [], _∷_}
-use Prim.Native.Nat.{ℕ, zero, suc, _+_, _-_, _*_, _/_, _%_, _^_, _≤_, _<_}
-use lib.ListN.{length, getD}
-use lib.Dec.{T, leb}
+use Prim.Native.Nat.{ℕ, _*_, _^_, _≤_, _<_}
+use lib.ListN.{getD}
+use lib.Dec.{T}
 use Rattle.natural_exponential.specs.Exp.{coarse, fine}
-use Rattle.elementary_bounds.specs.Series.{ev, homogeneous, factors}
+use Rattle.elementary_bounds.specs.Series.{homogeneous, factors}
 use Rattle.elementary_bounds.proofs.Nearness.{whole}
 use Rattle.elementary_bounds.proofs.Series.{shift, fitting, fitted, Close}
 

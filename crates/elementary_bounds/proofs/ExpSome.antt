@@ -18,7 +18,7 @@ use Rattle.fixed_point.specs.Fixed.{highOf, scaledOf, offsetOf}
 use Rattle.fixed_point.proofs.Bits.{over-within}
 use Rattle.fixed_point.proofs.Choice.{either-le}
 use Rattle.fixed_point.proofs.Range.{clash, minus-within, within-scaled, plus-within}
-use Rattle.natural_exponential.specs.Exp.{coarse, fine, expm1Of, compoundedOf, kernelOf, timesOf, restOf, expOf, most, least}
+use Rattle.natural_exponential.specs.Exp.{coarse, fine, expm1Of, compoundedOf, kernelOf, timesOf, expRest, expOf, most, least}
 use Rattle.natural_exponential.proofs.Bound.{fine-ge, kernel-ge}
 use Rattle.natural_exponential.proofs.Cases.{exp-most, exp-reduced, exp-inside}
 use Rattle.natural_exponential.proofs.Reduce.{reduced, times-ge, times-many}
@@ -128,40 +128,40 @@ module _ (M : ℕ) (w : M ≤ 745 * 2 ^ 53) where
       level : (n : ℕ) → M ≤ n * 6243314768165359 + 6243314768165359 + 12884901888 → M ≤ (n + 1) * 6243314768165359 + 12884901888
       level n h = omega arith
 
-  rest-ge : (n : ℕ) → M ≤ n * 6243314768165359 + 12884901888 → 31 * 2 ^ 53 ≤ restOf 1 M n
+  rest-ge : (n : ℕ) → M ≤ n * 6243314768165359 + 12884901888 → 31 * 2 ^ 53 ≤ expRest 1 M n
   rest-ge n h = omega arith
 
-  last-ge : 36 * 2 ^ 53 ≤ restOf 1 M 1075
+  last-ge : 36 * 2 ^ 53 ≤ expRest 1 M 1075
   last-ge = omega arith
 
-  rest-le : restOf 1 M N ≤ 2 ^ 59 → restOf 1 M N / 2 ^ 53 < 65
+  rest-le : expRest 1 M N ≤ 2 ^ 59 → expRest 1 M N / 2 ^ 53 < 65
   rest-le h = omega arith
 
   fourth : (b v : ℕ) → b * 128 ≤ v → b ≤ v / 128
   fourth b v h = omega arith
 
-  module _ (i : restOf 1 M N ≤ 2 ^ 59) where
-    v-ge : 2182519216811381 ≤ kernelOf (restOf 1 M N) / 128
+  module _ (i : expRest 1 M N ≤ 2 ^ 59) where
+    v-ge : 2182519216811381 ≤ kernelOf (expRest 1 M N) / 128
     v-ge =
-        fourth 2182519216811381 (kernelOf (restOf 1 M N))
+        fourth 2182519216811381 (kernelOf (expRest 1 M N))
         (le-trans (leb→le (2182519216811381 * 128) 279362459751856882 tt)
-        (kernel-from 1117449839007427528 279362459751856882 (restOf 1 M N) (leb→le (279362459751856882 * 2 ^ 64) (1117449839007427528 * 2 ^ 62) tt) i
-        (entry 1117449839007427528 31 34 (restOf 1 M N / 2 ^ 53) test-31 (at 31 (restOf 1 M N) (rest-ge N near)) (rest-le i))))
+        (kernel-from 1117449839007427528 279362459751856882 (expRest 1 M N) (leb→le (279362459751856882 * 2 ^ 64) (1117449839007427528 * 2 ^ 62) tt) i
+        (entry 1117449839007427528 31 34 (expRest 1 M N / 2 ^ 53) test-31 (at 31 (expRest 1 M N) (rest-ge N near)) (rest-le i))))
       where
         at : (a t : ℕ) → a * 2 ^ 53 ≤ t → a ≤ t / 2 ^ 53
         at a t h = le-div-iff-mul-le {k = 2 ^ 53} {x = a} {y = t} (pow-pos 53) .1 h
 
-    v-last : N ≡ 1075 → 2551623475493606 ≤ kernelOf (restOf 1 M N) / 128
+    v-last : N ≡ 1075 → 2551623475493606 ≤ kernelOf (expRest 1 M N) / 128
     v-last e =
-        fourth 2551623475493606 (kernelOf (restOf 1 M N))
+        fourth 2551623475493606 (kernelOf (expRest 1 M N))
         (le-trans (leb→le (2551623475493606 * 128) 326607804863181630 tt)
-        (kernel-from 1306431219452726521 326607804863181630 (restOf 1 M N) (leb→le (326607804863181630 * 2 ^ 64) (1306431219452726521 * 2 ^ 62) tt) i
-        (entry 1306431219452726521 36 29 (restOf 1 M N / 2 ^ 53) test-36 (at 36 (restOf 1 M N) (subst (λ (n : ℕ). 36 * 2 ^ 53 ≤ restOf 1 M n) (sym e) last-ge)) (rest-le i))))
+        (kernel-from 1306431219452726521 326607804863181630 (expRest 1 M N) (leb→le (326607804863181630 * 2 ^ 64) (1306431219452726521 * 2 ^ 62) tt) i
+        (entry 1306431219452726521 36 29 (expRest 1 M N / 2 ^ 53) test-36 (at 36 (expRest 1 M N) (subst (λ (n : ℕ). 36 * 2 ^ 53 ≤ expRest 1 M n) (sym e) last-ge)) (rest-le i))))
       where
         at : (a t : ℕ) → a * 2 ^ 53 ≤ t → a ≤ t / 2 ^ 53
         at a t h = le-div-iff-mul-le {k = 2 ^ 53} {x = a} {y = t} (pow-pos 53) .1 h
 
-    fading-ge : 2 ^ 63 + 1 ≤ kernelOf (restOf 1 M N) / 128 * 2 ^ (1087 - N)
+    fading-ge : 2 ^ 63 + 1 ≤ kernelOf (expRest 1 M N) / 128 * 2 ^ (1087 - N)
     fading-ge = go (eq-or-lt-of-le (most-n M w))
       where
         most-n : (M : ℕ) → M ≤ 745 * 2 ^ 53 → timesOf M + 1 ≤ 1075
@@ -173,9 +173,9 @@ module _ (M : ℕ) (w : M ≤ 745 * 2 ^ 53) where
         last : (n : ℕ) → n ≡ 1075 → 12 ≤ 1087 - n
         last n e = omega arith
 
-        go : (N ≡ 1075) ⊎ (N < 1075) → 2 ^ 63 + 1 ≤ kernelOf (restOf 1 M N) / 128 * 2 ^ (1087 - N)
-        go (inl e) = enough (kernelOf (restOf 1 M N) / 128) 2551623475493606 (1087 - N) 12 (v-last e) (last N e) (leb→le (2 ^ 63 + 1) (2551623475493606 * 2 ^ 12) tt)
-        go (inr l) = enough (kernelOf (restOf 1 M N) / 128) 2182519216811381 (1087 - N) 13 v-ge (room N l) (leb→le (2 ^ 63 + 1) (2182519216811381 * 2 ^ 13) tt)
+        go : (N ≡ 1075) ⊎ (N < 1075) → 2 ^ 63 + 1 ≤ kernelOf (expRest 1 M N) / 128 * 2 ^ (1087 - N)
+        go (inl e) = enough (kernelOf (expRest 1 M N) / 128) 2551623475493606 (1087 - N) 12 (v-last e) (last N e) (leb→le (2 ^ 63 + 1) (2551623475493606 * 2 ^ 12) tt)
+        go (inr l) = enough (kernelOf (expRest 1 M N) / 128) 2182519216811381 (1087 - N) 13 v-ge (room N l) (leb→le (2 ^ 63 + 1) (2182519216811381 * 2 ^ 13) tt)
 
 -- ---- every x
 
@@ -213,7 +213,7 @@ beyond (fin false m e) n a b o =
     let M = scaledOf 53 x in
     let w = within-scaled 53 709 x (plus-within 709 0 x tt refl a) in
     let i = reduced 0 M (lit≤ {m = 0} {n = 1} tt) (le-trans w (leb→le (709 * 2 ^ 53) (745 * 2 ^ 53) tt)) (λ z. w) .inside in
-    ap (lt nought) (exp-reduced x n a b o) ∙ one-at-least (restOf 0 M (timesOf M + 0)) (1087 + (timesOf M + 0)) i (far (timesOf M + 0))
+    ap (lt nought) (exp-reduced x n a b o) ∙ one-at-least (expRest 0 M (timesOf M + 0)) (1087 + (timesOf M + 0)) i (far (timesOf M + 0))
   where
     far : (n : ℕ) → 64 ≤ 1087 + n
     far n = omega arith
@@ -222,7 +222,7 @@ beyond (fin true m e) n a b o =
     let M = scaledOf 53 x in
     let w = within-scaled 53 745 x (minus-within 745 0 x tt (λ z. not-suc-le-zero (le-of-eq z)) b) in
     let i = reduced 1 M (lit≤ {m = 1} {n = 1} tt) w (λ z. absurd (not-suc-le-zero (le-of-eq z))) .inside in
-    ap (lt nought) (exp-reduced x n a b o) ∙ rounds (kernelOf (restOf 1 M (timesOf M + 1)) / 128 * 2 ^ (1087 - (timesOf M + 1))) (fading-ge M w i)
+    ap (lt nought) (exp-reduced x n a b o) ∙ rounds (kernelOf (expRest 1 M (timesOf M + 1)) / 128 * 2 ^ (1087 - (timesOf M + 1))) (fading-ge M w i)
 
 pub exp-some : ExpSome
 exp-some x n b = go (lt most x) refl (over 1 x) refl

@@ -19,7 +19,7 @@ use Rattle.fixed_point.specs.Float.{Within, over, minusSign, nought}
 use Rattle.fixed_point.specs.Fixed.{scaledOf, offsetOf}
 use Rattle.fixed_point.proofs.Assemble.{same-fraction}
 use Rattle.fixed_point.proofs.Range.{clash, not-negative, within-scaled, minus-within, plus-within}
-use Rattle.natural_exponential.specs.Exp.{kernelOf, timesOf, restOf, expOf, most, least}
+use Rattle.natural_exponential.specs.Exp.{kernelOf, timesOf, expRest, expOf, most, least}
 use Rattle.natural_exponential.proofs.Cases.{exp-most, exp-least, exp-reduced, exp-inside}
 use Rattle.natural_exponential.proofs.Reduce.{reduced}
 use Rattle.fixed_point.proofs.Rounded.{round-no-nan}
@@ -110,13 +110,13 @@ exp-tail (fin true m e) h k =
     let d = down e in
     let M = scaledOf 53 x in
     let N = timesOf M + 1 in
-    let v = kernelOf (restOf 1 M N) in
+    let v = kernelOf (expRest 1 M N) in
     let P = 2 ^ (1087 - N) in
     let g : 708 * d < p * 1 = ltb-true (708 * d) (p * 1) k in
     let o : over 1 x ≡ true = lt-ltb (1 * d) p (above p d g) in
     let w : Within x 745 = plain p d (ltb-false (745 * 1 * d) (p * 1) h) in
     let f : 708 * 2 ^ 53 ≤ M = le-div-iff-mul-le (down-pos e) .1 (many p d (2 ^ 53) g) in
-    let b = kernel-lt (restOf 1 M N) (reduced 1 M (lit≤ {m = 1} {n = 1} tt) (within-scaled 53 745 x w) (λ z. absurd (not-suc-le-zero (le-of-eq z))) .inside) in
+    let b = kernel-lt (expRest 1 M N) (reduced 1 M (lit≤ {m = 1} {n = 1} tt) (within-scaled 53 745 x w) (λ z. absurd (not-suc-le-zero (le-of-eq z))) .inside) in
     let z = round-near (v / 128 * P) (2 ^ 1138) (pow-pos 1138) (faint-lt v P (2 ^ 1074) b (pow-mono {i = 1087 - N} {j = 65} (few M f)) (pow-pos (1087 - N)) (pow-pos 1074)) in (
       z .0,
       subst (λ (y : Float). HasValue y false (z .0) (2 ^ 1074)) (sym (exp-reduced x refl refl h o)) (z .1),
@@ -182,7 +182,7 @@ not-least (fin true m e) n h = le-ltb (745 * 1 * down e) (m * up e * 1) (wider (
 pub exp-kept : ExpKept
 exp-kept x n a b =
     let l = not-least x n b in (
-      λ o. exp-reduced x n a l o ∙ kept-is (kernelOf (restOf (minusSign x) (scaledOf 53 x) (timesOf (scaledOf 53 x) + minusSign x)) / 128) (minusSign x) (timesOf (scaledOf 53 x) + minusSign x) (times-few x n a b),
+      λ o. exp-reduced x n a l o ∙ kept-is (kernelOf (expRest (minusSign x) (scaledOf 53 x) (timesOf (scaledOf 53 x) + minusSign x)) / 128) (minusSign x) (timesOf (scaledOf 53 x) + minusSign x) (times-few x n a b),
       λ o. exp-inside x n a l o ∙ sym (same-fraction (kernelOf (offsetOf (minusSign x) (2 ^ 58) (scaledOf 58 x)) / 128) 1087 (lit≤ {m = 64} {n = 1087} tt)),
     )
 

@@ -1,7 +1,7 @@
 -- Series at a fraction u / D: the coefficients over the powers of D. For any number of terms. Assumes nothing.
 use mathlib.Core.Path.{_≡_, refl, sym, ap, _∙_, subst}
 use mathlib.Core.List.{List, [], _∷_}
-use Prim.Native.Nat.{ℕ, zero, suc, _+_, _-_, _*_, _/_, _%_, _^_, _≤_, _<_, zero-le}
+use Prim.Native.Nat.{ℕ, zero, suc, _+_, _*_, _^_, _≤_, _<_}
 use native.Mathlib.Omega.{arith}
 use native.Mathlib.Nat.{mul-le-mul-left, mul-le-mul-right, pow-zero, pow-succ', le-trans, le-of-eq, le-of-mul-le-mul-left, eq-of-mul-eq-mul-right, mul-comm, mul-pos}
 use lib.Dec.{lit<}

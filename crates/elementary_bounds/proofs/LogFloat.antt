@@ -1,19 +1,18 @@
 -- The bound of log on floats: from 1 to 2, and from 1 / 2 to 1. Assumes nothing.
-use mathlib.Core.Path.{_≡_, refl, sym, ap, _∙_, subst}
-use mathlib.Core.Bool.{Bool, true, false, cond, _&&_, _||_, Bool·beq}
-use Prim.Native.Nat.{ℕ, zero, suc, _+_, _-_, _*_, _/_, _%_, _^_, _≤_, _<_}
+use mathlib.Core.Path.{_≡_, refl, ap, _∙_, subst}
+use mathlib.Core.Bool.{Bool, false, _&&_, _||_, Bool·beq}
+use Prim.Native.Nat.{ℕ, zero, suc, _+_, _-_, _*_, _%_, _^_, _≤_, _<_}
 use native.Mathlib.Omega.{arith}
 use native.Mathlib.Nat.{lt-of-not-le, eq-of-mul-eq-mul-right, mul-le-mul-left, mul-le-mul-right, mod-lt, zero-add, pow-succ', mul-pos}
 use borrow.Author.Tests.{le-ltb, ne-eqb}
-use lib.Dec.{T, leb, eqb, leb→le, lit<}
-use lib.IntN.{ℤ, pos, negsuc}
+use lib.Dec.{T, eqb, leb→le}
+use lib.IntN.{ℤ}
 use lib.Pow.{pow-pos, pow-mono}
-use lib.Ieee.{Float, nan, inf, fin, binary64, up, down, fits, toBits, lt, eq, isNan}
+use lib.Ieee.{Float, fin, binary64, up, down, fits, toBits, lt, eq, isNan}
 use lib.Ieee.Fits.{down-pos}
 use Rattle.elementary_bounds.specs.Series.{logSeries, NearLog}
-use Rattle.fixed_point.specs.Float.{one, nought}
-use Rattle.fixed_point.specs.Float.{tiny}
-use Rattle.natural_logarithm.specs.Log.{withinOf, differenceOf, digitsOf, logOf}
+use Rattle.fixed_point.specs.Float.{unit}
+use Rattle.natural_logarithm.specs.Log.{logWithin, differenceOf, logDigits, logOf}
 use Rattle.fixed_point.proofs.Decode.{lead, field, digits, value}
 use Rattle.elementary_bounds.proofs.Homogeneous.{mul-pow}
 use Rattle.fixed_point.proofs.Range.{not-negative}
@@ -100,7 +99,7 @@ module _ (m : ℕ) (e : ℤ) (fx : T (fits binary64 (fin false m e))) where
           d ∙ ap suc (exponent-is t y j E t-lt (down-pos e) (subst (λ (z : ℕ). 2 ^ 52 * 2 ^ j * E ≤ z) w a) (subst (λ (z : ℕ). z < 2 ^ 53 * 2 ^ j * E) w b))
 
   -- the tests that lead to the digits
-  digits-is : E ≤ 2 * n → eq x one ≡ false → logOf x ≡ digitsOf 0 f t
+  digits-is : E ≤ 2 * n → eq x unit ≡ false → logOf x ≡ logDigits 0 f t
   unfolding isNan lt eq
   digits-is h d = log-bits x refl (not-negative m e) (ap (λ (b : Bool). b && (Bool·beq false false || eqb (n * 1) 0)) (ne-eqb (n * 1) (0 * 1 * E) (some n E (down-pos e) h))) refl d (le-ltb (m * up e * 2 ^ 1022) (1 * 1 * E) (wide n (2 ^ 1022) E h (leb→le 2 (2 ^ 1022) tt)))
     where
@@ -111,17 +110,17 @@ module _ (m : ℕ) (e : ℤ) (fx : T (fits binary64 (fin false m e))) where
       wide n P E h k = omega (arith, mul-le-mul-left n k)
 
   -- For x from 1 to 2, 1 left out and 2 too, log x is (w - 2 ^ 53) / 2 ^ 53, near the series at (x - 1) / (x + 1)
-  pub log-near-above : eq x one ≡ false → E ≤ n → n < 2 * E → (w : ℕ) × Bounded w × (logOf x ≡ differenceOf w (2 ^ 53)) × NearLog w (2 ^ 53) (n - E) (n + E)
+  pub log-near-above : eq x unit ≡ false → E ≤ n → n < 2 * E → (w : ℕ) × Bounded w × (logOf x ≡ differenceOf w (2 ^ 53)) × NearLog w (2 ^ 53) (n - E) (n + E)
   log-near-above d h k =
       let g = field-is 1022 (from n E (2 ^ 1074) h) (to n E (2 ^ 1074) (pow-pos 1074) k) in
       let v = value x fx tt ∙ ap (λ (z : ℕ). lead z t * E) g in
       let c = cancel n t E (2 ^ 1022) (pow-pos 1022) v in (
-        withinOf t,
+        logWithin t,
         (within-ge t t-lt, within-le t t-lt),
-        digits-is (double n E h) d ∙ ap (λ (z : ℕ). digitsOf 0 z t) g ∙ digits-above 1023 t (leb→le 1023 1023 tt) ∙ ap (λ (z : ℕ). differenceOf z (2 ^ 53)) (zero-add (withinOf t)),
-        near-scaled (withinOf t) (2 ^ 53) (n - E) (n + E) (2 ^ 52) (pow-pos 52)
-            (subst (λ (a : ℕ). NearLog (withinOf t) (2 ^ 53) a ((n + E) * 2 ^ 52)) (top n t E h c)
-            (subst (λ (b : ℕ). NearLog (withinOf t) (2 ^ 53) (t * E) b) (bottom n t E c) (near-raised (withinOf t) (2 ^ 53) t (2 ^ 53 + t) E (near-above t t-lt)))),
+        digits-is (double n E h) d ∙ ap (λ (z : ℕ). logDigits 0 z t) g ∙ digits-above 1023 t (leb→le 1023 1023 tt) ∙ ap (λ (z : ℕ). differenceOf z (2 ^ 53)) (zero-add (logWithin t)),
+        near-scaled (logWithin t) (2 ^ 53) (n - E) (n + E) (2 ^ 52) (pow-pos 52)
+            (subst (λ (a : ℕ). NearLog (logWithin t) (2 ^ 53) a ((n + E) * 2 ^ 52)) (top n t E h c)
+            (subst (λ (b : ℕ). NearLog (logWithin t) (2 ^ 53) (t * E) b) (bottom n t E c) (near-raised (logWithin t) (2 ^ 53) t (2 ^ 53 + t) E (near-above t t-lt)))),
       )
     where
       from : (n E P : ℕ) → E ≤ n → P * E ≤ n * P
@@ -143,17 +142,17 @@ module _ (m : ℕ) (e : ℤ) (fx : T (fits binary64 (fin false m e))) where
       bottom n t E c = omega arith
 
   -- For x from 1 / 2 to 1, 1 left out, log x is (w - p) / 2 ^ 53, where p - w is near the series at (1 - x) / (1 + x)
-  pub log-near-below : eq x one ≡ false → E ≤ 2 * n → n < E → (w : ℕ) × Bounded w × (logOf x ≡ differenceOf w (6243314768165359 + 2 ^ 53)) × NearLog (6243314768165359 + 2 ^ 53) w (E - n) (n + E)
+  pub log-near-below : eq x unit ≡ false → E ≤ 2 * n → n < E → (w : ℕ) × Bounded w × (logOf x ≡ differenceOf w (6243314768165359 + 2 ^ 53)) × NearLog (6243314768165359 + 2 ^ 53) w (E - n) (n + E)
   log-near-below d h k =
       let g = field-is 1021 (from n E (2 ^ 1073) h) (to n E (2 ^ 1074) (pow-pos 1074) k) in
       let v = value x fx tt ∙ ap (λ (z : ℕ). lead z t * E) g in
       let c = cancel n t E (2 ^ 1021) (pow-pos 1021) v in (
-        withinOf t,
+        logWithin t,
         (within-ge t t-lt, within-le t t-lt),
-        digits-is h d ∙ ap (λ (z : ℕ). digitsOf 0 z t) g ∙ digits-below 1022 t (leb→le 1023 1023 tt),
-        near-scaled (6243314768165359 + 2 ^ 53) (withinOf t) (E - n) (n + E) (2 ^ 53) (pow-pos 53)
-            (subst (λ (a : ℕ). NearLog (6243314768165359 + 2 ^ 53) (withinOf t) a ((n + E) * 2 ^ 53)) (top n t E t-lt c)
-            (subst (λ (b : ℕ). NearLog (6243314768165359 + 2 ^ 53) (withinOf t) ((2 ^ 52 - t) * E) b) (bottom n t E c) (near-raised (6243314768165359 + 2 ^ 53) (withinOf t) (2 ^ 52 - t) (3 * 2 ^ 52 + t) E (near-below t t-lt)))),
+        digits-is h d ∙ ap (λ (z : ℕ). logDigits 0 z t) g ∙ digits-below 1022 t (leb→le 1023 1023 tt),
+        near-scaled (6243314768165359 + 2 ^ 53) (logWithin t) (E - n) (n + E) (2 ^ 53) (pow-pos 53)
+            (subst (λ (a : ℕ). NearLog (6243314768165359 + 2 ^ 53) (logWithin t) a ((n + E) * 2 ^ 53)) (top n t E t-lt c)
+            (subst (λ (b : ℕ). NearLog (6243314768165359 + 2 ^ 53) (logWithin t) ((2 ^ 52 - t) * E) b) (bottom n t E c) (near-raised (6243314768165359 + 2 ^ 53) (logWithin t) (2 ^ 52 - t) (3 * 2 ^ 52 + t) E (near-below t t-lt)))),
       )
     where
       from : (n E P : ℕ) → E ≤ 2 * n → P * E ≤ n * (2 * P)

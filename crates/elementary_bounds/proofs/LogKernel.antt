@@ -1,14 +1,14 @@
 -- The kernel of log lies near its series. Assumes nothing.
-use mathlib.Core.Path.{_≡_, refl, sym, ap, _∙_, subst}
+use mathlib.Core.Path.{_≡_, sym, ap, subst}
 use mathlib.Core.List.{List, [], _∷_}
-use Prim.Native.Nat.{ℕ, zero, suc, _+_, _-_, _*_, _/_, _%_, _^_, _≤_, _<_}
+use Prim.Native.Nat.{ℕ, _+_, _*_, _/_, _%_, _^_, _≤_, _<_}
 use native.Mathlib.Omega.{arith}
-use native.Mathlib.Nat.{le-trans, le-of-lt, mul-le-mul, mul-le-mul-left, mul-le-mul-right, div-add-mod', mod-lt, zero-add}
-use lib.Dec.{T, leb, leb→le}
+use native.Mathlib.Nat.{le-trans, mul-le-mul, mul-le-mul-left, mul-le-mul-right}
+use lib.Dec.{leb→le}
 use lib.Pow.{pow-pos, shr-shr}
 use Rattle.elementary_bounds.specs.Series.{ev}
 use Rattle.fixed_point.specs.Fixed.{termOf}
-use Rattle.natural_logarithm.specs.Log.{tailOf, squareOf, log1mOf}
+use Rattle.natural_logarithm.specs.Log.{logTail, logSquare, log1mOf}
 use Rattle.fixed_point.proofs.Product.{below-mul}
 use Rattle.elementary_bounds.proofs.Series.{times, gap, slope, dilate, Below, start, term, cut-close}
 use Rattle.natural_logarithm.proofs.LogBound.{s-le, tail-le, square-le}
@@ -16,18 +16,18 @@ use Rattle.elementary_bounds.proofs.LogSeries.{tails, log1ms}
 
 -- ---- 1 / 2 + z / 3 + .. + z ^ 5 / 7, cut down
 
--- the exact polynomial that tailOf cuts down, over 2 ^ 190
+-- the exact polynomial that logTail cuts down, over 2 ^ 190
 abbrev nests : List ℕ
 nests = 4294967296 * 2 ^ 190 ∷ 2863311530 * 2 ^ 152 ∷ 2147483648 * 2 ^ 114 ∷ 1717986918 * 2 ^ 76 ∷ 1431655765 * 2 ^ 38 ∷ 1227133513 ∷ []
 
-tail-below : (s : ℕ) → s ≤ 2355575561 → Below (tailOf s) 2 (ev nests s) (2 ^ 190)
+tail-below : (s : ℕ) → s ≤ 2355575561 → Below (logTail s) 2 (ev nests s) (2 ^ 190)
 tail-below s h =
     let b₁ = term 1431655765 (2 ^ 38) s 1227133513 0 0 1227133513 1 (pow-pos 38) (none s) (start 1227133513) in
     let b₂ = term 1717986918 (2 ^ 38) s (termOf 1431655765 38 s 1227133513) 1 1 _ _ (pow-pos 38) (omega arith) b₁ in
     let b₃ = term 2147483648 (2 ^ 38) s (termOf 1717986918 38 s (termOf 1431655765 38 s 1227133513)) 2 1 _ _ (pow-pos 38) (omega arith) b₂ in
     let b₄ = term 2863311530 (2 ^ 38) s (termOf 2147483648 38 s (termOf 1717986918 38 s (termOf 1431655765 38 s 1227133513))) 2 1 _ _ (pow-pos 38) (omega arith) b₃ in
     let b₅ = term 4294967296 (2 ^ 38) s (termOf 2863311530 38 s (termOf 2147483648 38 s (termOf 1717986918 38 s (termOf 1431655765 38 s 1227133513)))) 2 1 _ _ (pow-pos 38) (omega arith) b₄ in
-    subst (λ (z : ℕ). Below (tailOf s) 2 z (2 ^ 190)) (nested s 4294967296 2863311530 2147483648 1717986918 1431655765 1227133513 (2 ^ 190) (2 ^ 152) (2 ^ 114) (2 ^ 76) (2 ^ 38)) b₅
+    subst (λ (z : ℕ). Below (logTail s) 2 z (2 ^ 190)) (nested s 4294967296 2863311530 2147483648 1717986918 1431655765 1227133513 (2 ^ 190) (2 ^ 152) (2 ^ 114) (2 ^ 76) (2 ^ 38)) b₅
   where
     none : (s : ℕ) → s * 0 ≤ 0 * 2 ^ 38
     none s = omega arith
@@ -47,10 +47,10 @@ module _ (Z : ℕ) (h : Z / 16 ≤ 2470000000000000) where
   l = z % 2 ^ 20
 
   abbrev q : ℕ
-  q = squareOf s l
+  q = logSquare s l
 
   abbrev y : ℕ
-  y = tailOf s
+  y = logTail s
 
   s-is : Z / 2 ^ 24 ≡ s
   s-is = sym (shr-shr Z 4 20)

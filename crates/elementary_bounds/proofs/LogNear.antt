@@ -1,16 +1,15 @@
 -- log lies within 2 ^ -44 of its series through the 39th power: from 1 to 2, and from 1 / 2 to 1. Assumes nothing.
-use mathlib.Core.Path.{_≡_, refl, sym, ap, _∙_, subst}
-use mathlib.Core.List.{List, [], _∷_}
-use Prim.Native.Nat.{ℕ, zero, suc, _+_, _-_, _*_, _/_, _%_, _^_, _≤_, _<_}
+use mathlib.Core.Path.{_≡_, sym, ap, _∙_, subst}
+use mathlib.Core.List.{[], _∷_}
+use Prim.Native.Nat.{ℕ, suc, _+_, _-_, _*_, _/_, _^_, _≤_, _<_}
 use native.Mathlib.Omega.{arith}
-use native.Mathlib.Nat.{le-trans, le-of-mul-le-mul-left, mul-le-mul-left, mul-le-mul-right, mul-pos, zero-add}
-use lib.Dec.{T, leb, leb→le}
+use native.Mathlib.Nat.{le-of-mul-le-mul-left, mul-le-mul-left, zero-add}
+use lib.Dec.{T, leb→le}
 use lib.ListN.{getD}
-use lib.Pow.{pow-pos}
 use Rattle.elementary_bounds.specs.Series.{ev, homogeneous, logSeries, NearLog}
-use Rattle.natural_logarithm.specs.Log.{reciprocals, logarithms, log1mOf, shortOf, withinOf}
-use Rattle.elementary_bounds.proofs.Series.{shift, shift-is, times, times-is, plus, plus-is, dilate, dilate-is, ev-mono}
-use Rattle.natural_logarithm.proofs.LogBound.{Inside, reciprocals-inside, short-le, log1m-le}
+use Rattle.natural_logarithm.specs.Log.{reciprocals, logarithms, log1mOf, shortOf, logWithin}
+use Rattle.elementary_bounds.proofs.Series.{shift, shift-is, times-is, plus-is, dilate, dilate-is, ev-mono}
+use Rattle.natural_logarithm.proofs.LogBound.{reciprocals-inside, short-le, log1m-le}
 use Rattle.elementary_bounds.proofs.LogSeries.{Balanced, upper, lowerAdding, lowerTaking, single, moved-is, log1ms, units, log1mAt, entryAt, turnAt, allowance, upper-fits, lower-fits}
 use Rattle.elementary_bounds.proofs.LogKernel.{log1m-close}
 use Rattle.elementary_bounds.proofs.LogSum.{upper-is, lower-is}
@@ -101,7 +100,7 @@ module _ (t : ℕ) (h : t < 2 ^ 52) where
   M-pos : 0 < 420 * 2 ^ 434
   M-pos = leb→le 1 (420 * 2 ^ 434) tt
 
-  cuts : (32 * withinOf t + k ≤ entry + 2 ^ 58) × (entry + 2 ^ 58 ≤ 32 * withinOf t + 32 + k)
+  cuts : (32 * logWithin t + k ≤ entry + 2 ^ 58) × (entry + 2 ^ 58 ≤ 32 * logWithin t + 32 + k)
   cuts = cut-in entry k (log1m-le (shortOf t r) (short-le t h))
 
   -- (y + 1) ^ 39 over 166966608033225, for y = 1 + t / 2 ^ 52 and for half of that
@@ -112,13 +111,13 @@ module _ (t : ℕ) (h : t < 2 ^ 52) where
   lowerUnit = 166966608033225 * ev (shift (3 * 2 ^ 52) (single 39)) t
 
   -- 1 and the logarithm of 1 + t / 2 ^ 52 are within 2 ^ -44 of 1 and the series
-  pub upper-near : (2 ^ 53 * ev (homogeneous (2 ^ 53) upper) t + 2 ^ 53 * upperUnit ≤ (withinOf t + 512) * upperUnit) × (withinOf t * upperUnit ≤ 2 ^ 53 * ev (homogeneous (2 ^ 53) upper) t + (2 ^ 53 + 512) * upperUnit)
+  pub upper-near : (2 ^ 53 * ev (homogeneous (2 ^ 53) upper) t + 2 ^ 53 * upperUnit ≤ (logWithin t + 512) * upperUnit) × (logWithin t * upperUnit ≤ 2 ^ 53 * ev (homogeneous (2 ^ 53) upper) t + (2 ^ 53 + 512) * upperUnit)
   upper-near =
       let S = ev (homogeneous (2 ^ 53) upper) t in
       let b = ev (shift (2 ^ 53) (single 39)) t in
       let f = subst (λ (j : ℕ). Balanced (420 * 2 ^ 492) (homogeneous (2 ^ 53) upper) [] (shift (2 ^ 53) (single 39)) (log1mAt j) (entryAt j) t v (allowance (2 ^ 53) j)) (zero-add i) (upper-fits i i-lt t v (v-is ∙ ap (λ (j : ℕ). suc j * 2 ^ 45) (sym (zero-add i))) v-le) in
       let f' = subst (λ (z : ℕ). (420 * 2 ^ 492 * S + b * z ≤ 420 * 2 ^ 492 * 0 + b * (units * entry + v * 0) + allowance (2 ^ 53) i) × (420 * 2 ^ 492 * 0 + b * (units * entry + v * 0) ≤ 420 * 2 ^ 492 * S + b * z + allowance (2 ^ 53) i)) log1m-at f in
-      upper-cut upperUnit S entry k (withinOf t) (cuts .0) (cuts .1)
+      upper-cut upperUnit S entry k (logWithin t) (cuts .0) (cuts .1)
       (le-of-mul-le-mul-left (upper-up (2 ^ 58) (420 * 2 ^ 434) 166966608033225 b S entry k (ev log1ms Z) v (allowance (2 ^ 53) i) (f' .0) (allowed (2 ^ 53)) (close .0)) M-pos)
       (le-of-mul-le-mul-left (upper-low (2 ^ 58) (420 * 2 ^ 434) 166966608033225 b S entry k (ev log1ms Z) v (allowance (2 ^ 53) i) (f' .1) (allowed (2 ^ 53)) (close .1)) M-pos)
 
@@ -126,36 +125,36 @@ module _ (t : ℕ) (h : t < 2 ^ 52) where
   turn-at = plus-is (units * (32 * 6243314768165359) ∷ []) (log1mAt i) v ∙ ap (λ (z : ℕ). units * (32 * 6243314768165359) + v * 0 + z) log1m-at
 
   -- and so for half of it, below 0
-  pub lower-near : (2 ^ 53 * ev (homogeneous (2 ^ 52) lowerAdding) t + withinOf t * lowerUnit ≤ 2 ^ 53 * ev (homogeneous (2 ^ 52) lowerTaking) t + (6243314768165359 + 2 ^ 53 + 512) * lowerUnit)
-      × (2 ^ 53 * ev (homogeneous (2 ^ 52) lowerTaking) t + (6243314768165359 + 2 ^ 53) * lowerUnit ≤ 2 ^ 53 * ev (homogeneous (2 ^ 52) lowerAdding) t + (withinOf t + 512) * lowerUnit)
+  pub lower-near : (2 ^ 53 * ev (homogeneous (2 ^ 52) lowerAdding) t + logWithin t * lowerUnit ≤ 2 ^ 53 * ev (homogeneous (2 ^ 52) lowerTaking) t + (6243314768165359 + 2 ^ 53 + 512) * lowerUnit)
+      × (2 ^ 53 * ev (homogeneous (2 ^ 52) lowerTaking) t + (6243314768165359 + 2 ^ 53) * lowerUnit ≤ 2 ^ 53 * ev (homogeneous (2 ^ 52) lowerAdding) t + (logWithin t + 512) * lowerUnit)
   lower-near =
       let A = ev (homogeneous (2 ^ 52) lowerAdding) t in
       let O = ev (homogeneous (2 ^ 52) lowerTaking) t in
       let b = ev (shift (3 * 2 ^ 52) (single 39)) t in
       let f = subst (λ (j : ℕ). Balanced (420 * 2 ^ 492) (homogeneous (2 ^ 52) lowerAdding) (homogeneous (2 ^ 52) lowerTaking) (shift (3 * 2 ^ 52) (single 39)) (entryAt j) (turnAt j) t v (allowance (3 * 2 ^ 52) j)) (zero-add i) (lower-fits i i-lt t v (v-is ∙ ap (λ (j : ℕ). suc j * 2 ^ 45) (sym (zero-add i))) v-le) in
       let f' = subst (λ (z : ℕ). (420 * 2 ^ 492 * A + b * (units * entry + v * 0) ≤ 420 * 2 ^ 492 * O + b * z + allowance (3 * 2 ^ 52) i) × (420 * 2 ^ 492 * O + b * z ≤ 420 * 2 ^ 492 * A + b * (units * entry + v * 0) + allowance (3 * 2 ^ 52) i)) turn-at f in
-      lower-cut lowerUnit A O entry 6243314768165359 k (withinOf t) (cuts .0) (cuts .1)
+      lower-cut lowerUnit A O entry 6243314768165359 k (logWithin t) (cuts .0) (cuts .1)
       (le-of-mul-le-mul-left (lower-up (2 ^ 58) (420 * 2 ^ 434) 166966608033225 b A O entry (32 * 6243314768165359) k (ev log1ms Z) v (allowance (3 * 2 ^ 52) i) (f' .0) (allowed (3 * 2 ^ 52)) (close .1)) M-pos)
       (le-of-mul-le-mul-left (lower-low (2 ^ 58) (420 * 2 ^ 434) 166966608033225 b A O entry (32 * 6243314768165359) k (ev log1ms Z) v (allowance (3 * 2 ^ 52) i) (f' .1) (allowed (3 * 2 ^ 52)) (close .0)) M-pos)
 
   -- ---- the same by the series' own terms
 
-  pub near-above : NearLog (withinOf t) (2 ^ 53) t (2 ^ 53 + t)
+  pub near-above : NearLog (logWithin t) (2 ^ 53) t (2 ^ 53 + t)
   near-above =
       let C = 166966608033225 * (2 ^ 53 + t) ^ 39 in
-      let n = subst (λ (S : ℕ). (2 ^ 53 * S + 2 ^ 53 * C ≤ (withinOf t + 512) * C) × (withinOf t * C ≤ 2 ^ 53 * S + (2 ^ 53 + 512) * C)) (upper-is t)
-      (subst (λ (b : ℕ). (2 ^ 53 * ev (homogeneous (2 ^ 53) upper) t + 2 ^ 53 * (166966608033225 * b) ≤ (withinOf t + 512) * (166966608033225 * b)) × (withinOf t * (166966608033225 * b) ≤ 2 ^ 53 * ev (homogeneous (2 ^ 53) upper) t + (2 ^ 53 + 512) * (166966608033225 * b))) (moved-is (2 ^ 53) 39 t) upper-near) in
+      let n = subst (λ (S : ℕ). (2 ^ 53 * S + 2 ^ 53 * C ≤ (logWithin t + 512) * C) × (logWithin t * C ≤ 2 ^ 53 * S + (2 ^ 53 + 512) * C)) (upper-is t)
+      (subst (λ (b : ℕ). (2 ^ 53 * ev (homogeneous (2 ^ 53) upper) t + 2 ^ 53 * (166966608033225 * b) ≤ (logWithin t + 512) * (166966608033225 * b)) × (logWithin t * (166966608033225 * b) ≤ 2 ^ 53 * ev (homogeneous (2 ^ 53) upper) t + (2 ^ 53 + 512) * (166966608033225 * b))) (moved-is (2 ^ 53) 39 t) upper-near) in
       record { above = n .0; under = n .1 }
 
-  pub near-below : NearLog (6243314768165359 + 2 ^ 53) (withinOf t) (2 ^ 52 - t) (3 * 2 ^ 52 + t)
+  pub near-below : NearLog (6243314768165359 + 2 ^ 53) (logWithin t) (2 ^ 52 - t) (3 * 2 ^ 52 + t)
   near-below =
       let C = 166966608033225 * (3 * 2 ^ 52 + t) ^ 39 in
       let A = ev (homogeneous (2 ^ 52) lowerAdding) t in
       let O = ev (homogeneous (2 ^ 52) lowerTaking) t in
       let S = logSeries (2 ^ 52 - t) (3 * 2 ^ 52 + t) in
       let e = lower-is (2 ^ 52 - t) t (meets t h) in
-      let n = subst (λ (b : ℕ). (2 ^ 53 * A + withinOf t * (166966608033225 * b) ≤ 2 ^ 53 * O + (6243314768165359 + 2 ^ 53 + 512) * (166966608033225 * b)) × (2 ^ 53 * O + (6243314768165359 + 2 ^ 53) * (166966608033225 * b) ≤ 2 ^ 53 * A + (withinOf t + 512) * (166966608033225 * b))) (moved-is (3 * 2 ^ 52) 39 t) lower-near in
-      record { above = up A O S (withinOf t * C) C e (n .0); under = low A O S ((withinOf t + 512) * C) C e (n .1) }
+      let n = subst (λ (b : ℕ). (2 ^ 53 * A + logWithin t * (166966608033225 * b) ≤ 2 ^ 53 * O + (6243314768165359 + 2 ^ 53 + 512) * (166966608033225 * b)) × (2 ^ 53 * O + (6243314768165359 + 2 ^ 53) * (166966608033225 * b) ≤ 2 ^ 53 * A + (logWithin t + 512) * (166966608033225 * b))) (moved-is (3 * 2 ^ 52) 39 t) lower-near in
+      record { above = up A O S (logWithin t * C) C e (n .0); under = low A O S ((logWithin t + 512) * C) C e (n .1) }
     where
       meets : (t : ℕ) → t < 2 ^ 52 → 2 ^ 52 - t + t ≡ 2 ^ 52
       meets t h = omega arith

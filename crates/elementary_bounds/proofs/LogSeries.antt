@@ -1,16 +1,16 @@
 -- The tables of log against its series: computed tests over the tables, piece by piece, and what they say of every argument. Assumes nothing.
-use mathlib.Core.Path.{_≡_, refl, sym, ap, _∙_, subst}
+use mathlib.Core.Path.{_≡_, sym, ap, _∙_, subst}
 use mathlib.Core.Bool.{Bool, true, false, _&&_}
 use mathlib.Core.List.{List, [], _∷_}
-use Prim.Native.Nat.{ℕ, zero, suc, _+_, _-_, _*_, _/_, _%_, _^_, _≤_, _<_}
+use Prim.Native.Nat.{ℕ, zero, suc, _+_, _-_, _*_, _^_, _≤_, _<_}
 use native.Mathlib.Omega.{arith}
 use native.Mathlib.Nat.{not-suc-le-zero, le-of-suc-le-suc, suc-add, add-suc, add-zero, zero-add, pow-zero, pow-succ'}
-use lib.ListN.{length, getD}
+use lib.ListN.{getD}
 use lib.Dec.{T, leb, leb→le}
 use lib.Ieee.Fits.{and-l, and-r}
 use Rattle.elementary_bounds.specs.Series.{ev, homogeneous}
 use Rattle.natural_logarithm.specs.Log.{reciprocals, logarithms}
-use Rattle.elementary_bounds.proofs.Series.{shift, shift-is, times, times-is, plus, plus-is, product, product-is, part, below-centre, dilate, dilate-is, gap, near}
+use Rattle.elementary_bounds.proofs.Series.{shift, shift-is, times, times-is, plus, plus-is, product, product-is, part, below-centre, dilate, gap, near}
 
 -- ---- polynomials at c - v, each as its even terms about c less its odd ones, with factors k and l that are polynomials in v
 

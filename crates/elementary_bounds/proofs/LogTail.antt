@@ -12,11 +12,11 @@ use lib.Ieee.{Float, nan, inf, fin, binary64, up, down, fits, toBits, round, neg
 use lib.Ieee.Exact.{HasValue}
 use lib.Ieee.Fits.{down-pos, round-fits}
 use lib.Ieee.Order.{round-mono}
-use Rattle.fixed_point.specs.Float.{Within, one, nought, tiny, lift}
+use Rattle.fixed_point.specs.Float.{Within, unit, nought, tiny, lift}
 use Rattle.fixed_point.proofs.Decode.{lead, field, digits, value}
 use Rattle.fixed_point.proofs.Range.{clash, not-negative}
 use Rattle.fixed_point.proofs.Rounded.{round-no-nan}
-use Rattle.natural_logarithm.specs.Log.{withinOf, fractionOf, differenceOf, digitsOf, logOf}
+use Rattle.natural_logarithm.specs.Log.{logWithin, fractionOf, differenceOf, logDigits, logOf}
 use Rattle.natural_logarithm.proofs.LogBound.{within-ge, within-le}
 use Rattle.natural_logarithm.proofs.LogCases.{difference-plus, difference-minus, reached, log-one, log-tiny, log-bits}
 use Rattle.elementary_bounds.specs.Theorems.{negative, LogTail, LogSize}
@@ -65,7 +65,7 @@ not-zero m e h =
     let d = down e in
     ap (λ (b : Bool). b && (Bool·beq false false || eqb (n * 1) 0)) (ne-eqb (n * 1) (0 * 1 * d) (apart n d (ltb-true (0 * 1 * d) (n * 1) h)))
 
-not-one : (m : ℕ) (e : ℤ) → lt (fin false m e) tiny ≡ true → eq (fin false m e) one ≡ false
+not-one : (m : ℕ) (e : ℤ) → lt (fin false m e) tiny ≡ true → eq (fin false m e) unit ≡ false
 unfolding lt eq
 not-one m e h =
     let n = m * up e in
@@ -144,10 +144,10 @@ difference-within p n h k = go (ltb p n) refl
     go true e = subst (λ (y : Float). Within y 1024) (sym (difference-minus p n (ltb-true p n e))) (neg-within (fractionOf (n - p)) 1024 (fraction-within (n - p) (less n p k)))
     go false e = subst (λ (y : Float). Within y 1024) (sym (difference-plus p n (ltb-false p n e))) (fraction-within (p - n) (less p n h))
 
-digits-within : (k e t : ℕ) → k ≤ 54 → e < 2048 → t < 2 ^ 52 → Within (digitsOf k e t) 1024
+digits-within : (k e t : ℕ) → k ≤ 54 → e < 2048 → t < 2 ^ 52 → Within (logDigits k e t) 1024
 digits-within k e t h l g =
-    let b = bounds k e (withinOf t) h l (within-ge t g) (within-le t g) in
-    difference-within (e * 6243314768165359 + withinOf t) ((1023 + k) * 6243314768165359 + 2 ^ 53) (b .0) (b .1)
+    let b = bounds k e (logWithin t) h l (within-ge t g) (within-le t g) in
+    difference-within (e * 6243314768165359 + logWithin t) ((1023 + k) * 6243314768165359 + 2 ^ 53) (b .0) (b .1)
   where
     bounds : (k e w : ℕ) → k ≤ 54 → e < 2048 → 8929000000000000 ≤ w → w ≤ 15300000000000000
         → (e * 6243314768165359 + w ≤ (1023 + k) * 6243314768165359 + 2 ^ 53 + 2 ^ 63) × ((1023 + k) * 6243314768165359 + 2 ^ 53 ≤ e * 6243314768165359 + w + 2 ^ 63)
@@ -156,7 +156,7 @@ digits-within k e t h l g =
 field-lt : (b : ℕ) → b % 2 ^ 63 / 2 ^ 52 < 2048
 field-lt b = omega arith
 
-bits-within : (k : ℕ) (y : Float) → k ≤ 54 → Within (digitsOf k (toBits binary64 y % 2 ^ 63 / 2 ^ 52) (toBits binary64 y % 2 ^ 63 % 2 ^ 52)) 1024
+bits-within : (k : ℕ) (y : Float) → k ≤ 54 → Within (logDigits k (toBits binary64 y % 2 ^ 63 / 2 ^ 52) (toBits binary64 y % 2 ^ 63 % 2 ^ 52)) 1024
 bits-within k y h = digits-within k (toBits binary64 y % 2 ^ 63 / 2 ^ 52) (toBits binary64 y % 2 ^ 63 % 2 ^ 52) h (field-lt (toBits binary64 y)) (mod-lt (toBits binary64 y % 2 ^ 63) (pow-pos 52))
 
 pub log-size : LogSize
@@ -165,12 +165,12 @@ log-size nan fx a c = clash (sym a)
 log-size (inf true) fx a c = clash (sym a)
 log-size (inf false) fx a c = clash c
 log-size (fin true m i) fx a c = clash (sym a)
-log-size (fin false m i) fx a c = go (eq (fin false m i) one) refl (lt (fin false m i) tiny) refl
+log-size (fin false m i) fx a c = go (eq (fin false m i) unit) refl (lt (fin false m i) tiny) refl
   where
     z : eq (fin false m i) nought ≡ false
     z = not-zero m i a
 
-    go : (o : Bool) → eq (fin false m i) one ≡ o → (b : Bool) → lt (fin false m i) tiny ≡ b → Within (logOf (fin false m i)) 1024
+    go : (o : Bool) → eq (fin false m i) unit ≡ o → (b : Bool) → lt (fin false m i) tiny ≡ b → Within (logOf (fin false m i)) 1024
     go true o b l = subst (λ (y : Float). Within y 1024) (sym (log-one (fin false m i) refl (not-negative m i) z refl o)) (lit≤ {m = 0} {n = 1024} tt)
     go false o true l = subst (λ (y : Float). Within y 1024) (sym (log-tiny (fin false m i) refl (not-negative m i) z refl o l)) (bits-within 54 (mul binary64 (fin false m i) lift) (lit≤ {m = 54} {n = 54} tt))
     go false o false l = subst (λ (y : Float). Within y 1024) (sym (log-bits (fin false m i) refl (not-negative m i) z refl o l)) (bits-within 0 (fin false m i) (lit≤ {m = 0} {n = 54} tt))

@@ -1,13 +1,13 @@
 -- log at 2, and its value where it is at most 1 in size. Assumes nothing.
 use mathlib.Core.Path.{_≡_, refl, ap}
 use mathlib.Core.Bool.{false}
-use Prim.Native.Nat.{ℕ, _*_, _/_, _^_, _<_}
+use Prim.Native.Nat.{ℕ, _*_, _^_, _<_}
 use native.Mathlib.Omega.{arith}
 use native.Mathlib.Nat.{lt-of-lt-of-le}
 use lib.Dec.{leb→le, lit≤}
 use lib.IntN.{pos}
 use lib.Pow.{pow-pos, pow-mono, shl-lt}
-use lib.Ieee.{fin, binary64, toBits, size, lt, eq, isNan}
+use lib.Ieee.{fin, binary64, toBits, lt, eq, isNan}
 use lib.Ieee.Exact.{HasValue, round-exact}
 use Rattle.elementary_bounds.specs.Series.{NearLog}
 use Rattle.natural_logarithm.specs.Log.{reciprocals, logarithms, fractionOf, differenceOf, logOf}

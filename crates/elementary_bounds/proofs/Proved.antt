@@ -1,19 +1,18 @@
 -- The theorems of `specs/Theorems.antt`. Assumes nothing.
 use mathlib.Core.Path.{_≡_, refl, sym, ap, _∙_, subst}
 use mathlib.Core.Logic.{_⊎_, inl, inr}
-use mathlib.Core.Bool.{Bool, true, false, not, cond, _&&_, _||_, Bool·beq}
+use mathlib.Core.Bool.{Bool, true, false, not, _&&_, _||_, Bool·beq}
 use Prim.Native.Nat.{ℕ, zero, suc, _+_, _-_, _*_, _^_, _≤_, _<_}
 use native.Mathlib.Omega.{arith}
-use native.Mathlib.Nat.{zero-mul, one-mul, mul-le-mul-left, not-suc-le-zero, le-of-suc-le-suc, le-trans, eq-or-lt-of-le}
+use native.Mathlib.Nat.{zero-mul, one-mul, not-suc-le-zero, le-of-suc-le-suc, le-trans, eq-or-lt-of-le}
 use borrow.Author.Tests.{lt-ltb, ltb-true, ltb-false, eq-eqb, ne-eqb}
 use lib.Dec.{T, ltb, leb→le, eqb, eqb→eq}
-use lib.IntN.{ℤ, pos, negsuc}
-use lib.Count.{trailingZeros}
-use lib.Ieee.{Float, nan, inf, fin, binary64, up, down, fits, mul, neg, lt, eq, isNan, ofInt, round, size, span, climb, units, odd, toUnsigned}
+use lib.IntN.{ℤ, pos}
+use lib.Ieee.{Float, nan, inf, fin, binary64, up, down, fits, neg, lt, eq, isNan, ofInt, round, toUnsigned}
 use lib.Ieee.Back.{whole-unique}
 use lib.Ieee.Exact.{HasValue}
 use lib.Ieee.Fits.{and-l, and-r, down-pos}
-use Rattle.fixed_point.specs.Float.{Within, over, one, nought}
+use Rattle.fixed_point.specs.Float.{over, unit, nought}
 use Rattle.fixed_point.proofs.Range.{clash, not-negative, passes-left, passes-right}
 use Rattle.natural_exponential.specs.Exp.{coarse, fine, expOf, most, least}
 use Rattle.natural_exponential.proofs.Cases.{exp-most, exp-least, least-most}
@@ -24,7 +23,7 @@ use Rattle.circular_functions.specs.Trig.{sinOf, cosOf}
 use Rattle.circular_functions.proofs.TrigCases.{sin-over, cos-over}
 use Rattle.square_root.specs.Root.{sqrtOf}
 use Rattle.square_root.proofs.RootCases.{sqrt-negative}
-use Rattle.elementary.specs.Pow.{wholeOf, productOf, powOf}
+use Rattle.elementary.specs.Pow.{wholeExponent, powerProduct, powOf}
 use Rattle.elementary.proofs.PowCases.{pow-two, pow-whole, pow-of-zero, pow-of-infinity, pow-rest, sides-above, sides-below, rest-negative, rest-nan, rest-nan-exponent, rest-is}
 use Rattle.elementary_bounds.specs.Series.{NearLog}
 use Rattle.elementary_bounds.specs.Theorems.{numerator, denominator, HasDifference, ExpNear, ExpTail, ExpKept, ExpSome, ExpPlus, SinNear, CosNear, LogNear, LogTail, LogSize, SinSize, CosSize, SqrtNear, ExpZero, ExpEnds, LogEnds, SinCosZero, SinBeyond, CosBeyond, SqrtEnds, PowTwo, PowRules, PowWhole, PowLast}
@@ -33,7 +32,7 @@ use Rattle.elementary_bounds.proofs.ExpTail.{exp-tail, exp-kept, exp-pl
 use Rattle.elementary_bounds.proofs.ExpSome.{exp-some}
 use Rattle.elementary_bounds.proofs.LogTail.{log-tail, log-size}
 use Rattle.elementary_bounds.proofs.TrigNear.{sin-near, cos-near, sin-size, cos-size}
-use Rattle.elementary_bounds.proofs.LogFloat.{Bounded, near-raised, log-near-above, log-near-below}
+use Rattle.elementary_bounds.proofs.LogFloat.{near-raised, log-near-above, log-near-below}
 use Rattle.elementary_bounds.proofs.RootNear.{root-near}
 use Rattle.elementary_bounds.proofs.LogValues.{log-two, log-two-near, fraction-value}
 
@@ -113,14 +112,14 @@ module _ (m : ℕ) (e : ℤ) (fx : T (fits binary64 (fin false m e))) where
   abbrev d : ℕ
   d = down e
 
-  equal-one : n ≡ d → eq x one ≡ true
+  equal-one : n ≡ d → eq x unit ≡ true
   unfolding eq
   equal-one h = ap (λ (b : Bool). b && (Bool·beq false false || eqb (n * 1) 0)) (eq-eqb (n * 1) (1 * d) (ones n d h))
     where
       ones : (n d : ℕ) → n ≡ d → n * 1 ≡ 1 * d
       ones n d h = omega arith
 
-  one-equal : eq x one ≡ true → n ≡ d
+  one-equal : eq x unit ≡ true → n ≡ d
   unfolding eq
   one-equal h = ones n d (eqb→eq (n * 1) (1 * d) (and-l (eqb (n * 1) (1 * d)) (Bool·beq false false || eqb (n * 1) 0) (subst T (sym h) tt)))
     where
@@ -128,7 +127,7 @@ module _ (m : ℕ) (e : ℤ) (fx : T (fits binary64 (fin false m e))) where
       ones n d h = omega arith
 
   -- at 1
-  at-one : eq x one ≡ true → Joined (logOf x) n d 0 0
+  at-one : eq x unit ≡ true → Joined (logOf x) n d 0 0
   unfolding isNan lt eq
   at-one h =
       let s = one-equal h in
@@ -141,7 +140,7 @@ module _ (m : ℕ) (e : ℤ) (fx : T (fits binary64 (fin false m e))) where
       some : (n d : ℕ) → n ≡ d → 0 < d → n * 1 ≡ 0 * 1 * d → ⊥
       some n d e p z = omega arith
 
-      not-zero : eq x one ≡ true → eq x nought ≡ false
+      not-zero : eq x unit ≡ true → eq x nought ≡ false
       not-zero h = ap (λ (b : Bool). b && (Bool·beq false false || eqb (n * 1) 0)) (ne-eqb (n * 1) (0 * 1 * d) (some n d (one-equal h) (down-pos e)))
 
       none : (n d : ℕ) → n ≡ d → 0 ≡ n - d
@@ -150,11 +149,11 @@ module _ (m : ℕ) (e : ℤ) (fx : T (fits binary64 (fin false m e))) where
       nothing : (b : ℕ) → NearLog 0 0 0 b
       nothing b = subst (λ (z : ℕ). NearLog 0 0 0 z) (one-mul b) (subst (λ (z : ℕ). NearLog 0 0 z (1 * b)) (zero-mul b) (near-raised 0 0 0 1 b (record { above = leb→le _ _ tt; under = leb→le _ _ tt })))
 
-  apart : eq x one ≡ false → n ≡ d → ⊥
+  apart : eq x unit ≡ false → n ≡ d → ⊥
   apart h e = clash (sym (equal-one e) ∙ h)
 
   -- below 1
-  at-below : eq x one ≡ false → d ≤ 2 * n → n < d → (p : ℕ) × (q : ℕ) × Joined (logOf x) n d p q
+  at-below : eq x unit ≡ false → d ≤ 2 * n → n < d → (p : ℕ) × (q : ℕ) × Joined (logOf x) n d p q
   at-below o h l =
       let z = log-near-below m e fx o h l in
       let w = z .0 in (
@@ -177,7 +176,7 @@ module _ (m : ℕ) (e : ℤ) (fx : T (fits binary64 (fin false m e))) where
       no n d l g = omega arith
 
   -- between 1 and 2
-  at-above : eq x one ≡ false → d ≤ n → n < 2 * d → (p : ℕ) × (q : ℕ) × Joined (logOf x) n d p q
+  at-above : eq x unit ≡ false → d ≤ n → n < 2 * d → (p : ℕ) × (q : ℕ) × Joined (logOf x) n d p q
   at-above o h l =
       let z = log-near-above m e fx o h l in
       let w = z .0 in (
@@ -222,12 +221,12 @@ module _ (m : ℕ) (e : ℤ) (fx : T (fits binary64 (fin false m e))) where
       no n d h g p = omega arith
 
   joined : d ≤ 2 * n → n ≤ 2 * d → (p : ℕ) × (q : ℕ) × Joined (logOf x) n d p q
-  joined h k = go (eq x one) refl (ltb n d) refl (ltb n (2 * d)) refl
+  joined h k = go (eq x unit) refl (ltb n d) refl (ltb n (2 * d)) refl
     where
       two : (n d : ℕ) → n ≤ 2 * d → 2 * d ≤ n → n ≡ 2 * d
       two n d h k = omega arith
 
-      go : (a : Bool) → eq x one ≡ a → (b : Bool) → ltb n d ≡ b → (c : Bool) → ltb n (2 * d) ≡ c → (p : ℕ) × (q : ℕ) × Joined (logOf x) n d p q
+      go : (a : Bool) → eq x unit ≡ a → (b : Bool) → ltb n d ≡ b → (c : Bool) → ltb n (2 * d) ≡ c → (p : ℕ) × (q : ℕ) × Joined (logOf x) n d p q
       go true o b u c v = (0, 0, at-one o)
       go false o true u c v = at-below o h (ltb-true n d u)
       go false o false u true v = at-above o (ltb-false n d u) (ltb-true n (2 * d) v)
@@ -323,25 +322,25 @@ SqrtEnds-is = (sqrt-zeros, refl, refl, λ x h. sqrt-negative x (passes-left x no
 pub PowTwo-is : PowTwo
 PowTwo-is = pow-two
 
-pow-zeros : (b : Float) (s : Bool) → powOf b (fin s 0 (pos 0)) ≡ one
+pow-zeros : (b : Float) (s : Bool) → powOf b (fin s 0 (pos 0)) ≡ unit
 unfolding powOf eq
 pow-zeros b true = refl
 pow-zeros b false = refl
 
 pub PowRules-is : PowRules
-unfolding powOf wholeOf eq lt toUnsigned ofInt round
+unfolding powOf wholeExponent eq lt toUnsigned ofInt round
 PowRules-is = (pow-zeros, λ b. refl)
 
 -- the whole numbers from 1 to k are found to be whole
 abbrev whole : ℕ → Bool
-whole n = eqb (wholeOf (ofInt binary64 (pos n))) n && not (eq (ofInt binary64 (pos n)) nought)
+whole n = eqb (wholeExponent (ofInt binary64 (pos n))) n && not (eq (ofInt binary64 (pos n)) nought)
 
 abbrev wholes : ℕ → Bool
 wholes zero = true
 wholes (suc n) = whole (suc n) && wholes n
 
 wholes-test : T (wholes 32)
-unfolding wholeOf eq lt toUnsigned ofInt round
+unfolding wholeExponent eq lt toUnsigned ofInt round
 wholes-test = tt
 
 wholes-are : (k n : ℕ) → T (wholes k) → 1 ≤ n → n ≤ k → T (whole n)
@@ -360,9 +359,9 @@ pub PowWhole-is : PowWhole
 PowWhole-is b n h l =
     let x = ofInt binary64 (pos n) in
     let t = wholes-are 32 n wholes-test h l in
-    let w : wholeOf x ≡ n = eqb→eq (wholeOf x) n (and-l (eqb (wholeOf x) n) (not (eq x nought)) t) in
-    let z : eq x nought ≡ false = negated (eq x nought) (and-r (eqb (wholeOf x) n) (not (eq x nought)) t) in
-    pow-whole b x z (subst (λ (k : ℕ). 1 ≤ k) (sym w) h) ∙ ap (λ (k : ℕ). productOf b (k - 1)) w
+    let w : wholeExponent x ≡ n = eqb→eq (wholeExponent x) n (and-l (eqb (wholeExponent x) n) (not (eq x nought)) t) in
+    let z : eq x nought ≡ false = negated (eq x nought) (and-r (eqb (wholeExponent x) n) (not (eq x nought)) t) in
+    pow-whole b x z (subst (λ (k : ℕ). 1 ≤ k) (sym w) h) ∙ ap (λ (k : ℕ). powerProduct b (k - 1)) w
 
 pub PowLast-is : PowLast
 PowLast-is b e z w h = (

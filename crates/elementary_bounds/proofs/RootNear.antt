@@ -1,13 +1,13 @@
 -- The square root by its value: x lies between the squares of the root's neighbours' halves. Assumes nothing.
 use mathlib.Core.Path.{_≡_, refl, sym, ap, _∙_, subst}
 use mathlib.Core.Bool.{Bool, true, false, cond, _&&_, _||_, Bool·beq}
-use Prim.Native.Nat.{ℕ, zero, suc, _+_, _-_, _*_, _/_, _%_, _^_, _≤_, _<_, zero-le}
+use Prim.Native.Nat.{ℕ, zero, suc, _+_, _-_, _*_, _/_, _%_, _^_, _≤_, _<_}
 use native.Mathlib.Omega.{arith}
-use native.Mathlib.Nat.{add-comm, le-add-right, lt-of-lt-of-le, le-of-mul-le-mul-right, mul-le-mul-left, one-mul, le-trans, lt-of-le-of-lt, lt-of-not-le, mod-lt, mul-le-mul, pow-succ', zero-add, mul-lt-mul-of-pos-right, mul-le-mul-right, lt-of-mul-lt-mul-right, mul-pos}
+use native.Mathlib.Nat.{add-comm, le-add-right, lt-of-lt-of-le, le-of-mul-le-mul-right, mul-le-mul-left, one-mul, mod-lt, mul-le-mul, pow-succ', zero-add, mul-lt-mul-of-pos-right, mul-le-mul-right, lt-of-mul-lt-mul-right, mul-pos}
 use borrow.Author.Tests.{ltb-true, ltb-false, lt-ltb, le-ltb, lt-leb, ne-eqb}
-use lib.Dec.{T, ltb, leb, eqb, leb→le, lit≤, lit<}
+use lib.Dec.{T, ltb, eqb, leb→le, lit≤}
 use lib.Pow.{pow-pos, pow-mono, pow-add, shl-lt}
-use lib.IntN.{ℤ, pos}
+use lib.IntN.{ℤ}
 use lib.Ieee.{Float, nan, inf, fin, binary64, up, down, odd, fits, isNan, lt, eq, mul, round, ofFields, ofBits, toBits}
 use lib.Ieee.Exact.{HasValue, odd-sign, round-exact}
 use lib.Ieee.Fits.{down-pos, round-fits}
@@ -16,17 +16,17 @@ use Rattle.square_root.proofs.RootCases.{sqrt-normal, sqrt-tiny}
 use Rattle.square_root.proofs.Squares.{radicand-le}
 use Rattle.fixed_point.proofs.Product.{below-mul}
 use Rattle.fixed_point.proofs.Decode.{lead, field, digits, value}
-use Rattle.square_root.specs.Root.{Nearest, digitsOf, nearestOf, radicandOf, rootOf, sqrtOf}
+use Rattle.square_root.specs.Root.{rootDigits, nearestOf, radicandOf, rootOf, sqrtOf}
 
 -- ---- the definition's digits give the nearest root
 
 abbrev Lower : ℕ → ℕ → Type 0
 Lower a r = (2 * r - 1) * (2 * r - 1) < a * 2 ^ 54
 
-abbrev Upper : ℕ → ℕ → Type 0
-Upper a r = a * 2 ^ 54 ≤ (2 * r - 1) * (2 * r - 1)
+abbrev Gts7Output : ℕ → ℕ → Type 0
+Gts7Output a r = a * 2 ^ 54 ≤ (2 * r - 1) * (2 * r - 1)
 
-digits-near : (a n r : ℕ) → Lower a r → Upper a (r + 2 ^ n) → Lower a (digitsOf a n r) × Upper a (digitsOf a n r + 1) × (digitsOf a n r < r + 2 ^ n)
+digits-near : (a n r : ℕ) → Lower a r → Gts7Output a (r + 2 ^ n) → Lower a (rootDigits a n r) × Gts7Output a (rootDigits a n r + 1) × (rootDigits a n r < r + 2 ^ n)
 digits-near a zero r l u = (l, u, next r)
   where
     next : (r : ℕ) → r < r + 1
@@ -49,15 +49,15 @@ digits-near a (suc n) r l u = go (digits-near a n (r + 2 ^ n)) (digits-near a n 
         more R r w v e h = omega arith
 
     Found : ℕ → ℕ → Type 0
-    Found R w = Lower a R × Upper a (R + 1) × (R < w)
+    Found R w = Lower a R × Gts7Output a (R + 1) × (R < w)
 
-    go : (Lower a m → Upper a (m + 2 ^ n) → Found (digitsOf a n m) (m + 2 ^ n)) → (Lower a r → Upper a (r + 2 ^ n) → Found (digitsOf a n r) (r + 2 ^ n)) → (b : Bool) → ltb ((2 * m - 1) * (2 * m - 1)) (a * 2 ^ 54) ≡ b → Found (digitsOf a n (cond b m r)) (r + 2 ^ suc n)
+    go : (Lower a m → Gts7Output a (m + 2 ^ n) → Found (rootDigits a n m) (m + 2 ^ n)) → (Lower a r → Gts7Output a (r + 2 ^ n) → Found (rootDigits a n r) (r + 2 ^ n)) → (b : Bool) → ltb ((2 * m - 1) * (2 * m - 1)) (a * 2 ^ 54) ≡ b → Found (rootDigits a n (cond b m r)) (r + 2 ^ suc n)
     go f g true e =
-        let z = f (ltb-true ((2 * m - 1) * (2 * m - 1)) (a * 2 ^ 54) e) (subst (Upper a) halves u) in
-        (z .0, z .1, subst (λ (w : ℕ). digitsOf a n m < w) (sym halves) (z .2))
+        let z = f (ltb-true ((2 * m - 1) * (2 * m - 1)) (a * 2 ^ 54) e) (subst (Gts7Output a) halves u) in
+        (z .0, z .1, subst (λ (w : ℕ). rootDigits a n m < w) (sym halves) (z .2))
     go f g false e =
         let z = g l (ltb-false ((2 * m - 1) * (2 * m - 1)) (a * 2 ^ 54) e) in
-        (z .0, z .1, wider (digitsOf a n r) (z .2))
+        (z .0, z .1, wider (rootDigits a n r) (z .2))
 
 -- both ends, and 53 digits
 pub record Found (a r : ℕ) : Type 0 where
@@ -70,13 +70,13 @@ pub nearest-found : (a : ℕ) → 2 ^ 52 ≤ a → a + 2 ≤ 2 ^ 54 → Found a 
 unfolding nearestOf
 nearest-found a h k =
     let z = digits-near a 53 0 (first a h) (last a k) in
-    let o = odd-end a (digitsOf a 53 0) (z .1) in
-    record { under = z .0; over = o; least = lt-of-not-le-suc (digitsOf a 53 0) o; most = subst (λ (n : ℕ). digitsOf a 53 0 < n) (zero-add (2 ^ 53)) (z .2) }
+    let o = odd-end a (rootDigits a 53 0) (z .1) in
+    record { under = z .0; over = o; least = lt-of-not-le-suc (rootDigits a 53 0) o; most = subst (λ (n : ℕ). rootDigits a 53 0 < n) (zero-add (2 ^ 53)) (z .2) }
   where
     first : (a : ℕ) → 2 ^ 52 ≤ a → Lower a 0
     first a h = omega arith
 
-    last : (a : ℕ) → a + 2 ≤ 2 ^ 54 → Upper a (0 + 2 ^ 53)
+    last : (a : ℕ) → a + 2 ≤ 2 ^ 54 → Gts7Output a (0 + 2 ^ 53)
     last a k = omega arith
 
     odd-end : (a r : ℕ) → a * 2 ^ 54 ≤ (2 * (r + 1) - 1) * (2 * (r + 1) - 1) → a * 2 ^ 54 < (2 * r + 1) * (2 * r + 1)

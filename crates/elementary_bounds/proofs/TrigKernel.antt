@@ -1,16 +1,16 @@
 -- The kernels of sin and cos lie near their power series. W stands for 20! * D ^ 20 and L for 20! * D ^ 19, with D = 2 ^ 58. Assumes nothing.
 use mathlib.Core.Path.{_≡_, refl, sym, ap, _∙_, subst}
-use mathlib.Core.List.{List, [], _∷_}
-use Prim.Native.Nat.{ℕ, zero, suc, _+_, _-_, _*_, _/_, _%_, _^_, _≤_, _<_}
+use mathlib.Core.List.{[], _∷_}
+use Prim.Native.Nat.{ℕ, _+_, _-_, _*_, _/_, _%_, _^_, _≤_, _<_}
 use native.Mathlib.Omega.{arith}
-use native.Mathlib.Nat.{le-trans, le-of-lt, mul-le-mul, mul-le-mul-left, mul-le-mul-right, div-add-mod', mod-lt, zero-add, le-add-right}
-use lib.Dec.{T, leb, leb→le}
+use native.Mathlib.Nat.{le-trans, le-of-lt, mul-le-mul, mul-le-mul-left, div-add-mod', mod-lt, zero-add, le-add-right}
+use lib.Dec.{T, leb→le}
 use lib.ListN.{getD}
 use lib.Pow.{pow-pos, shr-shr}
 use Rattle.elementary_bounds.specs.Series.{ev, homogeneous, sinAdding, sinTaking, cosAdding, cosTaking}
 use Rattle.circular_tables.specs.Tables.{sines, cosines}
-use Rattle.circular_functions.specs.Trig.{squareOf, cubeOf, fourthOf, cubicOf, versineOf, scalingOf, decrementOf, sineFrom, cosineFrom, sineOf, cosineOf}
-use Rattle.elementary_bounds.proofs.Series.{times, gap, slope, dilate, Below, start, factor, product-cut, cut-close, ClosePair}
+use Rattle.circular_functions.specs.Trig.{circularSquare, cubeOf, fourthOf, sineCubic, versineOf, scalingOf, decrementOf, sineFrom, cosineFrom, sineOf, cosineOf}
+use Rattle.elementary_bounds.proofs.Series.{times, gap, slope, dilate, Below, start, factor, product-cut, cut-close}
 use Rattle.elementary_bounds.proofs.Nearness.{whole, slice, Kernel}
 use Rattle.circular_functions.proofs.TrigBound.{sines-le, sines-less, cosines-le, cosines-ge, s-le, square-le, cube-le, fourth-le, cubic-le, versine-le, scaling-le, decrement-le, decrement-less}
 use Rattle.elementary_bounds.proofs.TrigSeries.{second, third, fourth, sineAdds, sineTakes, cosineAdds, cosineTakes, sine-fits, cosine-fits}
@@ -21,7 +21,7 @@ module _ (d : ℕ) (h : d < 2 ^ 50) where
   abbrev s : ℕ
   s = d / 2 ^ 18
 
-  square-below : Below (squareOf s) 1 (s * s) (2 ^ 32)
+  square-below : Below (circularSquare s) 1 (s * s) (2 ^ 32)
   square-below = factor (2 ^ 32) s s 0 0 s 1 (pow-pos 32) (none s) (start s)
     where
       none : (s : ℕ) → s * 0 ≤ 0 * 2 ^ 32
@@ -29,12 +29,12 @@ module _ (d : ℕ) (h : d < 2 ^ 50) where
 
   cube-below : Below (cubeOf s) 9 (s * (715827883 * (s * s))) (2 ^ 94)
   cube-below =
-      factor (2 ^ 30) s (715827883 * squareOf s / 2 ^ 32) 2 8 (715827883 * (s * s)) (2 ^ 64) (pow-pos 30) (omega (arith, s-le d h))
-      (factor (2 ^ 32) 715827883 (squareOf s) 1 1 (s * s) (2 ^ 32) (pow-pos 32) (leb→le (715827883 * 1) (1 * 2 ^ 32) tt) square-below)
+      factor (2 ^ 30) s (715827883 * circularSquare s / 2 ^ 32) 2 8 (715827883 * (s * s)) (2 ^ 64) (pow-pos 30) (omega (arith, s-le d h))
+      (factor (2 ^ 32) 715827883 (circularSquare s) 1 1 (s * s) (2 ^ 32) (pow-pos 32) (leb→le (715827883 * 1) (1 * 2 ^ 32) tt) square-below)
 
-  fourth-below : Below (fourthOf (squareOf s)) 2 (s * s * (178956971 * (s * s))) (2 ^ 143)
+  fourth-below : Below (fourthOf (circularSquare s)) 2 (s * s * (178956971 * (s * s))) (2 ^ 143)
   fourth-below =
-      let q = squareOf s in
+      let q = circularSquare s in
       let k = 178956971 * q / 2 ^ 40 in
       product-cut q k 2 (178956971 * (s * s)) (2 ^ 72) (s * s) (2 ^ 32) (2 ^ 39) 1 (pow-pos 39) square-below (factor (2 ^ 40) 178956971 q 1 1 (s * s) (2 ^ 32) (pow-pos 40) (leb→le (178956971 * 1) (1 * 2 ^ 40) tt) square-below)
       (small q (square-le d h))
@@ -53,10 +53,10 @@ module _ (d : ℕ) (h : d < 2 ^ 50) where
   abbrev raised : ℕ
   raised = ev (0 ∷ 0 ∷ 0 ∷ 0 ∷ fourth ∷ []) d
 
-  square-close : (slice * (512 * squareOf s) ≤ squared + 0 * slice) × (squared ≤ slice * (512 * squareOf s + (512 * 1 + 0 + 1024)))
+  square-close : (slice * (512 * circularSquare s) ≤ squared + 0 * slice) × (squared ≤ slice * (512 * circularSquare s + (512 * 1 + 0 + 1024)))
   square-close =
-      cut-close (0 ∷ 0 ∷ second ∷ []) (0 ∷ 0 ∷ 1 ∷ []) (2 ^ 18) (2 ^ 32) slice 512 (2 ^ 32) 1 0 1024 (squareOf s) d (pow-pos 18) (pow-pos 32) h
-      (subst (λ (z : ℕ). Below (squareOf s) 1 z (2 ^ 32)) (power s) square-below)
+      cut-close (0 ∷ 0 ∷ second ∷ []) (0 ∷ 0 ∷ 1 ∷ []) (2 ^ 18) (2 ^ 32) slice 512 (2 ^ 32) 1 0 1024 (circularSquare s) d (pow-pos 18) (pow-pos 32) h
+      (subst (λ (z : ℕ). Below (circularSquare s) 1 z (2 ^ 32)) (power s) square-below)
       (leb→le (gap (times (2 ^ 32) (dilate (2 ^ 18) 1 (0 ∷ 0 ∷ second ∷ []))) (times (slice * 512) (0 ∷ 0 ∷ 1 ∷ [])) (2 ^ 32)) (2 ^ 32 * (0 * slice)) tt)
       (leb→le (2 ^ 18 * slope (0 ∷ 0 ∷ second ∷ []) (2 ^ 50)) (1024 * slice) tt)
     where
@@ -73,10 +73,10 @@ module _ (d : ℕ) (h : d < 2 ^ 50) where
       power : (s : ℕ) → s * (715827883 * (s * s)) ≡ ev (0 ∷ 0 ∷ 0 ∷ 715827883 ∷ []) s
       power s = omega arith
 
-  fourth-close : (slice * (512 * fourthOf (squareOf s)) ≤ raised + 1 * slice) × (raised ≤ slice * (512 * fourthOf (squareOf s) + (512 * 2 + 1 + 1)))
+  fourth-close : (slice * (512 * fourthOf (circularSquare s)) ≤ raised + 1 * slice) × (raised ≤ slice * (512 * fourthOf (circularSquare s) + (512 * 2 + 1 + 1)))
   fourth-close =
-      cut-close (0 ∷ 0 ∷ 0 ∷ 0 ∷ fourth ∷ []) (0 ∷ 0 ∷ 0 ∷ 0 ∷ 178956971 ∷ []) (2 ^ 18) (2 ^ 32) slice 512 (2 ^ 143) 2 1 1 (fourthOf (squareOf s)) d (pow-pos 18) (pow-pos 143) h
-      (subst (λ (z : ℕ). Below (fourthOf (squareOf s)) 2 z (2 ^ 143)) (power s) fourth-below)
+      cut-close (0 ∷ 0 ∷ 0 ∷ 0 ∷ fourth ∷ []) (0 ∷ 0 ∷ 0 ∷ 0 ∷ 178956971 ∷ []) (2 ^ 18) (2 ^ 32) slice 512 (2 ^ 143) 2 1 1 (fourthOf (circularSquare s)) d (pow-pos 18) (pow-pos 143) h
+      (subst (λ (z : ℕ). Below (fourthOf (circularSquare s)) 2 z (2 ^ 143)) (power s) fourth-below)
       (leb→le (gap (times (2 ^ 143) (dilate (2 ^ 18) 1 (0 ∷ 0 ∷ 0 ∷ 0 ∷ fourth ∷ []))) (times (slice * 512) (0 ∷ 0 ∷ 0 ∷ 0 ∷ 178956971 ∷ [])) (2 ^ 32)) (2 ^ 143 * (1 * slice)) tt)
       (leb→le (2 ^ 18 * slope (0 ∷ 0 ∷ 0 ∷ 0 ∷ fourth ∷ []) (2 ^ 50)) (1 * slice) tt)
     where
@@ -170,7 +170,7 @@ module _ (a b d : ℕ) (h : d < 2 ^ 50) (ha : a ≤ 2 ^ 58) (hb : b ≤ 2 ^ 58) 
   cut = cubeOf (d / 2 ^ 18)
 
   abbrev sq : ℕ
-  sq = squareOf (d / 2 ^ 18)
+  sq = circularSquare (d / 2 ^ 18)
 
   abbrev fo : ℕ
   fo = fourthOf sq
@@ -210,11 +210,11 @@ module _ (a b d : ℕ) (h : d < 2 ^ 50) (ha : a ≤ 2 ^ 58) (hb : b ≤ 2 ^ 58) 
     four-low : c * (L * (512 * fo)) ≤ c * raised d h + 1 * (L * X)
     four-low = entry-low X L c (raised d h) (512 * fo) 1 hc (fourth-close d h .0)
 
-  sine-kernel : decrementOf a (versineOf d) ≤ a + scalingOf b (cubicOf d)
+  sine-kernel : decrementOf a (versineOf d) ≤ a + scalingOf b (sineCubic d)
       → (sineFrom a b d * whole + (a * squared d h + b * cubed d h) ≤ a * whole + b * (slice * d) + a * raised d h + 3100 * whole)
       × (a * whole + b * (slice * d) + a * raised d h ≤ sineFrom a b d * whole + (a * squared d h + b * cubed d h) + 3100 * whole)
   sine-kernel z =
-      let x = scalingOf b (cubicOf d) in
+      let x = scalingOf b (sineCubic d) in
       let y = decrementOf a (versineOf d) in
       let c = scaling-close b (d - cut) hb (cubic-le d h) in
       let e = decrement-close a (versineOf d) (versine-le d h) in
@@ -231,11 +231,11 @@ module _ (a b d : ℕ) (h : d < 2 ^ 50) (ha : a ≤ 2 ^ 58) (hb : b ≤ 2 ^ 58) 
       low : (K Y A M by bd aq av p₂ p₃ p₄ W : ℕ) → K + Y ≡ A + M → bd ≤ M + 513 * W + by → Y + av ≤ aq → aq ≤ p₂ + 0 * W → by ≤ p₃ + 2 * W → p₄ ≤ av + 1026 * W → A + bd + p₄ ≤ K + (p₂ + p₃) + 3100 * W
       low K Y A M by bd aq av p₂ p₃ p₄ W k f g i j l = omega arith
 
-  cosine-kernel : scalingOf a (cubicOf d) + decrementOf b (versineOf d) ≤ b
+  cosine-kernel : scalingOf a (sineCubic d) + decrementOf b (versineOf d) ≤ b
       → (cosineFrom a b d * whole + (a * (slice * d) + b * squared d h) ≤ b * whole + a * cubed d h + b * raised d h + 3100 * whole)
       × (b * whole + a * cubed d h + b * raised d h ≤ cosineFrom a b d * whole + (a * (slice * d) + b * squared d h) + 3100 * whole)
   cosine-kernel z =
-      let x = scalingOf a (cubicOf d) in
+      let x = scalingOf a (sineCubic d) in
       let y = decrementOf b (versineOf d) in
       let c = scaling-close a (d - cut) ha (cubic-le d h) in
       let e = decrement-close b (versineOf d) (versine-le d h) in
@@ -303,8 +303,8 @@ module _ (r : ℕ) (h : r ≤ 2 ^ 58) where
   whole-is : (0 + at) * 2 ^ 50 + d₀ ≡ r
   whole-is = ap (λ (z : ℕ). z * 2 ^ 50 + d₀) (zero-add at) ∙ div-add-mod' r (2 ^ 50)
 
-  scaling-in : (c : ℕ) → c ≤ 2 ^ 58 → scalingOf c (cubicOf d₀) ≤ 2 ^ 51
-  scaling-in c k = scaling-le c (cubicOf d₀) k (cubic-le d₀ d-lt)
+  scaling-in : (c : ℕ) → c ≤ 2 ^ 58 → scalingOf c (sineCubic d₀) ≤ 2 ^ 51
+  scaling-in c k = scaling-le c (sineCubic d₀) k (cubic-le d₀ d-lt)
 
   decrement-in : (c : ℕ) → c ≤ 2 ^ 58 → (decrementOf c (versineOf d₀) ≤ c) × (decrementOf c (versineOf d₀) ≤ 2 ^ 41)
   decrement-in c k = (decrement-less c (versineOf d₀) k (versine-le d₀ d-lt), decrement-le c (versineOf d₀) k (versine-le d₀ d-lt))
@@ -316,7 +316,7 @@ module _ (r : ℕ) (h : r ≤ 2 ^ 58) where
       let f = subst (λ (z : ℕ). (2 ^ 58 * ev A z + ev (sineTakes a₀ b₀) d₀ ≤ 2 ^ 58 * ev O z + ev (sineAdds a₀ b₀) d₀ + 2200 * whole) × (2 ^ 58 * ev O z + ev (sineAdds a₀ b₀) d₀ ≤ 2 ^ 58 * ev A z + ev (sineTakes a₀ b₀) d₀ + 2200 * whole)) whole-is (sine-fits at at-lt d₀ (le-of-lt d-lt)) in
       joined (2 ^ 58 * ev A r) (2 ^ 58 * ev O r) (ev (sineTakes a₀ b₀) d₀) (ev (sineAdds a₀ b₀) d₀) _ _ (sineOf r) whole f
       (sine-takes-is a₀ b₀ d₀ second third) (sine-adds-is a₀ b₀ d₀ whole slice fourth)
-      (sine-kernel a₀ b₀ d₀ d-lt (sines-le at) (cosines-le at) (le-trans (decrement-in a₀ (sines-le at) .0) (le-add-right a₀ (scalingOf b₀ (cubicOf d₀)))))
+      (sine-kernel a₀ b₀ d₀ d-lt (sines-le at) (cosines-le at) (le-trans (decrement-in a₀ (sines-le at) .0) (le-add-right a₀ (scalingOf b₀ (sineCubic d₀)))))
 
   pub cosine-close : Kernel cosAdding cosTaking (cosineOf r) 5300 r
   cosine-close =
@@ -325,20 +325,20 @@ module _ (r : ℕ) (h : r ≤ 2 ^ 58) where
       let f = subst (λ (z : ℕ). (2 ^ 58 * ev A z + ev (cosineTakes a₀ b₀) d₀ ≤ 2 ^ 58 * ev O z + ev (cosineAdds a₀ b₀) d₀ + 2200 * whole) × (2 ^ 58 * ev O z + ev (cosineAdds a₀ b₀) d₀ ≤ 2 ^ 58 * ev A z + ev (cosineTakes a₀ b₀) d₀ + 2200 * whole)) whole-is (cosine-fits at at-lt d₀ (le-of-lt d-lt)) in
       joined (2 ^ 58 * ev A r) (2 ^ 58 * ev O r) (ev (cosineTakes a₀ b₀) d₀) (ev (cosineAdds a₀ b₀) d₀) _ _ (cosineOf r) whole f
       (cosine-takes-is a₀ b₀ d₀ slice second) (cosine-adds-is a₀ b₀ d₀ whole third fourth)
-      (cosine-kernel a₀ b₀ d₀ d-lt (sines-le at) (cosines-le at) (room b₀ (scalingOf a₀ (cubicOf d₀)) (decrementOf b₀ (versineOf d₀)) (cosines-ge at at-lt) (scaling-in a₀ (sines-le at)) (decrement-in b₀ (cosines-le at) .1)))
+      (cosine-kernel a₀ b₀ d₀ d-lt (sines-le at) (cosines-le at) (room b₀ (scalingOf a₀ (sineCubic d₀)) (decrementOf b₀ (versineOf d₀)) (cosines-ge at at-lt) (scaling-in a₀ (sines-le at)) (decrement-in b₀ (cosines-le at) .1)))
     where
       room : (b x y : ℕ) → 2 ^ 57 ≤ b → x ≤ 2 ^ 51 → y ≤ 2 ^ 41 → x + y ≤ b
       room b x y h k l = omega arith
 
   -- neither is above 1
   pub sine-one : sineOf r ≤ 2 ^ 58
-  sine-one = most a₀ (scalingOf b₀ (cubicOf d₀)) (decrementOf a₀ (versineOf d₀)) (sines-less at) (scaling-in b₀ (cosines-le at))
+  sine-one = most a₀ (scalingOf b₀ (sineCubic d₀)) (decrementOf a₀ (versineOf d₀)) (sines-less at) (scaling-in b₀ (cosines-le at))
     where
       most : (a x y : ℕ) → a ≤ 244000000000000000 → x ≤ 2 ^ 51 → a + x - y ≤ 2 ^ 58
       most a x y h k = omega arith
 
   pub cosine-one : cosineOf r ≤ 2 ^ 58
-  cosine-one = most b₀ (scalingOf a₀ (cubicOf d₀)) (decrementOf b₀ (versineOf d₀)) (cosines-le at)
+  cosine-one = most b₀ (scalingOf a₀ (sineCubic d₀)) (decrementOf b₀ (versineOf d₀)) (cosines-le at)
     where
       most : (b x y : ℕ) → b ≤ 2 ^ 58 → b - x - y ≤ 2 ^ 58
       most b x y h = omega arith

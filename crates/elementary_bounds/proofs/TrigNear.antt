@@ -3,19 +3,19 @@ use mathlib.Core.Path.{_≡_, refl, sym, ap, _∙_, subst}
 use mathlib.Core.Bool.{Bool, true, false, cond}
 use Prim.Native.Nat.{ℕ, zero, suc, _+_, _-_, _*_, _/_, _%_, _^_, _≤_, _<_}
 use native.Mathlib.Omega.{arith}
-use native.Mathlib.Nat.{le-trans, le-of-lt, le-of-mul-le-mul-left, lt-of-lt-of-le, lt-of-le-of-lt, mul-assoc, mul-le-mul-right, div-add-mod', mod-lt}
-use lib.Dec.{T, leb, ltb, eqb, lit≤}
-use lib.IntN.{ℤ, pos, negsuc}
+use native.Mathlib.Nat.{le-of-lt, le-of-mul-le-mul-left, lt-of-lt-of-le, mul-assoc, mul-le-mul-right, div-add-mod', mod-lt}
+use lib.Dec.{leb, eqb, lit≤}
+use lib.IntN.{ℤ}
 use lib.Pow.{pow-pos, pow-mono, shl-lt}
-use lib.Ieee.{Float, nan, inf, fin, binary64, up, down, round, lt, isNan}
+use lib.Ieee.{Float, nan, inf, fin, binary64, up, down, round}
 use lib.Ieee.Exact.{HasValue, round-exact}
 use lib.Ieee.Fits.{down-pos}
 use borrow.Author.Tests.{ne-eqb}
 use Rattle.elementary_bounds.specs.Series.{sinAdding, sinTaking, cosAdding, cosTaking, Near}
 use Rattle.fixed_point.specs.Fixed.{scaledOf, apartOf}
 use Rattle.fixed_point.specs.Float.{Within, over, digit, minusSign, nought}
-use Rattle.circular_functions.specs.Trig.{sineOf, cosineOf, partOf, signOf, signedOf, quarterOf, sinusoidOf, quartersOf, leftOf, reducedOf, turnedOf, sinOf, cosOf}
-use Rattle.elementary_bounds.proofs.Nearness.{Kernel, near-exact}
+use Rattle.circular_functions.specs.Trig.{sineOf, cosineOf, circularPart, signOf, circularSigned, quarterOf, sinusoidOf, quartersOf, circularLeft, circularTurned, sinOf, cosOf}
+use Rattle.elementary_bounds.proofs.Nearness.{near-exact}
 use Rattle.fixed_point.proofs.Choice.{either-le}
 use Rattle.fixed_point.proofs.Range.{within-scaled}
 use Rattle.fixed_point.proofs.Bits.{over-within, within-over}
@@ -25,7 +25,7 @@ use Rattle.elementary_bounds.proofs.TrigKernel.{sine-close, cosine-clos
 
 -- ---- the float by its sign and size
 
-pub signed-value : (n q : ℕ) → q < 2 ^ 53 → HasValue (signedOf n q) (signOf (leb 2 (n % 4)) q) q (2 ^ 51)
+pub signed-value : (n q : ℕ) → q < 2 ^ 53 → HasValue (circularSigned n q) (signOf (leb 2 (n % 4)) q) q (2 ^ 51)
 signed-value n zero h = (refl, refl)
 signed-value n (suc q) h =
     subst (λ (b : Bool). HasValue (cond b nought (round binary64 (leb 2 (n % 4)) (suc q) (2 ^ 51))) (leb 2 (n % 4)) (suc q) (2 ^ 51)) (sym (ne-eqb (suc q) 0 (some q)))
@@ -49,7 +49,7 @@ module _ (s : Bool) (m : ℕ) (e : ℤ) (h : Within (fin s m e) 1) where
   M-le : M ≤ 2 ^ 58
   M-le = within-scaled 58 1 x h
 
-  near-turned : (k : ℕ) → turnedOf x k ≡ sinusoidOf k (2 ^ 58 + M)
+  near-turned : (k : ℕ) → circularTurned x k ≡ sinusoidOf k (2 ^ 58 + M)
   near-turned k = turned-near x k (within-over 1 1 x (lit≤ {m = 1} {n = 1} tt) h)
 
   in-reach : over 65536 x ≡ false
@@ -67,11 +67,11 @@ module _ (s : Bool) (m : ℕ) (e : ℤ) (h : Within (fin s m e) 1) where
   back : (m : ℕ) → 2 ^ 58 + m - 2 ^ 58 ≡ m
   back m = omega arith
 
-  sin-signed : (k : ℕ) → k % 2 ≡ 0 → sinusoidOf k (2 ^ 58 + M) ≡ signedOf k (sineOf M / 128)
-  sin-signed k p = sinusoid-even k (2 ^ 58 + M) (above M) p ∙ ap (λ (z : ℕ). signedOf k (sineOf z / 128)) (back M)
+  sin-signed : (k : ℕ) → k % 2 ≡ 0 → sinusoidOf k (2 ^ 58 + M) ≡ circularSigned k (sineOf M / 128)
+  sin-signed k p = sinusoid-even k (2 ^ 58 + M) (above M) p ∙ ap (λ (z : ℕ). circularSigned k (sineOf z / 128)) (back M)
 
-  cos-signed : sinusoidOf 1 (2 ^ 58 + M) ≡ signedOf 1 (cosineOf M / 128)
-  cos-signed = sinusoid-odd 1 (2 ^ 58 + M) (above M) (odd 1 refl) ∙ ap (λ (z : ℕ). signedOf 1 (cosineOf z / 128)) (back M)
+  cos-signed : sinusoidOf 1 (2 ^ 58 + M) ≡ circularSigned 1 (cosineOf M / 128)
+  cos-signed = sinusoid-odd 1 (2 ^ 58 + M) (above M) (odd 1 refl) ∙ ap (λ (z : ℕ). circularSigned 1 (cosineOf z / 128)) (back M)
     where
       odd : (n : ℕ) → n ≡ 1 → n ≡ 0 → ⊥
       odd n e p = omega arith
@@ -136,28 +136,28 @@ value-within (fin t m e) s q h v = le-of-mul-le-mul-left (most (m * up e) (down 
     most : (p d q C : ℕ) → p * C ≡ q * d → q * d ≤ C * d → C * p ≤ C * (1 * d)
     most p d q C e h = omega arith
 
-signed-within : (n v : ℕ) → v ≤ 2 ^ 58 → Within (signedOf n (v / 128)) 1
-signed-within n v h = value-within (signedOf n (v / 128)) (signOf (leb 2 (n % 4)) (v / 128)) (v / 128) (cut v h) (signed-value n (v / 128) (cut-lt v h))
+signed-within : (n v : ℕ) → v ≤ 2 ^ 58 → Within (circularSigned n (v / 128)) 1
+signed-within n v h = value-within (circularSigned n (v / 128)) (signOf (leb 2 (n % 4)) (v / 128)) (v / 128) (cut v h) (signed-value n (v / 128) (cut-lt v h))
   where
     cut : (v : ℕ) → v ≤ 2 ^ 58 → v / 128 ≤ 2 ^ 51
     cut v h = omega arith
 
-part-one : (h r : ℕ) → r ≤ 2 ^ 58 → partOf h r ≤ 2 ^ 58
+part-one : (h r : ℕ) → r ≤ 2 ^ 58 → circularPart h r ≤ 2 ^ 58
 part-one h r l = either-le (eqb h 0) (sine-one r l) (cosine-one r l)
 
 sinusoid-within : (n t : ℕ) → t ≤ 2 ^ 59 → Within (sinusoidOf n t) 1
-sinusoid-within n t h = signed-within (quarterOf n t) (partOf (n % 2) (apartOf t (2 ^ 58))) (part-one (n % 2) (apartOf t (2 ^ 58)) (rest-one t h))
+sinusoid-within n t h = signed-within (quarterOf n t) (circularPart (n % 2) (apartOf t (2 ^ 58))) (part-one (n % 2) (apartOf t (2 ^ 58)) (rest-one t h))
 
-turned-within : (x : Float) (k : ℕ) → Within x 65536 → Within (turnedOf x k) 1
+turned-within : (x : Float) (k : ℕ) → Within x 65536 → Within (circularTurned x k) 1
 turned-within x k h = go (over 1 x) refl
   where
     close : (m : ℕ) → m ≤ 1 * 2 ^ 58 → 2 ^ 58 + m ≤ 2 ^ 59
     close m h = omega arith
 
-    go : (b : Bool) → over 1 x ≡ b → Within (turnedOf x k) 1
+    go : (b : Bool) → over 1 x ≡ b → Within (circularTurned x k) 1
     go true p =
         subst (λ (y : Float). Within y 1) (sym (turned-reduced x k p))
-        (sinusoid-within (quartersOf (scaledOf 46 x) + k) (leftOf (scaledOf 46 x) (quartersOf (scaledOf 46 x))) (left-in (scaledOf 46 x) (within-scaled 46 65536 x h)))
+        (sinusoid-within (quartersOf (scaledOf 46 x) + k) (circularLeft (scaledOf 46 x) (quartersOf (scaledOf 46 x))) (left-in (scaledOf 46 x) (within-scaled 46 65536 x h)))
     go false p =
         subst (λ (y : Float). Within y 1) (sym (turned-near x k p))
         (sinusoid-within k (2 ^ 58 + scaledOf 58 x) (close (scaledOf 58 x) (within-scaled 58 1 x (over-within 1 x p))))

@@ -1,9 +1,9 @@
 -- The tables of sin and cos against their power series: computed tests over the tables, and what they say of every argument. Assumes nothing.
 use mathlib.Core.List.{List, [], _∷_}
-use Prim.Native.Nat.{ℕ, zero, suc, _+_, _*_, _^_, _≤_, _<_}
-use lib.ListN.{length, getD}
+use Prim.Native.Nat.{ℕ, _+_, _*_, _^_, _≤_, _<_}
+use lib.ListN.{getD}
 use lib.Dec.{T}
-use Rattle.elementary_bounds.specs.Series.{ev, homogeneous, sinAdding, sinTaking, cosAdding, cosTaking}
+use Rattle.elementary_bounds.specs.Series.{homogeneous, sinAdding, sinTaking, cosAdding, cosTaking}
 use Rattle.circular_tables.specs.Tables.{sines, cosines}
 use Rattle.elementary_bounds.proofs.Series.{fittingPairs, fitted-pairs, ClosePair}
 use Rattle.elementary_bounds.proofs.Nearness.{whole, slice}

@@ -4,16 +4,16 @@ use Prim.Native.Nat.{ℕ, _+_, _-_, _*_, _/_, _^_, _≤_, _<_}
 use mathlib.Core.Path.{_≡_}
 use mathlib.Core.Bool.{Bool, true, false}
 use lib.Dec.{T}
-use lib.IntN.{ℤ, pos, negsuc}
+use lib.IntN.{pos, negsuc}
 use lib.Ieee.{Float, nan, inf, fin, binary64, up, down, round, fits, ofInt, mul, lt, eq, isNan}
 use lib.Ieee.Exact.{HasValue}
 use Rattle.fixed_point.specs.Fixed.{scaledOf, offsetOf}
-use Rattle.fixed_point.specs.Float.{Within, over, minusSign, one, nought, tiny}
-use Rattle.natural_exponential.specs.Exp.{kernelOf, timesOf, restOf, expOf, most, least}
-use Rattle.natural_logarithm.specs.Log.{digitsOf, logOf}
+use Rattle.fixed_point.specs.Float.{Within, over, minusSign, unit, nought, tiny}
+use Rattle.natural_exponential.specs.Exp.{kernelOf, timesOf, expRest, expOf, most, least}
+use Rattle.natural_logarithm.specs.Log.{logDigits, logOf}
 use Rattle.circular_functions.specs.Trig.{signOf, sinOf, cosOf}
 use Rattle.square_root.specs.Root.{sqrtOf}
-use Rattle.elementary.specs.Pow.{half, wholeOf, productOf, powOf}
+use Rattle.elementary.specs.Pow.{half, wholeExponent, powerProduct, powOf}
 use Rattle.elementary_bounds.specs.Series.{Near, NearLog, expAdding, expTaking, sinAdding, sinTaking, cosAdding, cosTaking}
 
 abbrev pub numerator : Float → ℕ
@@ -71,7 +71,7 @@ LogNear =
 -- The fraction that exp rounds below -1 is fadingOf x / 2 ^ 1138: the kernel's number over 128, and n halvings,
 -- where n is how often log 2 goes into |x|, or one time less, and one more.
 abbrev pub fadingOf : Float → ℕ
-fadingOf x = kernelOf (restOf 1 (scaledOf 53 x) (timesOf (scaledOf 53 x) + 1)) / 128 * 2 ^ (1087 - (timesOf (scaledOf 53 x) + 1))
+fadingOf x = kernelOf (expRest 1 (scaledOf 53 x) (timesOf (scaledOf 53 x) + 1)) / 128 * 2 ^ (1087 - (timesOf (scaledOf 53 x) + 1))
 
 -- From -745 up to -708, exp x is r / 2 ^ 1074 exactly, for an r within 1 of fadingOf x / 2 ^ 64: it lies within 2 ^ -1074 of the fraction.
 -- There, and nowhere else, it may be below 2 ^ -1022.
@@ -84,7 +84,7 @@ ExpTail =
 abbrev pub ExpKept : Type 0
 ExpKept =
     (x : Float) → isNan x ≡ false → lt most x ≡ false → lt x faint ≡ false
-    → (over 1 x ≡ true → expOf x ≡ round binary64 false (kernelOf (restOf (minusSign x) (scaledOf 53 x) (timesOf (scaledOf 53 x) + minusSign x)) / 128 * 2 ^ offsetOf (minusSign x) 1023 (timesOf (scaledOf 53 x) + minusSign x)) (2 ^ 1074))
+    → (over 1 x ≡ true → expOf x ≡ round binary64 false (kernelOf (expRest (minusSign x) (scaledOf 53 x) (timesOf (scaledOf 53 x) + minusSign x)) / 128 * 2 ^ offsetOf (minusSign x) 1023 (timesOf (scaledOf 53 x) + minusSign x)) (2 ^ 1074))
     × (over 1 x ≡ false → expOf x ≡ round binary64 false (kernelOf (offsetOf (minusSign x) (2 ^ 58) (scaledOf 58 x)) / 128 * 2 ^ 1023) (2 ^ 1074))
 
 -- Above 0 and below 2 ^ -1022, x is (2 ^ 52 + t) * 2 ^ (e - 1) / 2 ^ 1128 exactly, and its logarithm is made of that e and that t as any other's,
@@ -92,7 +92,7 @@ ExpKept =
 abbrev pub LogTail : Type 0
 LogTail =
     (x : Float) → T (fits binary64 x) → lt nought x ≡ true → lt x tiny ≡ true
-    → (e : ℕ) × (t : ℕ) × (1 ≤ e) × (t < 2 ^ 52) × ((2 ^ 52 + t) * 2 ^ (e - 1) * denominator x ≡ numerator x * 2 ^ 54 * 2 ^ 1074) × (logOf x ≡ digitsOf 54 e t)
+    → (e : ℕ) × (t : ℕ) × (1 ≤ e) × (t < 2 ^ 52) × ((2 ^ 52 + t) * 2 ^ (e - 1) * denominator x ≡ numerator x * 2 ^ 54 * 2 ^ 1074) × (logOf x ≡ logDigits 54 e t)
 
 -- ---- sizes
 
@@ -137,7 +137,7 @@ SqrtNear =
 -- exp of either zero is 1.
 -- s is the zero's sign.
 abbrev pub ExpZero : Type 0
-ExpZero = (s : Bool) → expOf (fin s 0 (pos 0)) ≡ one
+ExpZero = (s : Bool) → expOf (fin s 0 (pos 0)) ≡ unit
 
 -- exp of NaN is NaN, above 709 it is +infinity, and below -745 it is 0.
 -- Both infinities are such arguments.
@@ -149,12 +149,12 @@ ExpEnds = (expOf nan ≡ nan) × ((x : Float) → lt most x ≡ true → expOf x
 abbrev pub LogEnds : Type 0
 LogEnds =
     (logOf nan ≡ nan) × ((x : Float) → lt x nought ≡ true → logOf x ≡ nan) × ((s : Bool) → logOf (fin s 0 (pos 0)) ≡ inf true)
-    × (logOf (inf false) ≡ inf false) × (logOf one ≡ nought)
+    × (logOf (inf false) ≡ inf false) × (logOf unit ≡ nought)
 
 -- sin of either zero is +0, and cos of it is 1.
 -- s is the zero's sign.
 abbrev pub SinCosZero : Type 0
-SinCosZero = (s : Bool) → (sinOf (fin s 0 (pos 0)) ≡ nought) × (cosOf (fin s 0 (pos 0)) ≡ one)
+SinCosZero = (s : Bool) → (sinOf (fin s 0 (pos 0)) ≡ nought) × (cosOf (fin s 0 (pos 0)) ≡ unit)
 
 -- Beyond 65,536 in size sin is NaN, and so it is of an infinity and of NaN.
 -- d < n means |x| > 1, and so on.
@@ -179,18 +179,18 @@ PowTwo = (b : Float) → powOf b (fin false 1 (pos 1)) ≡ mul binary64 b b
 -- pow (b, e) is 1 for e either zero, and the square root of b for e = 1/2.
 -- Both hold for every b.
 abbrev pub PowRules : Type 0
-PowRules = ((b : Float) (s : Bool) → powOf b (fin s 0 (pos 0)) ≡ one) × ((b : Float) → powOf b (fin false 1 (negsuc 0)) ≡ sqrtOf b)
+PowRules = ((b : Float) (s : Bool) → powOf b (fin s 0 (pos 0)) ≡ unit) × ((b : Float) → powOf b (fin false 1 (negsuc 0)) ≡ sqrtOf b)
 
 -- pow (b, n) for a whole n from 1 to 32 is the product of n factors b, taken left to right.
 -- `productOf b k` is b times b, k times more, each product rounded once.
 abbrev pub PowWhole : Type 0
-PowWhole = (b : Float) (n : ℕ) → 1 ≤ n → n ≤ 32 → powOf b (ofInt binary64 (pos n)) ≡ productOf b (n - 1)
+PowWhole = (b : Float) (n : ℕ) → 1 ≤ n → n ≤ 32 → powOf b (ofInt binary64 (pos n)) ≡ powerProduct b (n - 1)
 
 -- For any other exponent: b zero gives 0 for e > 0 and +infinity for e < 0, b +infinity the reverse,
 -- else a negative b, a NaN b and a NaN e give NaN, and what is left is exp (e × log b), the product rounded once, for a b below 2 ^ -1022 too.
 abbrev pub PowLast : Type 0
 PowLast =
-    (b e : Float) → eq e nought ≡ false → wholeOf e < 1 → eq e half ≡ false
+    (b e : Float) → eq e nought ≡ false → wholeExponent e < 1 → eq e half ≡ false
     → (eq b nought ≡ true → lt nought e ≡ true → powOf b e ≡ nought) × (eq b nought ≡ true → lt nought e ≡ false → lt e nought ≡ true → powOf b e ≡ inf false)
     × (eq b nought ≡ false → eq b (inf false) ≡ true → lt nought e ≡ true → powOf b e ≡ inf false)
     × (eq b nought ≡ false → eq b (inf false) ≡ true → lt nought e ≡ false → lt e nought ≡ true → powOf b e ≡ nought)

@@ -9,18 +9,18 @@ use Rattle.numbers.specs.Literals.{0·0}
 use Rattle.setting.specs.declared.State.{State}
 use Rattle.setting.specs.declared.View.{View}
 use Rattle.setting.specs.declared.views.Turns.{Turns}
-use Rattle.parts.specs.declared.Seasons.{Seasons}
-use Rattle.expansion.specs.declared.Early.{Early}
+use Rattle.expansion_parts.specs.declared.Seasons.{Seasons}
+use Rattle.expansion.specs.declared.FirstTerms.{FirstTerms}
 use Rattle.expansion.specs.declared.Carried.{Carried}
 use Rattle.terms.specs.Terms.{t0Of, f1Of, f2Of, t1Of, t3Of, t4Of, t5Of, t1sOf, t2sOf, t3sOf, t4sOf}
 use Rattle.legendre.specs.Legendre.{legendreOf, flatOf}
 use Rattle.activity.specs.Activity.{apdfNextOf, aptNextOf}
-use Rattle.parts.specs.Parts.{dayCosinesOf, t6Of, t7Of, t8Of, t10Of, t11Of, t12Of, t13Of, weightedOf, t6sOf, t7sOf, t8sOf, t10sOf, t13sOf}
-use Rattle.expansion.specs.Expansion.{early7Of, level7Of, turnsAfterOf, afterOf, level7sOf}
+use Rattle.expansion_parts.specs.ExpansionParts.{dayCosinesOf, t6Of, t7Of, t8Of, t10Of, t11Of, t12Of, t13Of, weightedOf, t6sOf, t7sOf, t8sOf, t10sOf, t13sOf}
+use Rattle.expansion.specs.Expansion.{firstTermsOf, globe7Value, turnsAfterOf, stateAfter, glob7sValue}
 
-pub level7-law : (v : View) (p : List Float) (g : List (List Float)) (s : Carried)
-    (x·end : Float) (x13 : Float) (x12 : Float) (x11 : Float) (x10 : Float) (x8 : Float) (x7 : Float) (x6 : Float) (fb : Float) (y : Early) (d : Seasons)
-    → x·end ≡ weightedOf (p ‼ 30) (v .sw) ((y .x0) ∷ (y .x1) ∷ (y .x2) ∷ (y .x3) ∷ (y .x4) ∷ (y .x5) ∷ x6 ∷ x7 ∷ x8 ∷ 0·0 ∷ x10 ∷ x11 ∷ x12 ∷ x13 ∷ [])
+pub globe7-value-law : (v : View) (p : List Float) (g : List (List Float)) (s : Carried)
+    (x·end : Float) (x13 : Float) (x12 : Float) (x11 : Float) (x10 : Float) (x8 : Float) (x7 : Float) (x6 : Float) (fb : Float) (y : FirstTerms) (d : Seasons)
+    → x·end ≡ weightedOf (p ‼ 30) (v .sw) ((y .t0) ∷ (y .t1) ∷ (y .t2) ∷ (y .t3) ∷ (y .t4) ∷ (y .t5) ∷ x6 ∷ x7 ∷ x8 ∷ 0·0 ∷ x10 ∷ x11 ∷ x12 ∷ x13 ∷ [])
     → x13 ≡ t13Of p g ((v .sw) ‼ 14) fb (d .cd14) ((v .swc) ‼ 5) (s .c3tloc) (s .s3tloc)
     → x12 ≡ t12Of v p g (d .cd14) (s .apdf) (s .apt)
     → x11 ≡ t11Of v p g (d .cd14)
@@ -29,14 +29,14 @@ pub level7-law : (v : View) (p : List Float) (g : List (List Float)) (s : Carrie
     → x7 ≡ t7Of p g ((v .sw) ‼ 8) fb (d .cd14) ((v .swc) ‼ 5) (s .c2tloc) (s .s2tloc)
     → x6 ≡ t6Of p g ((v .sw) ‼ 7) fb (d .cd14) ((v .swc) ‼ 5) (s .ctloc) (s .stloc)
     → fb ≡ f2Of p (v .df) (v .dfa) ((v .swc) ‼ 1)
-    → y ≡ early7Of v p g d
+    → y ≡ firstTermsOf v p g d
     → d ≡ dayCosinesOf (v .doy) p
-    → _≡_ {A = Float} (x·end) (level7Of v p g s)
-unfolding level7Of
-level7-law v p g s x·end x13 x12 x11 x10 x8 x7 x6 fb y d e0 e1 e2 e3 e4 e5 e6 e7 e8 e9 e10 =
+    → _≡_ {A = Float} (x·end) (globe7Value v p g s)
+unfolding globe7Value
+globe7-value-law v p g s x·end x13 x12 x11 x10 x8 x7 x6 fb y d e0 e1 e2 e3 e4 e5 e6 e7 e8 e9 e10 =
     simp (e0, e1, e2, e3, e4, e5, e6, e7, e8, e9, e10)
 
-pub early7-law : (v : View) (p : List Float) (g : List (List Float)) (d : Seasons)
+pub first-terms-law : (v : View) (p : List Float) (g : List (List Float)) (d : Seasons)
     (x5 : Float) (x4 : Float) (x3 : Float) (x1 : Float) (x0 : Float) (fa : Float)
     → x5 ≡ t5Of p g (d .cd39)
     → x4 ≡ t4Of p g fa (d .cd14)
@@ -44,12 +44,12 @@ pub early7-law : (v : View) (p : List Float) (g : List (List Float)) (d : Season
     → x1 ≡ t1Of p g (v .dfa) ((v .swc) ‼ 1)
     → x0 ≡ t0Of p (v .df) (v .dfa) (v .dfa2)
     → fa ≡ f1Of p (v .df) (v .dfa) ((v .swc) ‼ 1)
-    → _≡_ {A = Early} (record { x0 = x0; x1 = x1; x2 = p ‼ 18 ⊗ d .cd32; x3 = x3; x4 = x4; x5 = x5 }) (early7Of v p g d)
-unfolding early7Of
-early7-law v p g d x5 x4 x3 x1 x0 fa e0 e1 e2 e3 e4 e5 =
+    → _≡_ {A = FirstTerms} (record { t0 = x0; t1 = x1; t2 = p ‼ 18 ⊗ d .cd32; t3 = x3; t4 = x4; t5 = x5 }) (firstTermsOf v p g d)
+unfolding firstTermsOf
+first-terms-law v p g d x5 x4 x3 x1 x0 fa e0 e1 e2 e3 e4 e5 =
     simp (e0, e1, e2, e3, e4, e5)
 
-pub level7s-law : (v : View) (p : List Float) (g : List (List Float)) (s : Carried)
+pub glob7s-value-law : (v : View) (p : List Float) (g : List (List Float)) (s : Carried)
     (x·end : Float) (x13 : Float) (x10 : Float) (x8 : Float) (x7 : Float) (x6 : Float) (x5 : Float) (x4 : Float) (x3 : Float) (x2 : Float) (x1 : Float) (d : Seasons)
     → x·end ≡ weightedOf 0·0 (v .sw) ((p ‼ 21 ⊗ s .dfa) ∷ x1 ∷ x2 ∷ x3 ∷ x4 ∷ x5 ∷ x6 ∷ x7 ∷ x8 ∷ 0·0 ∷ x10 ∷ 0·0 ∷ 0·0 ∷ x13 ∷ [])
     → x13 ≡ t13sOf p g ((v .sw) ‼ 14) (s .c3tloc) (s .s3tloc)
@@ -63,9 +63,9 @@ pub level7s-law : (v : View) (p : List Float) (g : List (List Float)) (s : Carri
     → x2 ≡ t2sOf p g (d .cd32)
     → x1 ≡ t1sOf p g
     → d ≡ dayCosinesOf (v .doy) p
-    → _≡_ {A = Float} (x·end) (level7sOf v p g s)
-unfolding level7sOf
-level7s-law v p g s x·end x13 x10 x8 x7 x6 x5 x4 x3 x2 x1 d e0 e1 e2 e3 e4 e5 e6 e7 e8 e9 e10 e11 =
+    → _≡_ {A = Float} (x·end) (glob7sValue v p g s)
+unfolding glob7sValue
+glob7s-value-law v p g s x·end x13 x10 x8 x7 x6 x5 x4 x3 x2 x1 d e0 e1 e2 e3 e4 e5 e6 e7 e8 e9 e10 e11 =
     simp (e0, e1, e2, e3, e4, e5, e6, e7, e8, e9, e10, e11)
 
 pub after-law : (v : View) (p : List Float) (s : State)
@@ -75,8 +75,8 @@ pub after-law : (v : View) (p : List Float) (s : State)
     → t ≡ turnsAfterOf v s
     → q ≡ flatOf g
     → g ≡ legendreOf (v .slat) (v .clat) (s .plg)
-    → _≡_ {A = State} (record { gsurf = s .gsurf; re = s .re; dd = s .dd; dm04 = s .dm04; dm16 = s .dm16; dm28 = s .dm28; «dm28_set» = s .«dm28_set»; dm32 = s .dm32; dm40 = s .dm40; dm01 = s .dm01; dm14 = s .dm14; «meso_tn1» = s .«meso_tn1»; «meso_tn2» = s .«meso_tn2»; «meso_tn3» = s .«meso_tn3»; «meso_tgn1» = s .«meso_tgn1»; «meso_tgn2» = s .«meso_tgn2»; «meso_tgn3» = s .«meso_tgn3»; dfa = v .dfa; plg = q; ctloc = t .ct; stloc = t .st; c2tloc = t .c2t; s2tloc = t .s2t; s3tloc = t .s3t; c3tloc = t .c3t; apdf = apdf; apt = set (s .apt) 0 apt }) (afterOf v p s)
-unfolding afterOf
+    → _≡_ {A = State} (record { gsurf = s .gsurf; re = s .re; dd = s .dd; dm04 = s .dm04; dm16 = s .dm16; dm28 = s .dm28; «dm28_set» = s .«dm28_set»; dm32 = s .dm32; dm40 = s .dm40; dm01 = s .dm01; dm14 = s .dm14; «meso_tn1» = s .«meso_tn1»; «meso_tn2» = s .«meso_tn2»; «meso_tn3» = s .«meso_tn3»; «meso_tgn1» = s .«meso_tgn1»; «meso_tgn2» = s .«meso_tgn2»; «meso_tgn3» = s .«meso_tgn3»; dfa = v .dfa; plg = q; ctloc = t .ct; stloc = t .st; c2tloc = t .c2t; s2tloc = t .s2t; s3tloc = t .s3t; c3tloc = t .c3t; apdf = apdf; apt = set (s .apt) 0 apt }) (stateAfter v p s)
+unfolding stateAfter
 after-law v p s apt apdf t q g e0 e1 e2 e3 e4 =
     simp (e0, e1, e2, e3, e4)
 

@@ -8,26 +8,26 @@ use Rattle.numbers.specs.Literals.{0·0, 1·0, 2·0}
 use Rattle.setting.specs.declared.State.{State}
 use Rattle.setting.specs.declared.View.{View}
 use Rattle.setting.specs.declared.Valued.{Valued}
-use Rattle.parts.specs.declared.Seasons.{Seasons}
-use Rattle.expansion.specs.declared.Early.{Early}
+use Rattle.expansion_parts.specs.declared.Seasons.{Seasons}
+use Rattle.expansion.specs.declared.FirstTerms.{FirstTerms}
 use Rattle.expansion.specs.declared.Carried.{Carried}
 use Rattle.terms.specs.Terms.{t0Of, f1Of, f2Of, t1Of, t3Of, t4Of, t5Of, t1sOf, t2sOf, t3sOf, t4sOf}
 use Rattle.legendre.specs.Legendre.{legendreOf, flatOf, rowsOf}
 use Rattle.activity.specs.Activity.{apdfNextOf, aptNextOf}
-use Rattle.parts.specs.Parts.{dayCosinesOf, t6Of, t7Of, t13Of, t8Of, t10Of, t11Of, t12Of, weightedOf, t8sOf, t10sOf, t6sOf, t7sOf, t13sOf}
+use Rattle.expansion_parts.specs.ExpansionParts.{dayCosinesOf, t6Of, t7Of, t13Of, t8Of, t10Of, t11Of, t12Of, weightedOf, t8sOf, t10sOf, t6sOf, t7sOf, t13sOf}
 use Rattle.setting.specs.declared.views.Turns.{Turns}
 
 -- t[0] to t[5] of globe7
-unfoldable pub early7Of : View → List Float → List (List Float) → Seasons → Early
-early7Of v p g d =
+unfoldable pub firstTermsOf : View → List Float → List (List Float) → Seasons → FirstTerms
+firstTermsOf v p g d =
     let c1 = v .swc ‼ 1 in
     record {
-      x0 = t0Of p (v .df) (v .dfa) (v .dfa2);
-      x1 = t1Of p g (v .dfa) c1;
-      x2 = p ‼ 18 ⊗ d .cd32;
-      x3 = t3Of p g (d .cd18);
-      x4 = t4Of p g (f1Of p (v .df) (v .dfa) c1) (d .cd14);
-      x5 = t5Of p g (d .cd39);
+      t0 = t0Of p (v .df) (v .dfa) (v .dfa2);
+      t1 = t1Of p g (v .dfa) c1;
+      t2 = p ‼ 18 ⊗ d .cd32;
+      t3 = t3Of p g (d .cd18);
+      t4 = t4Of p g (f1Of p (v .df) (v .dfa) c1) (d .cd14);
+      t5 = t5Of p g (d .cd39);
     }
 
 -- What State carries for the terms, beside the Legendre values
@@ -46,14 +46,14 @@ carriedOf s =
     }
 
 -- The value of globe7, from what the State after it carries
-unfoldable pub level7Of : View → List Float → List (List Float) → Carried → Float
-level7Of v p g s =
+unfoldable pub globe7Value : View → List Float → List (List Float) → Carried → Float
+globe7Value v p g s =
     let d = dayCosinesOf (v .doy) p in
-    let y = early7Of v p g d in
+    let y = firstTermsOf v p g d in
     let c5 = v .swc ‼ 5 in
     let fb = f2Of p (v .df) (v .dfa) (v .swc ‼ 1) in
     weightedOf (p ‼ 30) (v .sw) (
-    y .x0 ∷ y .x1 ∷ y .x2 ∷ y .x3 ∷ y .x4 ∷ y .x5 ∷
+    y .t0 ∷ y .t1 ∷ y .t2 ∷ y .t3 ∷ y .t4 ∷ y .t5 ∷
     t6Of p g (v .sw ‼ 7) fb (d .cd14) c5 (s .ctloc) (s .stloc) ∷
     t7Of p g (v .sw ‼ 8) fb (d .cd14) c5 (s .c2tloc) (s .s2tloc) ∷
     t8Of v p g (d .cd14) (s .apdf) (s .apt) ∷ 0·0 ∷
@@ -75,8 +75,8 @@ turnsAfterOf v s =
     }
 
 -- The State after globe7
-unfoldable pub afterOf : View → List Float → State → State
-afterOf v p s =
+unfoldable pub stateAfter : View → List Float → State → State
+stateAfter v p s =
     let t = turnsAfterOf v s in
     record {
       gsurf = s .gsurf;
@@ -111,11 +111,11 @@ afterOf v p s =
 -- globe7 from a View
 unfoldable pub globe7Of : View → List Float → State → Valued
 globe7Of v p s =
-    let a = afterOf v p s in record { value = level7Of v p (rowsOf (a .plg)) (carriedOf a); state = a }
+    let a = stateAfter v p s in record { value = globe7Value v p (rowsOf (a .plg)) (carriedOf a); state = a }
 
 -- The value of glob7s
-unfoldable pub level7sOf : View → List Float → List (List Float) → Carried → Float
-level7sOf v p g s =
+unfoldable pub glob7sValue : View → List Float → List (List Float) → Carried → Float
+glob7sValue v p g s =
     let d = dayCosinesOf (v .doy) p in
     weightedOf 0·0 (v .sw) (
     (p ‼ 21 ⊗ s .dfa) ∷
@@ -138,7 +138,7 @@ unfoldable pub glob7sFrom : View → List Float → List (List Float) → Carrie
 glob7sFrom v p g s =
     let p99 = cond (eq (p ‼ 99) 0·0) 2·0 (p ‼ 99) in
     cond (ne p99 2·0) (neg 1·0) (
-    level7sOf v p g s)
+    glob7sValue v p g s)
 
 -- glob7s from a View
 unfoldable pub glob7sOf : View → List Float → State → Float

@@ -3,28 +3,28 @@ ghost use mathlib.Core.Path.{_≡_};
 ghost use Prim.Native.Nat.{_≤_};
 ghost use lib.ListN.{length};
 ghost use Rattle.setting.specs.Shared.{Shared};
-ghost use Rattle.expansion.specs.Expansion.{early7Of, carriedOf, level7Of, turnsAfterOf, afterOf, globe7Of, level7sOf, glob7sFrom, glob7sOf};
+ghost use Rattle.expansion.specs.Expansion.{firstTermsOf, carriedOf, globe7Value, turnsAfterOf, stateAfter, globe7Of, glob7sValue, glob7sFrom, glob7sOf};
 use activity::apdf_next;
 use activity::apt_next;
+use expansion_parts::Seasons;
+use expansion_parts::day_cosines;
+use expansion_parts::t6;
+use expansion_parts::t6s;
+use expansion_parts::t7;
+use expansion_parts::t7s;
+use expansion_parts::t8;
+use expansion_parts::t8s;
+use expansion_parts::t10;
+use expansion_parts::t10s;
+use expansion_parts::t11;
+use expansion_parts::t12;
+use expansion_parts::t13;
+use expansion_parts::t13s;
+use expansion_parts::weighted;
 use legendre::flat;
 use legendre::legendre;
 use legendre::rows;
 use numbers::pick;
-use parts::Seasons;
-use parts::day_cosines;
-use parts::t6;
-use parts::t6s;
-use parts::t7;
-use parts::t7s;
-use parts::t8;
-use parts::t8s;
-use parts::t10;
-use parts::t10s;
-use parts::t11;
-use parts::t12;
-use parts::t13;
-use parts::t13s;
-use parts::weighted;
 use setting::State;
 use setting::Valued;
 use setting::View;
@@ -42,13 +42,13 @@ use terms::t4s;
 use terms::t5;
 
 // t[0] to t[5] of globe7.
-pub struct Early {
-    pub x0: f64,
-    pub x1: f64,
-    pub x2: f64,
-    pub x3: f64,
-    pub x4: f64,
-    pub x5: f64,
+pub struct FirstTerms {
+    pub t0: f64,
+    pub t1: f64,
+    pub t2: f64,
+    pub t3: f64,
+    pub t4: f64,
+    pub t5: f64,
 }
 
 // What State carries for the terms, beside the Legendre values.
@@ -81,9 +81,9 @@ pub fn carried_in(s: State) -> Carried
 }
 
 // t[0] to t[5] of globe7.
-pub fn early7(v: View, p: &[f64], g: [[f64; 9]; 4], d: Seasons) -> Early
+pub fn first_terms(v: View, p: &[f64], g: [[f64; 9]; 4], d: Seasons) -> FirstTerms
     requires { ⌜ length (now p) ≡ 150 ⌝ }
-    ensures { λ r. ⌜ r ≡ early7Of v (now (p .entry)) g d ⌝ }
+    ensures { λ r. ⌜ r ≡ firstTermsOf v (now (p .entry)) g d ⌝ }
 {
     let fa = f1(p, v.df, v.dfa, v.swc[1]);
     let x0 = t0(p, v.df, v.dfa, v.dfa2);
@@ -91,23 +91,23 @@ pub fn early7(v: View, p: &[f64], g: [[f64; 9]; 4], d: Seasons) -> Early
     let x3 = t3(p, g, d.cd18);
     let x4 = t4(p, g, fa, d.cd14);
     let x5 = t5(p, g, d.cd39);
-    Early {
-        x0: x0,
-        x1: x1,
-        x2: p[18] * d.cd32,
-        x3: x3,
-        x4: x4,
-        x5: x5,
+    FirstTerms {
+        t0: x0,
+        t1: x1,
+        t2: p[18] * d.cd32,
+        t3: x3,
+        t4: x4,
+        t5: x5,
     }
 }
 
 // The value of globe7, from what the State after it carries.
-pub fn level7(v: View, p: &[f64], g: [[f64; 9]; 4], s: Carried) -> f64
+pub fn globe7_value(v: View, p: &[f64], g: [[f64; 9]; 4], s: Carried) -> f64
     requires { ⌜ (length (now p) ≡ 150) × Shared v ⌝ }
-    ensures { λ r. ⌜ r ≡ level7Of v (now (p .entry)) g s ⌝ }
+    ensures { λ r. ⌜ r ≡ globe7Value v (now (p .entry)) g s ⌝ }
 {
     let d = day_cosines(v.doy, v.cos_year, v.cos_half_year, p);
-    let y = early7(v, p, g, d);
+    let y = first_terms(v, p, g, d);
     let fb = f2(p, v.df, v.dfa, v.swc[1]);
     let x6 = t6(p, g, v.sw[7], fb, d.cd14, v.swc[5], s.ctloc, s.stloc);
     let x7 = t7(p, g, v.sw[8], fb, d.cd14, v.swc[5], s.c2tloc, s.s2tloc);
@@ -117,12 +117,12 @@ pub fn level7(v: View, p: &[f64], g: [[f64; 9]; 4], s: Carried) -> f64
     let x12 = t12(v, p, g, d.cd14, s.apdf, s.apt);
     let x13 = t13(p, g, v.sw[14], fb, d.cd14, v.swc[5], s.c3tloc, s.s3tloc);
     let t = [
-        y.x0,
-        y.x1,
-        y.x2,
-        y.x3,
-        y.x4,
-        y.x5,
+        y.t0,
+        y.t1,
+        y.t2,
+        y.t3,
+        y.t4,
+        y.t5,
         x6,
         x7,
         x8,
@@ -160,7 +160,7 @@ pub fn turns_after(v: View, s: State) -> Turns
 // The State after globe7.
 pub fn after(v: View, p: &[f64], s: State) -> State
     requires { ⌜ length (now p) ≡ 150 ⌝ }
-    ensures { λ r. ⌜ r ≡ afterOf v (now (p .entry)) s ⌝ }
+    ensures { λ r. ⌜ r ≡ stateAfter v (now (p .entry)) s ⌝ }
 {
     let old = s.plg;
     let g = legendre(v.slat, v.clat, old);
@@ -192,14 +192,14 @@ pub fn globe7(v: View, p: &[f64], s: State) -> Valued
     let q = a.plg;
     let g = rows(q);
     let c = carried_in(a);
-    let x = level7(v, p, g, c);
+    let x = globe7_value(v, p, g, c);
     Valued { value: x, state: a }
 }
 
 // The value of glob7s.
-pub fn level7s(v: View, p: &[f64], g: [[f64; 9]; 4], s: Carried) -> f64
+pub fn glob7s_value(v: View, p: &[f64], g: [[f64; 9]; 4], s: Carried) -> f64
     requires { ⌜ (100 ≤ length (now p)) × Shared v ⌝ }
-    ensures { λ r. ⌜ r ≡ level7sOf v (now (p .entry)) g s ⌝ }
+    ensures { λ r. ⌜ r ≡ glob7sValue v (now (p .entry)) g s ⌝ }
 {
     let d = day_cosines(v.doy, v.cos_year, v.cos_half_year, p);
     let x0 = p[21] * s.dfa;
@@ -227,7 +227,7 @@ pub fn glob7s_from(v: View, p: &[f64], g: [[f64; 9]; 4], s: Carried) -> f64
     if p99 != 2.0 {
         return -1.0;
     }
-    level7s(v, p, g, s)
+    glob7s_value(v, p, g, s)
 }
 
 // glob7s from a View.

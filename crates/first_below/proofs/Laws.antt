@@ -25,29 +25,29 @@ use Rattle.column.specs.Parts.{storedFor, rowsStored}
 use Rattle.column.proofs.Laws.{more-length, rows-are}
 use Rattle.first_below_list.specs.declared.First.{First}
 use Rattle.first_below_list.specs.declared.First.the-variants.{At, Nowhere}
-use Rattle.first_below_list.specs.FirstBelowList.{belowOf, rowIn, firstFrom, firstBelow, firstRow}
+use Rattle.first_below_list.specs.FirstBelowList.{isBelow, rowIn, firstFrom, firstBelow, firstRow}
 use Rattle.first_below_list.proofs.Laws.{hit, miss}
-use Rattle.first_below.specs.FirstBelow.{checkedOf, refusedOr, firstOf, firstAnswer, firstAfter}
-use Rattle.first_below.specs.Theorems.{checked-column}
+use Rattle.first_below.specs.FirstBelow.{firstBelowChecked, firstBelowRefusedOr, firstOf, firstAnswer, firstAfter}
+use Rattle.first_below.specs.Theorems.{first-checked-column}
 
 -- ---- the checks
 
 module _ (w : List ℤ) (n : Input) (alts : List Float) (len : ℕ) where
-  pub no-row : (len ≡ 11 → ⊥) → Refused 4 11 ≡ checkedOf w n alts len
-  unfolding checkedOf
+  pub no-row : (len ≡ 11 → ⊥) → Refused 4 11 ≡ firstBelowChecked w n alts len
+  unfolding firstBelowChecked
   no-row h = simp (ne-eqb _ _ h)
 
-  pub a-row : len ≡ 11 → (a : Answer) → a ≡ columnAnswer w n alts (11 * length alts) → a ≡ checkedOf w n alts len
-  unfolding checkedOf
+  pub a-row : len ≡ 11 → (a : Answer) → a ≡ columnAnswer w n alts (11 * length alts) → a ≡ firstBelowChecked w n alts len
+  unfolding firstBelowChecked
   a-row h a e = e ∙ simp (eq-eqb _ _ h)
 
   eleven-of : (b : Bool) (a : Answer) → acceptedOf (cond (not b) (Refused 4 11) a) ≡ true → b ≡ true
   eleven-of true a h = refl
   eleven-of false a h = h
 
-  pub checked-row : acceptedOf (checkedOf w n alts len) ≡ true → (len ≡ 11) × (altitudesFrom 0 alts ≡ Accepted)
-  unfolding checkedOf
-  checked-row h = (eqb-true len 11 (eleven-of (eqb len 11) _ h), accepted-altitudes w n alts (11 * length alts) (checked-column w n alts len h))
+  pub checked-row : acceptedOf (firstBelowChecked w n alts len) ≡ true → (len ≡ 11) × (altitudesFrom 0 alts ≡ Accepted)
+  unfolding firstBelowChecked
+  checked-row h = (eqb-true len 11 (eleven-of (eqb len 11) _ h), accepted-altitudes w n alts (11 * length alts) (first-checked-column w n alts len h))
 
 -- ---- the walk
 
@@ -81,13 +81,13 @@ module _ (sw0 sw15 : Float) (s : List Float) where
         rw (split alts (length alts - left) (omega arith), drop-at A (rowStored sw0 sw15 s (getD alts (length alts - left) nan) ++ B) (11 * (length alts - left)) long, ← e, take-at one B 11 len)
 
     -- the row xs becomes ys: `one` where that is below the level
-    module _ (level : Float) (t : Bool) (f : t ≡ belowOf level one) (xs ys : List Float) (w : ys ≡ cond (belowOf level one) one xs)
+    module _ (level : Float) (t : Bool) (f : t ≡ isBelow level one) (xs ys : List Float) (w : ys ≡ cond (isBelow level one) one xs)
         (whole : firstFrom level (rowsStored sw0 sw15 s alts) left (length alts - left) ≡ firstBelow level (rowsStored sw0 sw15 s alts) (length alts)) where
       begun : firstFrom level (rowsStored sw0 sw15 s alts) (suc (left - 1)) (length alts - left) ≡ firstBelow level (rowsStored sw0 sw15 s alts) (length alts)
       begun = let q : suc (left - 1) ≡ left = omega arith in rw q whole
 
-      same : (b : Bool) → t ≡ b → belowOf level (rowIn (rowsStored sw0 sw15 s alts) (length alts - left)) ≡ b
-      same b u = ap (belowOf level) its ∙ (sym f ∙ u)
+      same : (b : Bool) → t ≡ b → isBelow level (rowIn (rowsStored sw0 sw15 s alts) (length alts - left)) ≡ b
+      same b u = ap (isBelow level) its ∙ (sym f ∙ u)
 
       pub thin : t ≡ true
           → (At (length alts - left) ≡ firstBelow level (rowsStored sw0 sw15 s alts) (length alts)) × (ys ≡ rowIn (rowsStored sw0 sw15 s alts) (length alts - left))
@@ -124,30 +124,30 @@ first-is w n alts numbers sw level xs ys r es en e f g =
     sym (append-nil _) ∙ (rows-are w n alts numbers sw [] es en e ∙ append-nil _) in
     (f ∙ ap (λ (l : List Float). firstBelow level l (length alts)) same, g ∙ ap (λ (l : List Float). firstRow r l xs) same)
 
-refuses : (a : Answer) (x y : First) → acceptedOf a ≡ false → refusedOr a x ≡ refusedOr a y
+refuses : (a : Answer) (x y : First) → acceptedOf a ≡ false → firstBelowRefusedOr a x ≡ firstBelowRefusedOr a y
 refuses Accepted x y h = absurd (true≢false h)
 refuses (Refused i j) x y h = refl
 
-keeps : (a : Answer) (x : First) (rows xs : List Float) → acceptedOf a ≡ false → xs ≡ firstRow (refusedOr a x) rows xs
+keeps : (a : Answer) (x : First) (rows xs : List Float) → acceptedOf a ≡ false → xs ≡ firstRow (firstBelowRefusedOr a x) rows xs
 keeps Accepted x rows xs h = absurd (true≢false h)
 keeps (Refused i j) x rows xs h = refl
 
-pub goes-on : (a : Answer) (x : First) → acceptedOf a ≡ true → refusedOr a x ≡ x
+pub goes-on : (a : Answer) (x : First) → acceptedOf a ≡ true → firstBelowRefusedOr a x ≡ x
 goes-on Accepted x h = refl
 goes-on (Refused i j) x h = absurd (false≢true h)
 
 module _ (w : List ℤ) (n : Input) (alts : List Float) (level : Float) (xs : List Float) (r : First) where
-  pub refused : (a : Answer) → a ≡ checkedOf w n alts (length xs) → acceptedOf a ≡ false → r ≡ refusedOr a Nowhere
+  pub refused : (a : Answer) → a ≡ firstBelowChecked w n alts (length xs) → acceptedOf a ≡ false → r ≡ firstBelowRefusedOr a Nowhere
       → (r ≡ firstAnswer w n alts level (length xs)) × (xs ≡ firstAfter w n alts level xs)
   unfolding firstAnswer firstAfter
   refused a e t f = (
-    f ∙ (refuses a _ _ t ∙ ap (λ (b : Answer). refusedOr b (firstOf w n alts level)) e),
-    keeps a (firstOf w n alts level) (columnRows w n alts) xs t ∙ ap (λ (b : Answer). firstRow (refusedOr b (firstOf w n alts level)) (columnRows w n alts) xs) e,
+    f ∙ (refuses a _ _ t ∙ ap (λ (b : Answer). firstBelowRefusedOr b (firstOf w n alts level)) e),
+    keeps a (firstOf w n alts level) (columnRows w n alts) xs t ∙ ap (λ (b : Answer). firstRow (firstBelowRefusedOr b (firstOf w n alts level)) (columnRows w n alts) xs) e,
   )
 
-  pub answered : (ys : List Float) → acceptedOf (checkedOf w n alts (length xs)) ≡ true → r ≡ firstOf w n alts level → ys ≡ firstRow r (columnRows w n alts) xs
+  pub answered : (ys : List Float) → acceptedOf (firstBelowChecked w n alts (length xs)) ≡ true → r ≡ firstOf w n alts level → ys ≡ firstRow r (columnRows w n alts) xs
       → (r ≡ firstAnswer w n alts level (length xs)) × (ys ≡ firstAfter w n alts level xs)
   unfolding firstAnswer firstAfter
   answered ys t e f =
-      let q : r ≡ refusedOr (checkedOf w n alts (length xs)) (firstOf w n alts level) = e ∙ sym (goes-on (checkedOf w n alts (length xs)) _ t) in
+      let q : r ≡ firstBelowRefusedOr (firstBelowChecked w n alts (length xs)) (firstOf w n alts level) = e ∙ sym (goes-on (firstBelowChecked w n alts (length xs)) _ t) in
       (q, f ∙ ap (λ (a : First). firstRow a (columnRows w n alts) xs) q)

@@ -17,13 +17,13 @@ use Rattle.first_below_list.specs.FirstBelowList.{firstBelow, firstRow}
 
 -- 'the row's length is checked as in the one-altitude call', 4 at 11 for another one, 'the rest as in the column'; no rows are lent, so the
 -- column's buffer is taken to have the length needed, and its own 4 can't occur
-unfoldable pub checkedOf : List ℤ → Input → List Float → ℕ → Answer
-checkedOf w n alts len = cond (not (eqb len 11)) (Refused 4 11) (columnAnswer w n alts (11 * length alts))
+unfoldable pub firstBelowChecked : List ℤ → Input → List Float → ℕ → Answer
+firstBelowChecked w n alts len = cond (not (eqb len 11)) (Refused 4 11) (columnAnswer w n alts (11 * length alts))
 
 -- a refusal, or what follows where there is none
-abbrev pub refusedOr : Answer → First → First
-refusedOr Accepted rest = rest
-refusedOr (Refused n k) rest = first.Refused n k
+abbrev pub firstBelowRefusedOr : Answer → First → First
+firstBelowRefusedOr Accepted rest = rest
+firstBelowRefusedOr (Refused n k) rest = first.Refused n k
 
 -- 'the first altitude in a column whose d[5] is below a level', as 'the full column gives' it: among all its rows
 unfoldable pub firstOf : List ℤ → Input → List Float → Float → First
@@ -31,7 +31,7 @@ firstOf w n alts level = firstBelow level (columnRows w n alts) (length alts)
 
 -- the answer, with a lent row of len numbers
 unfoldable pub firstAnswer : List ℤ → Input → List Float → Float → ℕ → First
-firstAnswer w n alts level len = refusedOr (checkedOf w n alts len) (firstOf w n alts level)
+firstAnswer w n alts level len = firstBelowRefusedOr (firstBelowChecked w n alts len) (firstOf w n alts level)
 
 -- the lent row afterwards: where an index is answered the full column's eleven numbers there, else as it was
 unfoldable pub firstAfter : List ℤ → Input → List Float → Float → List Float → List Float

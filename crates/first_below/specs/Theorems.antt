@@ -1,12 +1,10 @@
 -- What the index and the row are, when none is answered, and the part of demand 3.
 use Prim.Native.Nat.{ℕ, zero, suc, _+_, _*_, _<_, _≤_}
-use mathlib.Core.Path.{_≡_, refl, sym, ap, ap₂, _∙_}
-use mathlib.Core.Bool.{Bool, true, false, cond, not, false≢true}
+use mathlib.Core.Path.{_≡_, refl, sym, ap, _∙_}
+use mathlib.Core.Bool.{Bool, true, false, not, false≢true}
 use mathlib.Core.List.{List, [], _∷_, _++_, append-assoc, append-nil}
-use native.Mathlib.Nat.{le-refl}
 use native.Mathlib.Omega.{arith}
-use borrow.Author.Tests.{le-ltb, ltb-false}
-use lib.Dec.{ltb, eqb}
+use lib.Dec.{eqb}
 use lib.IntN.{ℤ}
 use lib.ListN.{length, take, drop}
 use lib.Seq.{take-at, drop-at, drop-drop}
@@ -17,19 +15,21 @@ use Rattle.setting.specs.declared.Input.{Input}
 use Rattle.acceptance.specs.declared.Answer.{Answer}
 use Rattle.acceptance.specs.declared.Answer.the-variants.{Accepted, Refused}
 use Rattle.acceptance.specs.Acceptance.{acceptedOf, withAltOf}
+use Rattle.acceptance.specs.Refusals.{test-passed}
 use Rattle.atmosphere.specs.Atmosphere.{elevenOf}
 use Rattle.shutoff.specs.Shut.{Alike}
 use Rattle.shutoff.specs.Theorems.{eleven≡}
 use Rattle.drag.specs.Length.{eleven-long}
 use Rattle.altitudes.specs.Altitudes.{columnAnswer}
+use Rattle.altitudes.specs.Room.{at-most-512}
 use Rattle.column.specs.Column.{columnRows, columnAfter}
-use Rattle.column.specs.Theorems.{column-known, at-altitude, written}
+use Rattle.column.specs.Theorems.{column-known, at-altitude, rows≡, column-written}
 use Rattle.first_below_list.specs.declared.First.{First}
 use Rattle.first_below_list.specs.declared.First.the-variants as first
-use Rattle.first_below_list.specs.FirstBelowList.{belowOf, rowIn, firstRow}
+use Rattle.first_below_list.specs.FirstBelowList.{isBelow, rowIn, firstRow}
 use Rattle.first_below_list.specs.Theorems.{isAt}
 use Rattle.first_below_list.specs.Theorems as list
-use Rattle.first_below.specs.FirstBelow.{checkedOf, refusedOr, firstOf, firstAnswer, firstAfter}
+use Rattle.first_below.specs.FirstBelow.{firstBelowChecked, firstBelowRefusedOr, firstOf, firstAnswer, firstAfter}
 
 -- ---- the rows
 
@@ -56,24 +56,16 @@ module _ (w : List ℤ) (n : Input) where
 
 -- ---- the answer
 
--- The column's own refusals are those that it has with any buffer long enough, so none of them is for the buffer: its 4 does not occur.
-pub any-room : (w : List ℤ) (n : Input) (alts : List Float) (len : ℕ) → 11 * length alts ≤ len → columnAnswer w n alts len ≡ columnAnswer w n alts (11 * length alts)
-unfolding columnAnswer
-any-room w n alts len h = rw (le-ltb len (11 * length alts) h, le-ltb (11 * length alts) (11 * length alts) (le-refl _))
-
-few : (b : Bool) (i j : ℕ) (a : Answer) → acceptedOf (cond b (Refused i j) a) ≡ true → (b ≡ false) × (acceptedOf a ≡ true)
-few true i j a h = absurd (false≢true h)
-few false i j a h = (refl, h)
+-- The column's refusals are those with room for its rows (`any-room`, crate altitudes), so none of them is for the buffer: its 4 does not occur.
 
 -- what passes the checks passes the column's, and has at most 512 altitudes
-pub checked-column : (w : List ℤ) (n : Input) (alts : List Float) (len : ℕ) → acceptedOf (checkedOf w n alts len) ≡ true
+pub first-checked-column : (w : List ℤ) (n : Input) (alts : List Float) (len : ℕ) → acceptedOf (firstBelowChecked w n alts len) ≡ true
     → acceptedOf (columnAnswer w n alts (11 * length alts)) ≡ true
-unfolding checkedOf
-checked-column w n alts len h = few (not (eqb len 11)) 4 11 _ h .1
+unfolding firstBelowChecked
+first-checked-column w n alts len h = test-passed (not (eqb len 11)) 4 11 _ h .1
 
-pub checked-few : (w : List ℤ) (n : Input) (alts : List Float) (len : ℕ) → acceptedOf (checkedOf w n alts len) ≡ true → length alts ≤ 512
-unfolding columnAnswer
-checked-few w n alts len h = ltb-false 512 (length alts) (few (ltb 512 (length alts)) 5 512 _ (checked-column w n alts len h) .0)
+pub first-checked-few : (w : List ℤ) (n : Input) (alts : List Float) (len : ℕ) → acceptedOf (firstBelowChecked w n alts len) ≡ true → length alts ≤ 512
+first-checked-few w n alts len h = at-most-512 w n alts (11 * length alts) (first-checked-column w n alts len h)
 
 -- an index and none come from no refusal
 abbrev isRefused : First → Bool
@@ -81,40 +73,40 @@ isRefused (first.At k) = false
 isRefused first.Nowhere = false
 isRefused (first.Refused i j) = true
 
-no-refusal : (a : Answer) (x y : First) → isRefused y ≡ false → refusedOr a x ≡ y → (acceptedOf a ≡ true) × (x ≡ y)
-no-refusal Accepted x y h e = (refl, e)
-no-refusal (Refused i j) x y h e = absurd (false≢true (sym h ∙ sym (ap (λ (r : First). isRefused r) e)))
+first-below-accepted : (a : Answer) (x y : First) → isRefused y ≡ false → firstBelowRefusedOr a x ≡ y → (acceptedOf a ≡ true) × (x ≡ y)
+first-below-accepted Accepted x y h e = (refl, e)
+first-below-accepted (Refused i j) x y h e = absurd (false≢true (sym h ∙ sym (ap (λ (r : First). isRefused r) e)))
 
 module _ (w : List ℤ) (n : Input) (alts : List Float) (level : Float) (len : ℕ) where
-  told : (y : First) → isRefused y ≡ false → firstAnswer w n alts level len ≡ y → (acceptedOf (checkedOf w n alts len) ≡ true) × (firstOf w n alts level ≡ y)
+  told : (y : First) → isRefused y ≡ false → firstAnswer w n alts level len ≡ y → (acceptedOf (firstBelowChecked w n alts len) ≡ true) × (firstOf w n alts level ≡ y)
   unfolding firstAnswer
-  told y h e = no-refusal (checkedOf w n alts len) (firstOf w n alts level) y h e
+  told y h e = first-below-accepted (firstBelowChecked w n alts len) (firstOf w n alts level) y h e
 
   -- An index is answered only if it is the lowest whose row's d[5] in the full column is below the level; it is at most 511.
   pub index-told : (k : ℕ) → firstAnswer w n alts level len ≡ first.At k
       → (k < length alts) × (k ≤ 511) × (lt (rowIn (columnRows w n alts) k ‼ 5) level ≡ true)
       × ((j : ℕ) → j < k → lt (rowIn (columnRows w n alts) j ‼ 5) level ≡ false)
-  unfolding firstOf belowOf
+  unfolding firstOf isBelow
   index-told k e =
       let s = told (first.At k) refl e in
       let f = list.first-told level (columnRows w n alts) (length alts) k (s .1) in
-      (f .0, omega (arith, f .0, checked-few w n alts len (s .0)), f .1, f .2)
+      (f .0, omega (arith, f .0, first-checked-few w n alts len (s .0)), f .1, f .2)
 
   -- None is answered only if no altitude's d[5] is below the level.
   pub none-told : firstAnswer w n alts level len ≡ first.Nowhere → (j : ℕ) → j < length alts → lt (rowIn (columnRows w n alts) j ‼ 5) level ≡ false
-  unfolding firstOf belowOf
+  unfolding firstOf isBelow
   none-told e = list.none-told level (columnRows w n alts) (length alts) (told first.Nowhere refl e .1)
 
   -- Where nothing is refused, that is all it takes: the lowest such index is answered, and none where there is none.
-  pub index-there : checkedOf w n alts len ≡ Accepted → (k : ℕ) → k < length alts → lt (rowIn (columnRows w n alts) k ‼ 5) level ≡ true
+  pub index-there : firstBelowChecked w n alts len ≡ Accepted → (k : ℕ) → k < length alts → lt (rowIn (columnRows w n alts) k ‼ 5) level ≡ true
       → ((j : ℕ) → j < k → lt (rowIn (columnRows w n alts) j ‼ 5) level ≡ false)
       → firstAnswer w n alts level len ≡ first.At k
-  unfolding firstAnswer firstOf belowOf
+  unfolding firstAnswer firstOf isBelow
   index-there e k h t f = rw e (list.first-there level (columnRows w n alts) (length alts) k h t f)
 
-  pub none-there : checkedOf w n alts len ≡ Accepted → ((j : ℕ) → j < length alts → lt (rowIn (columnRows w n alts) j ‼ 5) level ≡ false)
+  pub none-there : firstBelowChecked w n alts len ≡ Accepted → ((j : ℕ) → j < length alts → lt (rowIn (columnRows w n alts) j ‼ 5) level ≡ false)
       → firstAnswer w n alts level len ≡ first.Nowhere
-  unfolding firstAnswer firstOf belowOf
+  unfolding firstAnswer firstOf isBelow
   none-there e f = rw e (list.none-there level (columnRows w n alts) (length alts) f)
 
 -- ---- the lent row
@@ -130,7 +122,7 @@ module _ (w : List ℤ) (n : Input) (alts : List Float) (level : Float) (xs : Li
       let h = index-told w n alts level (length xs) k e .0 in
       let f : firstRow (firstAnswer w n alts level (length xs)) (columnRows w n alts) xs ≡ elevenOf w (withAltOf n (alts ‼ k)) =
       ap (λ (a : First). firstRow a (columnRows w n alts) xs) e ∙ its-row w n alts k h in
-      (f, λ ys g. f ∙ sym (ap (λ (r : List Float). rowIn r k) (written w n alts ys g) ∙ row-at w n alts k (drop (11 * length alts) ys) h))
+      (f, λ ys g. f ∙ sym (ap (λ (r : List Float). rowIn r k) (column-written w n alts ys g) ∙ row-at w n alts k (drop (11 * length alts) ys) h))
 
   -- Where none is answered, or the call is refused, the row is as it was.
   pub row-kept : isAt (firstAnswer w n alts level (length xs)) ≡ false → firstAfter w n alts level xs ≡ xs
@@ -144,11 +136,6 @@ module _ (w : List ℤ) (n : Input) (alts : List Float) (level : Float) (xs : Li
 
 -- ---- demand 3
 
-rows≡ : (w : List ℤ) (a b : Input) → ((z : Float) → elevenOf w (withAltOf a z) ≡ elevenOf w (withAltOf b z)) → (alts : List Float) → columnRows w a alts ≡ columnRows w b alts
-unfolding columnRows
-rows≡ w a b h [] = refl
-rows≡ w a b h (z ∷ zs) = ap₂ (λ (l r : List Float). l ++ r) (h z) (rows≡ w a b h zs)
-
 -- Demand 3 for the first altitude thin enough. For every switch row, any altitudes, any level and any lent row, and any two records alike under
 -- that switch row, whatever their own altitudes, on which a column at these altitudes is accepted: one answer, and one row afterwards.
 pub demand-3-first : (w : List ℤ) (a b : Input) (alts : List Float) (level : Float) (xs : List Float)
@@ -157,7 +144,7 @@ pub demand-3-first : (w : List ℤ) (a b : Input) (alts : List Float) (level : F
     → columnAnswer w b alts (11 * length alts) ≡ Accepted
     → (firstAnswer w a alts level (length xs) ≡ firstAnswer w b alts level (length xs))
     × (firstAfter w a alts level xs ≡ firstAfter w b alts level xs)
-unfolding firstAfter firstAnswer firstOf checkedOf
+unfolding firstAfter firstAnswer firstOf firstBelowChecked
 demand-3-first w a b alts level xs like e f =
     let h : (z : Float) → elevenOf w (withAltOf a z) ≡ elevenOf w (withAltOf b z) =
     λ z.

@@ -7,7 +7,7 @@ ghost use Rattle.column.specs.Column.{columnRows};
 ghost use Rattle.column.specs.Parts.{rowsStored};
 ghost use Rattle.first_below_list.specs.declared.First.the-variants.{Nowhere};
 ghost use Rattle.first_below_list.specs.FirstBelowList.{firstBelow, firstRow};
-ghost use Rattle.first_below.specs.FirstBelow.{checkedOf, refusedOr, firstOf, firstAnswer, firstAfter};
+ghost use Rattle.first_below.specs.FirstBelow.{firstBelowChecked, firstBelowRefusedOr, firstOf, firstAnswer, firstAfter};
 use acceptance::Answer;
 use acceptance::accepted;
 use altitudes::column_answer;
@@ -19,7 +19,7 @@ use stored::row_on;
 
 // 4 for a row whose length len is not 11; then the column's refusals, its buffer taken to be long enough.
 pub fn checked(w: [i32; 24], n: Input, alts: &[f64], len: usize) -> Answer
-    ensures { λ r. ⌜ r ≡ checkedOf w n (now (alts .entry)) len ⌝ }
+    ensures { λ r. ⌜ r ≡ firstBelowChecked w n (now (alts .entry)) len ⌝ }
 {
     if len != 11 {
         return Answer::Refused(4, 11);
@@ -67,7 +67,7 @@ pub fn first(w: [i32; 24], n: Input, alts: &[f64], level: f64, row: &mut [f64]) 
 
 // A refusal as the call's answer; nobody asks for an accepted one.
 pub fn refusal(a: Answer) -> First
-    ensures { λ r. ⌜ r ≡ refusedOr a Nowhere ⌝ }
+    ensures { λ r. ⌜ r ≡ firstBelowRefusedOr a Nowhere ⌝ }
 {
     match a {
         Answer::Accepted => First::Nowhere,

@@ -6,14 +6,14 @@ use mathlib.Core.List.{List}
 use borrow.Author.Tests.{not-true, not-false}
 use lib.Ieee.{Float}
 use Rattle.first_below_list.specs.declared.First.the-variants.{At}
-use Rattle.first_below_list.specs.FirstBelowList.{belowOf, rowIn, firstFrom}
+use Rattle.first_below_list.specs.FirstBelowList.{isBelow, rowIn, firstFrom}
 
 module _ (level : Float) (rows : List Float) (m k : ℕ) where
-  pub hit : belowOf level (rowIn rows k) ≡ true → firstFrom level rows (suc m) k ≡ At k
+  pub hit : isBelow level (rowIn rows k) ≡ true → firstFrom level rows (suc m) k ≡ At k
   unfolding firstFrom
   hit t = rw t
 
-  pub miss : belowOf level (rowIn rows k) ≡ false → firstFrom level rows (suc m) k ≡ firstFrom level rows m (k + 1)
+  pub miss : isBelow level (rowIn rows k) ≡ false → firstFrom level rows (suc m) k ≡ firstFrom level rows m (k + 1)
   unfolding firstFrom
   miss t = rw t
 

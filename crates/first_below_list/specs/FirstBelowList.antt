@@ -9,8 +9,8 @@ use Rattle.first_below_list.specs.declared.First.{First}
 use Rattle.first_below_list.specs.declared.First.the-variants.{At, Nowhere, Refused}
 
 -- whether a row's d[5] is below the level; 'a NaN never' is, nor is anything below a NaN
-unfoldable pub belowOf : Float → List Float → Bool
-belowOf level row = lt (row ‼ 5) level
+unfoldable pub isBelow : Float → List Float → Bool
+isBelow level row = lt (row ‼ 5) level
 
 -- the eleven numbers of the altitude with the index k
 unfoldable pub rowIn : List Float → ℕ → List Float
@@ -19,7 +19,7 @@ rowIn rows k = take 11 (drop (11 * k) rows)
 -- the lowest index of the m from k on whose row is below the level
 unfoldable pub firstFrom : Float → List Float → ℕ → ℕ → First
 firstFrom level rows zero k = Nowhere
-firstFrom level rows (suc m) k = cond (belowOf level (rowIn rows k)) (At k) (firstFrom level rows m (k + 1))
+firstFrom level rows (suc m) k = cond (isBelow level (rowIn rows k)) (At k) (firstFrom level rows m (k + 1))
 
 -- of n altitudes
 abbrev pub firstBelow : Float → List Float → ℕ → First

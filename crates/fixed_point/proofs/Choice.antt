@@ -3,7 +3,6 @@ use mathlib.Core.Path.{_≡_, sym, ap}
 use mathlib.Core.Bool.{Bool, true, false, cond}
 use Prim.Native.Nat.{ℕ, _-_, _≤_, _<_}
 use borrow.Author.Tests.{eq-eqb, ne-eqb, lt-ltb, le-ltb}
-use lib.Dec.{eqb}
 use Rattle.fixed_point.specs.Fixed.{chooseOf, apartOf}
 
 pub choose-zero : (h x y : ℕ) → h ≡ 0 → x ≡ chooseOf h x y

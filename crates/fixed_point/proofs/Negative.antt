@@ -4,8 +4,7 @@ use mathlib.Core.Bool.{Bool, true, false, cond}
 use Prim.Native.Nat.{ℕ, zero, suc, _+_, _*_, _^_}
 use lib.Dec.{ltb}
 use lib.IntN.{ℤ}
-use lib.Ieee.{Format, Float, nan, inf, fin, binary64, up, down, neg, mul, odd, units, round, size, prec, low, emax}
-use lib.Count.{trailingZeros}
+use lib.Ieee.{Format, Float, nan, inf, fin, binary64, up, down, neg, mul, odd, units, round, prec, low, emax}
 
 neg-cond : (b : Bool) (x y x' y' : Float) → neg x ≡ x' → neg y ≡ y' → neg (cond b x y) ≡ cond b x' y'
 neg-cond true x y x' y' e f = e

@@ -1,18 +1,18 @@
 -- What tests of a float against constants say of its size, and back. Assumes nothing.
-use mathlib.Core.Path.{_≡_, refl, sym, ap, _∙_, subst}
+use mathlib.Core.Path.{_≡_, refl, sym, subst}
 use mathlib.Core.Logic.{_⊎_, inl, inr}
-use mathlib.Core.Bool.{Bool, true, false, not, cond, _&&_, _||_}
-use Prim.Native.Nat.{ℕ, zero, suc, _+_, _-_, _*_, _/_, _^_, _≤_, _<_}
+use mathlib.Core.Bool.{Bool, true, false, not, _&&_, _||_}
+use Prim.Native.Nat.{ℕ, _+_, _*_, _^_, _≤_, _<_}
 use native.Mathlib.Omega.{arith}
-use native.Mathlib.Nat.{le-of-eq, le-of-lt, not-suc-le-zero, eq-or-lt-of-le, le-trans, div-le-of-le-mul, mul-le-mul-right, zero-lt-suc, zero-div}
+use native.Mathlib.Nat.{le-of-eq, le-of-lt, not-suc-le-zero, eq-or-lt-of-le, le-trans, div-le-of-le-mul, mul-le-mul-right}
 use borrow.Author.Tests.{ltb-true, ltb-false, lt-ltb, le-ltb, eq-eqb, ne-eqb}
 use lib.Dec.{T, eqb, ltb}
-use lib.IntN.{ℤ, pos, negsuc}
+use lib.IntN.{ℤ, pos}
 use lib.Ieee.{Float, nan, inf, fin, up, down, ne, lt, le, eq, isNan}
 use lib.Ieee.Scale.{finite}
 use Rattle.fixed_point.specs.Float.{Within, minusSign}
 use Rattle.fixed_point.specs.Fixed.{scaledOf}
-use Rattle.fixed_point.specs.Float.{one, minusOne, nought}
+use Rattle.fixed_point.specs.Float.{nought}
 
 -- true is not false
 pub clash : {X : Type 0} → true ≡ false → X
@@ -168,17 +168,10 @@ module _ (s : Bool) (m : ℕ) (e : ℤ) (Q : ℕ) (h : Within (fin s m e) Q) whe
     | true ↦ λ g. le-ltb (a * 2 ^ j * down e) (m * up e * 1) (far (a * 2 ^ j) (m * up e) (down e) l g)
   ] h
 
--- what is not below 0: a number with no sign, and -0
+-- a number with no sign is not below 0
 pub not-negative : (m : ℕ) (e : ℤ) → lt (fin false m e) nought ≡ false
 unfolding lt
 not-negative m e = le-ltb (m * up e * 1) (0 * 1 * down e) (nothing (m * up e * 1) (down e))
   where
     nothing : (p d : ℕ) → 0 * 1 * d ≤ p
     nothing p d = omega arith
-
-pub minus-zero : (k m : ℕ) (e : ℤ) → lt (fin true m e) nought ≡ false → scaledOf k (fin true m e) ≡ 0
-unfolding lt
-minus-zero k m e h = ap (λ (z : ℕ). z / down e) (none (m * up e) (down e) (2 ^ k) (ltb-false 0 (m * up e * 1 + 0 * 1 * down e) h)) ∙ zero-div (down e)
-  where
-    none : (p d c : ℕ) → p * 1 + 0 * 1 * d ≤ 0 → p * c ≡ 0
-    none p d c h = omega (arith, mul-le-mul-right c h)

@@ -29,8 +29,8 @@ minusSign (inf s) = digit s
 minusSign (fin s m e) = digit s
 
 -- 1, -1, 0, 2 ^ -1022 and 2 ^ 54
-abbrev pub one : Float
-one = fin false 1 (pos 0)
+abbrev pub unit : Float
+unit = fin false 1 (pos 0)
 
 abbrev pub minusOne : Float
 minusOne = fin true 1 (pos 0)

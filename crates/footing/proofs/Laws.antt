@@ -11,17 +11,17 @@ use Rattle.profile.specs.declared.unchecked.Shape.{Shape}
 use Rattle.profile.specs.declared.unchecked.Profile.{Profile}
 use Rattle.profile.specs.Profile.{densityIn, temperatureIn}
 use Rattle.layers.specs.Layers.{downOf}
-use Rattle.plan.specs.declared.Levels.{Levels}
-use Rattle.plan.specs.Plan.{told, given}
+use Rattle.plan.specs.declared.ExpansionValues.{ExpansionValues}
+use Rattle.plan.specs.Plan.{told, answerTo}
 use Rattle.species.specs.declared.Blend.{Blend}
 use Rattle.species.specs.declared.Mixture.{Mixture}
 use Rattle.tables.specs.Tables.{pdmT0, pdmT2, pdmT3, pdmT4, pdlT1}
-use Rattle.upper.specs.declared.Site.{Site}
-use Rattle.upper.specs.Upper.{massOf}
+use Rattle.gts7_arithmetic.specs.declared.Site.{Site}
+use Rattle.gts7_arithmetic.specs.Gts7Arithmetic.{massOf}
 use Rattle.stages.specs.Stages.{shapePlan, n2Plan, heliumPlan, o2Plan, argonPlan}
-use Rattle.lower.specs.declared.Meso.{Meso}
-use Rattle.lower.specs.declared.Nodes.{Nodes}
-use Rattle.lower.specs.Lower.{mesoNodesPlan, unsetOf, dmcOf, dm28mOf, n2Of, fullOf, kilogramsOf}
+use Rattle.lower_atmosphere.specs.declared.Meso.{Meso}
+use Rattle.lower_atmosphere.specs.declared.Nodes.{Nodes}
+use Rattle.lower_atmosphere.specs.LowerAtmosphere.{mesoNodesPlan, unsetNodes, dmcOf, dm28mOf, lowerN2, fullOf, kilogramsOf}
 use Rattle.footing.specs.declared.Curves.{Curves}
 use Rattle.footing.specs.declared.Footing.{Footing}
 use Rattle.footing.specs.declared.Three.{Three}
@@ -31,25 +31,25 @@ use Rattle.footing.specs.Footing.{threeOf, curvesOf, standingOf, footing
 pub third : (m row : List Float) → m ≡ row → m ‼ 2 ≡ row ‼ 2
 third m row e = ap (λ (x : List Float). x ‼ 2) e
 
-pub three-law : (sw : List Float) (h : Shape) (k : Mixed) (b28 flux xmm : Float) (l : Levels) (ar o2 he : Mixture) (d m : List Float)
-    → ar ≡ told (given l) (argonPlan sw h (k .ar) 72·5 b28 (m ‼ 3 ⊗ d ‼ 5) xmm)
-    → o2 ≡ told (given l) (o2Plan sw h (k .o2) 72·5 b28 (m ‼ 3 ⊗ d ‼ 5) xmm flux)
-    → he ≡ told (given l) (heliumPlan sw h (k .he) 72·5 b28 (m ‼ 3 ⊗ d ‼ 5) xmm)
+pub three-law : (sw : List Float) (h : Shape) (k : Mixed) (b28 flux xmm : Float) (l : ExpansionValues) (ar o2 he : Mixture) (d m : List Float)
+    → ar ≡ told (answerTo l) (argonPlan sw h (k .ar) 72·5 b28 (m ‼ 3 ⊗ d ‼ 5) xmm)
+    → o2 ≡ told (answerTo l) (o2Plan sw h (k .o2) 72·5 b28 (m ‼ 3 ⊗ d ‼ 5) xmm flux)
+    → he ≡ told (answerTo l) (heliumPlan sw h (k .he) 72·5 b28 (m ‼ 3 ⊗ d ‼ 5) xmm)
     → d ≡ pdlT1
     → m ≡ pdmT2
     → _≡_ {A = Three} (record { he = he; o2 = o2; ar = ar }) (threeOf sw h k b28 flux xmm l)
 unfolding threeOf
 three-law sw h k b28 flux xmm l ar o2 he d m e0 e1 e2 e3 e4 = rw (e0, e1, e2, e3, e4)
 
-pub footing-law : (sw : List Float) (x : Site) (l : Levels) (tropo : Bool) (f : Footing) (k : Curves) (d : Float) (e : Meso) (y : Three) (b : Blend) (m : Mixed) (h : Shape)
+pub footing-law : (sw : List Float) (x : Site) (l : ExpansionValues) (tropo : Bool) (f : Footing) (k : Curves) (d : Float) (e : Meso) (y : Three) (b : Blend) (m : Mixed) (h : Shape)
     → f ≡ standingOf (sw ‼ 0) x h b y d e k
     → k ≡ curvesOf sw x d e l tropo
     → d ≡ dm28mOf (sw ‼ 0) (b .dm)
-    → e ≡ told (given l) (mesoNodesPlan sw h)
+    → e ≡ told (answerTo l) (mesoNodesPlan sw h)
     → y ≡ threeOf sw h m (b .b) (x .flux) (x .nine .xmm) l
-    → b ≡ told (given l) (n2Plan sw h (m .n2) 72·5 (x .zhf) (x .nine .xmm))
+    → b ≡ told (answerTo l) (n2Plan sw h (m .n2) 72·5 (x .zhf) (x .nine .xmm))
     → m ≡ mixedAt (x .nine) (sw ‼ 15) 72·5
-    → h ≡ told (given l) (shapePlan sw x 72·5)
+    → h ≡ told (answerTo l) (shapePlan sw x 72·5)
     → f ≡ footingOf sw x l tropo
 unfolding footingOf
 footing-law sw x l tropo f k d e y b m h e0 e1 e2 e3 e4 e5 e6 e7 = rw (e0, e1, e2, e3, e4, e5, e6, e7)
@@ -64,9 +64,9 @@ module _ (x : Site) (d : Float) (m : Meso) (k : Curves) (alt : Float) (r : Profi
   unfolding reachedOf
   lower-law e t f = rw (f, t) e
 
-  pub between-law : (w : Nodes) → r ≡ n2Of x alt d w → w ≡ unsetOf m → lt alt 32·5 ≡ false → lt 32·5 alt ≡ false → r ≡ reachedOf x d m k alt
+  pub between-law : (w : Nodes) → r ≡ lowerN2 x alt d w → w ≡ unsetNodes m → lt alt 32·5 ≡ false → lt 32·5 alt ≡ false → r ≡ reachedOf x d m k alt
   unfolding reachedOf
-  between-law w e u f g = rw (g, f) (e ∙ ap (n2Of x alt d) u)
+  between-law w e u f g = rw (g, f) (e ∙ ap (lowerN2 x alt d) u)
 
 pub row-law : (sw0 : Float) (f : Footing) (alt : Float) (all g ar o2 he t1 n : Float) (a : Profile) (c : Float) (m4 m3 m0 : List Float)
     → all ≡ kilogramsOf sw0 g

@@ -11,27 +11,27 @@ use Rattle.profile.specs.Profile.{loweredOf, densityIn, temperatureIn}
 use Rattle.profile.specs.declared.unchecked.Profile.{Profile}
 use Rattle.profile.specs.declared.unchecked.Shape.{Shape}
 use Rattle.layers.specs.Layers.{spanOf, blankOf, downOf}
-use Rattle.plan.specs.declared.Levels.{Levels}
-use Rattle.plan.specs.Plan.{told, given}
+use Rattle.plan.specs.declared.ExpansionValues.{ExpansionValues}
+use Rattle.plan.specs.Plan.{told, answerTo}
 use Rattle.species.specs.declared.Blend.{Blend}
 use Rattle.tables.specs.Tables.{pdmT0, pdmT2, pdmT3, pdmT4, pdlT1}
-use Rattle.upper.specs.declared.Site.{Site}
-use Rattle.upper.specs.Upper.{massOf}
+use Rattle.gts7_arithmetic.specs.declared.Site.{Site}
+use Rattle.gts7_arithmetic.specs.Gts7Arithmetic.{massOf}
 use Rattle.stages.specs.Stages.{shapePlan, n2Plan, heliumPlan, o2Plan, argonPlan}
-use Rattle.lower.specs.declared.Meso.{Meso}
-use Rattle.lower.specs.Lower.{mesoNodesPlan, lowerPlan, unsetOf, dmcOf, dm28mOf, zn2, zn3, n2Of, fullOf, kilogramsOf}
+use Rattle.lower_atmosphere.specs.declared.Meso.{Meso}
+use Rattle.lower_atmosphere.specs.LowerAtmosphere.{mesoNodesPlan, lowerPlan, unsetNodes, dmcOf, dm28mOf, zn2, zn3, lowerN2, fullOf, kilogramsOf}
 use Rattle.footing.specs.declared.Curves.{Curves}
 use Rattle.footing.specs.declared.Footing.{Footing}
 use Rattle.footing.specs.declared.Three.{Three}
 
 -- helium, O2 and argon at 72.5 km; m says which are mixed there
-unfoldable pub threeOf : List Float → Shape → Mixed → Float → Float → Float → Levels → Three
+unfoldable pub threeOf : List Float → Shape → Mixed → Float → Float → Float → ExpansionValues → Three
 threeOf sw h m b28 flux xmm l =
     let zhm = pdmT2 ‼ 3 ⊗ pdlT1 ‼ 5 in
     record {
-      he = told (given l) (heliumPlan sw h (m .he) 72·5 b28 zhm xmm);
-      o2 = told (given l) (o2Plan sw h (m .o2) 72·5 b28 zhm xmm flux);
-      ar = told (given l) (argonPlan sw h (m .ar) 72·5 b28 zhm xmm);
+      he = told (answerTo l) (heliumPlan sw h (m .he) 72·5 b28 zhm xmm);
+      o2 = told (answerTo l) (o2Plan sw h (m .o2) 72·5 b28 zhm xmm flux);
+      ar = told (answerTo l) (argonPlan sw h (m .ar) 72·5 b28 zhm xmm);
     }
 
 -- a density in the units asked for
@@ -40,13 +40,13 @@ inUnitsOf sw0 d = cond (ne sw0 0·0) (d ⊗ 1·0E6) d
 
 -- the layer from 72.5 km to 32.5 km, made of its nodes; and, where the troposphere is asked for, the density at 32.5 km and the layer from there
 -- down, whose nodes are those of 0 km
-unfoldable pub curvesOf : List Float → Site → Float → Meso → Levels → Bool → Curves
+unfoldable pub curvesOf : List Float → Site → Float → Meso → ExpansionValues → Bool → Curves
 curvesOf sw x d m l tropo =
     let xm = x .nine .xmm in
     let a = layerOf (x .re) zn2 (m .tn2) 4 (m .tgn2) 32·5 in
     let u = spanOf (x .nine .rgas) (x .gsurf) (x .re) xm a in
     cond (not tropo) (record { upper = u; d32 = 0·0; lower = blankOf })
-    (let w = told (given l) (lowerPlan sw 0·0 m) in
+    (let w = told (answerTo l) (lowerPlan sw 0·0 m) in
     record {
       upper = u;
       d32 = loweredOf (x .nine .rgas) (x .gsurf) (x .re) xm d a 4;
@@ -67,13 +67,13 @@ standingOf sw0 x h b y d m k =
       curves = k;
     }
 
-unfoldable pub footingOf : List Float → Site → Levels → Bool → Footing
+unfoldable pub footingOf : List Float → Site → ExpansionValues → Bool → Footing
 footingOf sw x l tropo =
-    let h = told (given l) (shapePlan sw x 72·5) in
+    let h = told (answerTo l) (shapePlan sw x 72·5) in
     let m = mixedAt (x .nine) (sw ‼ 15) 72·5 in
-    let b = told (given l) (n2Plan sw h (m .n2) 72·5 (x .zhf) (x .nine .xmm)) in
+    let b = told (answerTo l) (n2Plan sw h (m .n2) 72·5 (x .zhf) (x .nine .xmm)) in
     let y = threeOf sw h m (b .b) (x .flux) (x .nine .xmm) l in
-    let e = told (given l) (mesoNodesPlan sw h) in
+    let e = told (answerTo l) (mesoNodesPlan sw h) in
     let d = dm28mOf (sw ‼ 0) (b .dm) in
     standingOf (sw ‼ 0) x h b y d e (curvesOf sw x d e l tropo)
 
@@ -82,7 +82,7 @@ unfoldable pub reachedOf : Site → Float → Meso → Curves → Float → Prof
 reachedOf x d m k alt =
     cond (lt 32·5 alt) (downOf (x .re) 72·5 (k .upper) 4 d alt)
     (cond (lt alt 32·5) (downOf (x .re) 32·5 (k .lower) 5 (k .d32) alt)
-    (n2Of x alt d (unsetOf m)))
+    (lowerN2 x alt d (unsetNodes m)))
 
 -- the eleven numbers at an altitude
 unfoldable pub rowBelowOf : Float → Footing → Float → List Float

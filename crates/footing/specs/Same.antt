@@ -1,26 +1,23 @@
 -- A footing reads no value of PD[1], PD[6], PD[7] and PD[8].
-use mathlib.Core.Path.{_≡_, refl, sym, ap, _∙_}
+use mathlib.Core.Path.{_≡_, refl, sym, _∙_}
 use mathlib.Core.Bool.{Bool, true, false, not}
 use mathlib.Core.List.{List}
 use lib.Ieee.{Float, lt}
-use Rattle.numbers.specs.Arithmetic.{_⊗_, _‼_}
+use Rattle.numbers.specs.Arithmetic.{_‼_}
 use Rattle.numbers.specs.Literals.{32·5, 72·5, 300·0}
 use Rattle.mixing.specs.declared.limits.Mixed.{Mixed}
 use Rattle.profile.specs.declared.unchecked.Shape.{Shape}
-use Rattle.plan.specs.declared.Levels.{Levels}
-use Rattle.plan.specs.Plan.{Plan, Ask, either, _>>=_, told, given, then, last}
-use Rattle.species.specs.declared.Blend.{Blend}
+use Rattle.plan.specs.declared.ExpansionValues.{ExpansionValues}
+use Rattle.plan.specs.Plan.{Plan, Ask, either, _>>=_, told, answerTo, then, last}
 use Rattle.tables.specs.Tables.{pdlT1}
-use Rattle.upper.specs.declared.Site.{Site}
-use Rattle.upper.specs.declared.Nodes.{Nodes}
-use Rattle.upper.specs.Upper.{shapeOf}
+use Rattle.gts7_arithmetic.specs.declared.Site.{Site}
 use Rattle.stages.specs.Stages.{tinfPlan, gradientPlan, tlbPlan, nodesPlan, shapePlan, n2Plan, heliumPlan, o2Plan, argonPlan}
-use Rattle.lower.specs.declared.Meso.{Meso}
-use Rattle.lower.specs.Lower.{mesoNodesPlan, lowerPlan}
+use Rattle.lower_atmosphere.specs.declared.Meso.{Meso}
+use Rattle.lower_atmosphere.specs.LowerAtmosphere.{mesoNodesPlan, lowerPlan}
 use Rattle.footing.specs.Footing.{threeOf, curvesOf, footingOf}
 
 -- the values but for those four are the same
-pub record Same (l m : Levels) : Type 0 where
+pub record SameButFour (l m : ExpansionValues) : Type 0 where
   pub pt : l .pt ≡ m .pt
   pub ps : l .ps ≡ m .ps
   pub pd0 : l .pd0 ≡ m .pd0
@@ -47,61 +44,61 @@ one-of : {A : Type 0} (g k : Ask → Float) (b : Bool) (p q : Plan A) → told g
 one-of g k true p q e f = e
 one-of g k false p q e f = f
 
-module _ (l m : Levels) (s : Same l m) (sw : List Float) where
-  tinf-same : (z : Float) → told (given l) (tinfPlan sw z) ≡ told (given m) (tinfPlan sw z)
+module _ (l m : ExpansionValues) (s : SameButFour l m) (sw : List Float) where
+  tinf-same : (z : Float) → told (answerTo l) (tinfPlan sw z) ≡ told (answerTo m) (tinfPlan sw z)
   unfolding told tinfPlan _>>=_
-  tinf-same z = one-of (given l) (given m) (lt (pdlT1 ‼ 15) z) _ _ (rw (s .pt)) refl
+  tinf-same z = one-of (answerTo l) (answerTo m) (lt (pdlT1 ‼ 15) z) _ _ (rw (s .pt)) refl
 
-  gradient-same : (z : Float) → told (given l) (gradientPlan sw z) ≡ told (given m) (gradientPlan sw z)
+  gradient-same : (z : Float) → told (answerTo l) (gradientPlan sw z) ≡ told (answerTo m) (gradientPlan sw z)
   unfolding told gradientPlan _>>=_
-  gradient-same z = one-of (given l) (given m) (lt 72·5 z) _ _ (rw (s .ps)) refl
+  gradient-same z = one-of (answerTo l) (answerTo m) (lt 72·5 z) _ _ (rw (s .ps)) refl
 
-  tlb-same : told (given l) (tlbPlan sw) ≡ told (given m) (tlbPlan sw)
+  tlb-same : told (answerTo l) (tlbPlan sw) ≡ told (answerTo m) (tlbPlan sw)
   unfolding told tlbPlan _>>=_
   tlb-same = rw (s .pd3)
 
-  nodes-same : (z : Float) → told (given l) (nodesPlan sw z) ≡ told (given m) (nodesPlan sw z)
+  nodes-same : (z : Float) → told (answerTo l) (nodesPlan sw z) ≡ told (answerTo m) (nodesPlan sw z)
   unfolding told nodesPlan _>>=_
-  nodes-same z = one-of (given l) (given m) (lt z 300·0) _ _ (rw (s .ptl0, s .ptl1, s .ptl2, s .ptl3, s .pma8)) refl
+  nodes-same z = one-of (answerTo l) (answerTo m) (lt z 300·0) _ _ (rw (s .ptl0, s .ptl1, s .ptl2, s .ptl3, s .pma8)) refl
 
-  shape-same : (x : Site) (z : Float) → told (given l) (shapePlan sw x z) ≡ told (given m) (shapePlan sw x z)
+  shape-same : (x : Site) (z : Float) → told (answerTo l) (shapePlan sw x z) ≡ told (answerTo m) (shapePlan sw x z)
   unfolding shapePlan
   shape-same x z =
-      then (given l) (tinfPlan sw z) _ _ (sym (tinf-same z))
-      ∙ then (given l) (gradientPlan sw z) _ _ (sym (gradient-same z))
-      ∙ then (given l) (tlbPlan sw) _ _ (sym tlb-same)
-      ∙ then (given l) (nodesPlan sw z) _ _ (sym (nodes-same z))
-      ∙ last (given l) _
+      then (answerTo l) (tinfPlan sw z) _ _ (sym (tinf-same z))
+      ∙ then (answerTo l) (gradientPlan sw z) _ _ (sym (gradient-same z))
+      ∙ then (answerTo l) (tlbPlan sw) _ _ (sym tlb-same)
+      ∙ then (answerTo l) (nodesPlan sw z) _ _ (sym (nodes-same z))
+      ∙ last (answerTo l) _
       ∙ sym
-      (then (given m) (tinfPlan sw z) _ _ refl
-      ∙ then (given m) (gradientPlan sw z) _ _ refl
-      ∙ then (given m) (tlbPlan sw) _ _ refl
-      ∙ then (given m) (nodesPlan sw z) _ _ refl
-      ∙ last (given m) _)
+      (then (answerTo m) (tinfPlan sw z) _ _ refl
+      ∙ then (answerTo m) (gradientPlan sw z) _ _ refl
+      ∙ then (answerTo m) (tlbPlan sw) _ _ refl
+      ∙ then (answerTo m) (nodesPlan sw z) _ _ refl
+      ∙ last (answerTo m) _)
 
-  n2-same : (h : Shape) (on : Bool) (z zhf xmm : Float) → told (given l) (n2Plan sw h on z zhf xmm) ≡ told (given m) (n2Plan sw h on z zhf xmm)
+  n2-same : (h : Shape) (on : Bool) (z zhf xmm : Float) → told (answerTo l) (n2Plan sw h on z zhf xmm) ≡ told (answerTo m) (n2Plan sw h on z zhf xmm)
   unfolding told n2Plan _>>=_
   n2-same h on z zhf xmm = rw (s .pd2)
 
-  helium-same : (h : Shape) (on : Bool) (z b28 zhm xmm : Float) → told (given l) (heliumPlan sw h on z b28 zhm xmm) ≡ told (given m) (heliumPlan sw h on z b28 zhm xmm)
+  helium-same : (h : Shape) (on : Bool) (z b28 zhm xmm : Float) → told (answerTo l) (heliumPlan sw h on z b28 zhm xmm) ≡ told (answerTo m) (heliumPlan sw h on z b28 zhm xmm)
   unfolding told heliumPlan _>>=_
   helium-same h on z b28 zhm xmm = rw (s .pd0)
 
-  o2-same : (h : Shape) (on : Bool) (z b28 zhm xmm flux : Float) → told (given l) (o2Plan sw h on z b28 zhm xmm flux) ≡ told (given m) (o2Plan sw h on z b28 zhm xmm flux)
+  o2-same : (h : Shape) (on : Bool) (z b28 zhm xmm flux : Float) → told (answerTo l) (o2Plan sw h on z b28 zhm xmm flux) ≡ told (answerTo m) (o2Plan sw h on z b28 zhm xmm flux)
   unfolding told o2Plan _>>=_
   o2-same h on z b28 zhm xmm flux = rw (s .pd4)
 
-  argon-same : (h : Shape) (on : Bool) (z b28 zhm xmm : Float) → told (given l) (argonPlan sw h on z b28 zhm xmm) ≡ told (given m) (argonPlan sw h on z b28 zhm xmm)
+  argon-same : (h : Shape) (on : Bool) (z b28 zhm xmm : Float) → told (answerTo l) (argonPlan sw h on z b28 zhm xmm) ≡ told (answerTo m) (argonPlan sw h on z b28 zhm xmm)
   unfolding told argonPlan _>>=_
   argon-same h on z b28 zhm xmm = rw (s .pd5)
 
-  meso-same : (h : Shape) → told (given l) (mesoNodesPlan sw h) ≡ told (given m) (mesoNodesPlan sw h)
+  meso-same : (h : Shape) → told (answerTo l) (mesoNodesPlan sw h) ≡ told (answerTo m) (mesoNodesPlan sw h)
   unfolding told mesoNodesPlan _>>=_
   meso-same h = rw (s .pma0, s .pma1, s .pma2, s .pma9)
 
-  lower-same : (z : Float) (w : Meso) → told (given l) (lowerPlan sw z w) ≡ told (given m) (lowerPlan sw z w)
+  lower-same : (z : Float) (w : Meso) → told (answerTo l) (lowerPlan sw z w) ≡ told (answerTo m) (lowerPlan sw z w)
   unfolding told lowerPlan _>>=_
-  lower-same z w = one-of (given l) (given m) (not (lt z 32·5)) _ _ refl (rw (s .pma3, s .pma4, s .pma5, s .pma6, s .pma7))
+  lower-same z w = one-of (answerTo l) (answerTo m) (not (lt z 32·5)) _ _ refl (rw (s .pma3, s .pma4, s .pma5, s .pma6, s .pma7))
 
   three-same : (h : Shape) (k : Mixed) (b28 flux xmm : Float) → threeOf sw h k b28 flux xmm l ≡ threeOf sw h k b28 flux xmm m
   unfolding threeOf

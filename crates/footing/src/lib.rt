@@ -5,20 +5,22 @@ ghost use Rattle.numbers.specs.Literals.{72·5};
 ghost use Rattle.mixing.specs.Limits.{someMixed};
 ghost use Rattle.species.specs.Places.{spineAt, placeAt, Mixes};
 ghost use Rattle.footing.specs.Footing.{inUnitsOf, threeOf, curvesOf, standingOf, footingOf, reachedOf, rowBelowOf};
+use gts7_arithmetic::Site;
+use gts7_arithmetic::mass;
 use layers::Span;
 use layers::blank;
 use layers::down;
 use layers::layer4;
 use layers::span_of;
-use lower::Meso;
-use lower::dm28m;
-use lower::dmc;
-use lower::full;
-use lower::kilograms;
-use lower::lower_stage;
-use lower::meso_nodes;
-use lower::n2;
-use lower::unset;
+use lower_atmosphere::Meso;
+use lower_atmosphere::dm28m;
+use lower_atmosphere::dmc;
+use lower_atmosphere::full;
+use lower_atmosphere::kilograms;
+use lower_atmosphere::lower_stage;
+use lower_atmosphere::meso_nodes;
+use lower_atmosphere::n2;
+use lower_atmosphere::unset;
 use mixing::limits::Mixed;
 use mixing::limits::mixed_at;
 use mixing::limits::oxygens_mixed;
@@ -28,7 +30,7 @@ use places::place::Place;
 use places::place::Spine;
 use places::place::layer5;
 use places::thinning::Thinning;
-use plan::Levels;
+use plan::ExpansionValues;
 use profile::unchecked::Profile;
 use profile::unchecked::Shape;
 use profile::unchecked::density_in;
@@ -51,8 +53,6 @@ use tables::pdm2;
 use tables::pdm3;
 use tables::pdm4;
 use thermosphere::shape_stage;
-use upper::Site;
-use upper::mass;
 
 // densm's layers for N2: from 72.5 to 32.5 km, the density at 32.5 km, from there down.
 pub struct Curves {
@@ -93,7 +93,7 @@ pub fn three_of(
     b28: f64,
     flux: f64,
     xmm: f64,
-    l: Levels,
+    l: ExpansionValues,
 ) -> Three
     requires { ⌜ (s ≡ spineAt h) × (p ≡ placeAt h 72·5) × Mixes (someMixed m) p xmm t ⌝ }
     ensures { λ r. ⌜ r ≡ threeOf sw h m b28 flux xmm l ⌝ }
@@ -124,7 +124,7 @@ pub fn in_units(sw0: f64, d: f64) -> f64
 }
 
 // The layers; that of the troposphere and the density at 32.5 km where they are asked for. d is the density at 72.5 km.
-pub fn curves_of(sw: [f64; 24], x: Site, d: f64, m: Meso, l: Levels, tropo: bool) -> Curves
+pub fn curves_of(sw: [f64; 24], x: Site, d: f64, m: Meso, l: ExpansionValues, tropo: bool) -> Curves
     ensures { λ r. ⌜ r ≡ curvesOf sw x d m l tropo ⌝ }
 {
     let c = x.nine;
@@ -186,7 +186,7 @@ pub fn standing(
 }
 
 // What the altitudes below 72.5 km share; tropo: some of them lie below 32.5 km.
-pub fn footing_of(sw: [f64; 24], x: Site, l: Levels, tropo: bool) -> Footing
+pub fn footing_of(sw: [f64; 24], x: Site, l: ExpansionValues, tropo: bool) -> Footing
     ensures { λ r. ⌜ r ≡ footingOf sw x l tropo ⌝ }
 {
     let h = shape_stage(sw, x, 72.5, l);
@@ -207,7 +207,7 @@ pub fn footing_of(sw: [f64; 24], x: Site, l: Levels, tropo: bool) -> Footing
 }
 
 // The same where an altitude below 72.5 km is asked for; elsewhere nothing reads it.
-pub fn footing_where(on: bool, sw: [f64; 24], x: Site, l: Levels, tropo: bool) -> Footing
+pub fn footing_where(on: bool, sw: [f64; 24], x: Site, l: ExpansionValues, tropo: bool) -> Footing
     ensures { λ r. ⌜ (on ≡ true → r ≡ footingOf sw x l tropo) ⌝ }
 {
     if on {

@@ -12,13 +12,13 @@ use Rattle.acceptance.specs.declared.Answer.{Answer}
 use Rattle.acceptance.specs.declared.Answer.the-variants.{Accepted, Refused}
 use Rattle.acceptance.specs.Acceptance.{acceptedOf}
 use Rattle.first_below_list.specs.declared.First.{First}
-use Rattle.first_below.specs.FirstBelow.{refusedOr, firstAnswer, firstAfter}
+use Rattle.first_below.specs.FirstBelow.{firstBelowRefusedOr, firstAnswer, firstAfter}
 use Rattle.first_below.proofs.Laws.{goes-on}
 use Rattle.host_record.specs.Record.{codeOf, recordOf, lengthsOf}
 use Rattle.host.specs.FirstBelow.{firstCode, slicesOf, hostFirst, hostFirstRow}
 
 -- the slices' own answer goes first
-stays : (a : Answer) (x : First) → acceptedOf a ≡ false → codeOf a ≡ firstCode (refusedOr a x)
+stays : (a : Answer) (x : First) → acceptedOf a ≡ false → codeOf a ≡ firstCode (firstBelowRefusedOr a x)
 unfolding codeOf
 stays Accepted x t = absurd (true≢false t)
 stays (Refused n k) x t = refl
@@ -50,6 +50,6 @@ module _ (year doy : ℤ) (f l : List Float) (w : List ℤ) (alts : List Float) 
       → Outcome x ys
   unfolding hostFirst hostFirstRow
   asked x r n v ys t e0 e1 e2 e3 e4 =
-      let told : r ≡ refusedOr (slicesOf f l w (length xs)) (firstAnswer w (recordOf year doy f l) alts level (length xs)) =
+      let told : r ≡ firstBelowRefusedOr (slicesOf f l w (length xs)) (firstAnswer w (recordOf year doy f l) alts level (length xs)) =
       e1 ∙ rw (e3, e4, ← e) (sym (goes-on a _ t)) in
       (e0 ∙ ap (λ (q : First). firstCode q) told, e2 ∙ rw (e3, e4, ← e, t))

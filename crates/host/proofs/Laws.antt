@@ -15,9 +15,9 @@ use Rattle.atmosphere.specs.Atmosphere.{answerOf}
 use Rattle.altitudes.specs.Altitudes.{columnAnswer}
 use Rattle.column.specs.Column.{columnAfter}
 use Rattle.station_record.specs.Record.{stationAnswer, switchesAnswer}
-use Rattle.station.specs.Station.{wholeAfter, numbersAfter, switchedWhole, switchedNumbers}
+use Rattle.station.specs.Station.{wholeAfter, stationNumbersAfter, switchedWhole, switchedNumbers}
 use Rattle.crossings_list.specs.declared.Listing.{Listing}
-use Rattle.crossings.specs.Crossings.{refusedOr, crossingsAnswer, crossingsAfter}
+use Rattle.crossings.specs.Crossings.{crossingsRefusedOr, crossingsAnswer, crossingsAfter}
 use Rattle.crossings.proofs.Laws.{goes-on}
 use Rattle.host.specs.Crossings.{listingCode, hostCrossings, hostList}
 use Rattle.host_record.specs.Record.{codeOf, recordOf, lengthsOf}
@@ -73,7 +73,7 @@ module _ (year doy : ℤ) (f l : List Float) (w : List ℤ) where
 -- ---- the crossings
 
 -- the slices' own answer goes first
-stays : (a : Answer) (x : Listing) → acceptedOf a ≡ false → codeOf a ≡ listingCode (refusedOr a x)
+stays : (a : Answer) (x : Listing) → acceptedOf a ≡ false → codeOf a ≡ listingCode (crossingsRefusedOr a x)
 unfolding codeOf
 stays Accepted x t = absurd (true≢false t)
 stays (Refused n k) x t = refl
@@ -96,7 +96,7 @@ module _ (year doy : ℤ) (f l : List Float) (w : List ℤ) (alts : List Float) 
       → Listed x ys
   unfolding hostCrossings hostList
   a-list x r n v ys t e0 e1 e2 e3 e4 =
-      let told : r ≡ refusedOr (lengthsOf f l w Accepted) (crossingsAnswer w (recordOf year doy f l) alts level (length xs)) =
+      let told : r ≡ crossingsRefusedOr (lengthsOf f l w Accepted) (crossingsAnswer w (recordOf year doy f l) alts level (length xs)) =
       e1 ∙ rw (e3, e4, ← e) (sym (goes-on a _ t)) in
       (e0 ∙ ap (λ (q : Listing). listingCode q) told, e2 ∙ rw (e3, e4, ← e, t))
 
@@ -128,12 +128,12 @@ module _ (year doy : ℤ) (f l : List Float) (w : List ℤ) (ys : List ℤ) (xs 
       → x ≡ codeOf r
       → r ≡ stationAnswer v n (length ys) (length xs)
       → ys' ≡ wholeAfter v n ys (length xs)
-      → xs' ≡ numbersAfter v n (length ys) xs
+      → xs' ≡ stationNumbersAfter v n (length ys) xs
       → n ≡ recordOf year doy f l
       → v ≡ w
       → hostStation year doy f l w (length ys) (length xs) ≡ stationAnswer w (recordOf year doy f l) (length ys) (length xs)
       → Outcome x ys' xs'
-  unfolding hostWhole hostNumbers wholeAfter numbersAfter
+  unfolding hostWhole hostNumbers wholeAfter stationNumbersAfter
   prepared x r n v ys' xs' e0 e1 e2 e3 e4 e5 e6 = (simp (e0, e1, e4, e5, e6), simp (e2, e4, e5, e6), simp (e3, e4, e5, e6))
 
 -- ---- a new switch row

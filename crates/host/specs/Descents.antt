@@ -9,7 +9,7 @@ use lib.Ieee.{Float}
 use Rattle.acceptance.specs.declared.Answer.{Answer}
 use Rattle.acceptance.specs.declared.Answer.the-variants.{Refused}
 use Rattle.acceptance.specs.Acceptance.{acceptedOf}
-use Rattle.descent_orbits.specs.Lent.{endOf, endNumbers, lossesAfter}
+use Rattle.descent_orbits.specs.Lent.{endOfDescent, endNumbers, lossesAfter}
 use Rattle.descent.specs.Descent.{descentOf, descentAnswer}
 use Rattle.host_record.specs.Record.{recordOf, lengthsOf}
 
@@ -24,4 +24,4 @@ hostLosses year doy f l w start ss xs ends =
 
 unfoldable pub hostEnd : ℤ → ℤ → List Float → List Float → List ℤ → ℤ → List ℤ → ℕ → List ℤ → List ℤ
 hostEnd year doy f l w start ss room ys =
-    cond (acceptedOf (hostDescent year doy f l w start ss room (length ys))) (endNumbers (endOf (descentOf w (recordOf year doy f l) start ss))) ys
+    cond (acceptedOf (hostDescent year doy f l w start ss room (length ys))) (endNumbers (endOfDescent (descentOf w (recordOf year doy f l) start ss))) ys

@@ -11,7 +11,7 @@ use Rattle.acceptance.specs.declared.Answer.the-variants.{Accepted, Refused}
 use Rattle.acceptance.specs.Acceptance.{acceptedOf}
 use Rattle.first_below_list.specs.declared.First.{First}
 use Rattle.first_below_list.specs.declared.First.the-variants as first
-use Rattle.first_below.specs.FirstBelow.{refusedOr, firstAnswer, firstAfter}
+use Rattle.first_below.specs.FirstBelow.{firstBelowRefusedOr, firstAnswer, firstAfter}
 use Rattle.host_record.specs.Record.{packedOf, recordOf, lengthsOf}
 
 -- an answer as one number: the index, 2^32 - 1 for none, or the refusal's number times 2^32 and its place
@@ -25,7 +25,7 @@ unfoldable pub slicesOf : List Float → List Float → List ℤ → ℕ → Ans
 slicesOf f l w len = cond (not (eqb len 11)) (Refused 4 11) (lengthsOf f l w Accepted)
 
 unfoldable pub hostFirst : ℤ → ℤ → List Float → List Float → List ℤ → List Float → Float → ℕ → First
-hostFirst year doy f l w alts level len = refusedOr (slicesOf f l w len) (firstAnswer w (recordOf year doy f l) alts level len)
+hostFirst year doy f l w alts level len = firstBelowRefusedOr (slicesOf f l w len) (firstAnswer w (recordOf year doy f l) alts level len)
 
 -- the lent row afterwards
 unfoldable pub hostFirstRow : ℤ → ℤ → List Float → List Float → List ℤ → List Float → Float → List Float → List Float

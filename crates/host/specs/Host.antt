@@ -13,8 +13,8 @@ use Rattle.acceptance.specs.Acceptance.{acceptedOf, withAltOf}
 use Rattle.atmosphere.specs.Atmosphere.{answerOf, elevenOf}
 use Rattle.altitudes.specs.Altitudes.{columnAnswer}
 use Rattle.column.specs.Column.{columnAfter}
-use Rattle.station_record.specs.Record.{wholeOf, recordIn, stationAnswer, switchesAnswer}
-use Rattle.station.specs.Station.{numbersOf, renewedOf}
+use Rattle.station_record.specs.Record.{stationWhole, recordIn, stationAnswer, switchesAnswer}
+use Rattle.station.specs.Station.{stationNumbers, renewedOf}
 use Rattle.drag.specs.Drag.{dragOf}
 use Rattle.host_record.specs.Record.{recordOf, lengthsOf}
 
@@ -53,11 +53,11 @@ hostStation year doy f l w ints count =
 -- its slices afterwards
 unfoldable pub hostWhole : ℤ → ℤ → List Float → List Float → List ℤ → List ℤ → ℕ → List ℤ
 hostWhole year doy f l w ys count =
-    cond (acceptedOf (hostStation year doy f l w (length ys) count)) (wholeOf w (withAltOf (recordOf year doy f l) 0·0)) ys
+    cond (acceptedOf (hostStation year doy f l w (length ys) count)) (stationWhole w (withAltOf (recordOf year doy f l) 0·0)) ys
 
 unfoldable pub hostNumbers : ℤ → ℤ → List Float → List Float → List ℤ → ℕ → List Float → List Float
 hostNumbers year doy f l w ints xs =
-    cond (acceptedOf (hostStation year doy f l w ints (length xs))) (numbersOf w (withAltOf (recordOf year doy f l) 0·0)) xs
+    cond (acceptedOf (hostStation year doy f l w ints (length xs))) (stationNumbers w (withAltOf (recordOf year doy f l) 0·0)) xs
 
 -- a new switch row: 4 for the station's two slices, for the row, then what the station answers
 unfoldable pub hostSwitches : List ℤ → List ℤ → List Float → Answer
@@ -69,7 +69,7 @@ hostSwitches w whole xs =
 
 -- its slices afterwards
 unfoldable pub hostSwitchedWhole : List ℤ → List ℤ → List Float → List ℤ
-hostSwitchedWhole w whole xs = cond (acceptedOf (hostSwitches w whole xs)) (wholeOf w (recordIn whole xs)) whole
+hostSwitchedWhole w whole xs = cond (acceptedOf (hostSwitches w whole xs)) (stationWhole w (recordIn whole xs)) whole
 
 unfoldable pub hostSwitchedNumbers : List ℤ → List ℤ → List Float → List Float
 hostSwitchedNumbers w whole xs = cond (acceptedOf (hostSwitches w whole xs)) (renewedOf (drop 3 whole) w (recordIn whole xs) xs) xs

@@ -15,24 +15,24 @@ use Rattle.acceptance.specs.declared.Answer.{Answer}
 use Rattle.acceptance.specs.declared.Answer.the-variants.{Accepted, Refused}
 
 -- document 01's number of a refusal and its place, 0 and 0 where the call is accepted
-abbrev pub numberOf : Answer → ℕ
-numberOf Accepted = 0
-numberOf (Refused n k) = n
+abbrev pub refusalNumber : Answer → ℕ
+refusalNumber Accepted = 0
+refusalNumber (Refused n k) = n
 
-abbrev pub placeOf : Answer → ℕ
-placeOf Accepted = 0
-placeOf (Refused n k) = k
+abbrev pub refusalPlace : Answer → ℕ
+refusalPlace Accepted = 0
+refusalPlace (Refused n k) = k
 
 abbrev pub packedOf : ℕ → ℕ → ℕ
 packedOf n k = n % 4294967296 * 4294967296 + k % 4294967296
 
 -- an answer as one number: the refusal's number times 2^32 and its place
 unfoldable pub codeOf : Answer → ℕ
-codeOf a = packedOf (numberOf a) (placeOf a)
+codeOf a = packedOf (refusalNumber a) (refusalPlace a)
 
 -- the array is present where there are seven numbers
-unfoldable pub historyOf : ℕ → History
-historyOf n = cond (eqb n 7) Present Absent
+unfoldable pub historyOfLength : ℕ → History
+historyOfLength n = cond (eqb n 7) Present Absent
 
 -- its values, zeros where it is absent
 unfoldable pub valuesOf : List Float → List Float
@@ -52,7 +52,7 @@ recordOf year doy f l =
       f107a = f ‼ 5;
       f107 = f ‼ 6;
       ap = f ‼ 7;
-      history = historyOf (length l);
+      history = historyOfLength (length l);
       «ap_array» = valuesOf l;
     }
 

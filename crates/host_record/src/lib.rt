@@ -4,7 +4,7 @@ pub mod nine;
 ghost use mathlib.Core.Path.{_≡_};
 ghost use lib.ListN.{length};
 ghost use Rattle.acceptance.specs.declared.Answer.the-variants.{Accepted};
-ghost use Rattle.host_record.specs.Record.{numberOf, placeOf, packedOf, codeOf, historyOf, valuesOf, recordOf, lengthsOf};
+ghost use Rattle.host_record.specs.Record.{refusalNumber, refusalPlace, packedOf, codeOf, historyOfLength, valuesOf, recordOf, lengthsOf};
 use acceptance::Answer;
 use setting::History;
 use setting::Input;
@@ -23,7 +23,7 @@ pub fn switch_row(s: &[i32]) -> [i32; 24]
 }
 
 pub fn history(len: usize) -> History
-    ensures { λ r. ⌜ r ≡ historyOf len ⌝ }
+    ensures { λ r. ⌜ r ≡ historyOfLength len ⌝ }
 {
     if len == 7 {
         return History::Present;
@@ -80,7 +80,7 @@ pub fn lengths(fields: &[f64], ap_array: &[f64], switches: &[i32]) -> Answer
 
 // Document 01's number of a refusal, 0 where the call is accepted.
 pub fn number(a: Answer) -> usize
-    ensures { λ r. ⌜ r ≡ numberOf a ⌝ }
+    ensures { λ r. ⌜ r ≡ refusalNumber a ⌝ }
 {
     match a {
         Answer::Accepted => 0,
@@ -90,7 +90,7 @@ pub fn number(a: Answer) -> usize
 
 // Its place.
 pub fn place(a: Answer) -> usize
-    ensures { λ r. ⌜ r ≡ placeOf a ⌝ }
+    ensures { λ r. ⌜ r ≡ refusalPlace a ⌝ }
 {
     match a {
         Answer::Accepted => 0,

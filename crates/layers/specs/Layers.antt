@@ -12,7 +12,7 @@ use Rattle.elementary.specs.Pow.{powOf}
 use Rattle.spline.specs.Nodes.{segmentOf, integral, spliniOf, searched, splintOf}
 use Rattle.profile.specs.Gravity.{zetaOf}
 use Rattle.profile.specs.Curve.{layerOf, flooredOf, exponentOf, cappedOf}
-use Rattle.profile.specs.Profile.{loweredOf, answerOf, densmOf}
+use Rattle.profile.specs.Profile.{loweredOf, profileAnswer, densmOf}
 use Rattle.profile.specs.declared.curve.Curve.{Curve}
 use Rattle.profile.specs.declared.unchecked.Profile.{Profile}
 use Rattle.profile.specs.declared.unchecked.Profile.the-variants.{Density}
@@ -39,13 +39,13 @@ spanOf rgas gsurf re xm l =
 unfoldable pub blankOf : Span
 blankOf = record { t1 = 0·0; zgdif = 0·0; gamm = 0·0; xs = replicate 5 0·0; ys = replicate 5 0·0; y2 = replicate 5 0·0 }
 
-unfoldable pub readOf : List Float → List Float → List Float → ℕ → Float → Read
-readOf xs ys y2 n x = record { y = splintOf xs ys y2 n x; yi = spliniOf xs ys y2 n x }
+unfoldable pub layerRead : List Float → List Float → List Float → ℕ → Float → Read
+layerRead xs ys y2 n x = record { y = splintOf xs ys y2 n x; yi = spliniOf xs ys y2 n x }
 
 -- the density d at the first node, z1, carried down to z over n nodes, and the temperature there
 unfoldable pub downOf : Float → Float → Span → ℕ → Float → Float → Profile
 downOf re z1 s n d z =
-    let a = readOf (s .xs) (s .ys) (s .y2) n (zetaOf re z z1 ⊘ s .zgdif) in
+    let a = layerRead (s .xs) (s .ys) (s .y2) n (zetaOf re z z1 ⊘ s .zgdif) in
     let tz = 1·0 ⊘ a .y in
     let expl = cappedOf (s .gamm ⊗ a .yi) in
     Density (d ⊗ (s .t1 ⊘ tz) ⊗ expOf (neg expl)) tz
@@ -73,15 +73,15 @@ module _ (xs ys y2 : List Float) (x : Float) where
 
 -- densm's answer behind a layer
 abbrev pub answerOn : Float → Float → Float → Float → Float → Curve → ℕ → Profile
-answerOn rgas gsurf re xm d l n = answerOf xm (loweredOf rgas gsurf re xm d l n) (l .tz)
+answerOn rgas gsurf re xm d l n = profileAnswer xm (loweredOf rgas gsurf re xm d l n) (l .tz)
 
 module _ (rgas gsurf re xm d : Float) (zn tn tgn : List Float) (w z : Float) (gas : eq xm 0·0 ≡ false) where
   pub down-four : downOf re (zn ‼ 0) (spanOf rgas gsurf re xm (layerOf re zn tn 4 tgn w)) 4 d z ≡ answerOn rgas gsurf re xm d (layerOf re zn tn 4 tgn z) 4
-  unfolding downOf readOf spanOf layerOf answerOf loweredOf exponentOf
+  unfolding downOf layerRead spanOf layerOf profileAnswer loweredOf exponentOf
   down-four = rw (gas, splint-four, splini-four)
 
   pub down-five : downOf re (zn ‼ 0) (spanOf rgas gsurf re xm (layerOf re zn tn 5 tgn w)) 5 d z ≡ answerOn rgas gsurf re xm d (layerOf re zn tn 5 tgn z) 5
-  unfolding downOf readOf spanOf layerOf answerOf loweredOf exponentOf
+  unfolding downOf layerRead spanOf layerOf profileAnswer loweredOf exponentOf
   down-five = rw (gas, splint-five, splini-five)
 
 -- ---- densm over two layers of four nodes and five

@@ -2,7 +2,7 @@
 ghost use mathlib.Core.Path.{_≡_};
 ghost use Prim.Native.Nat.{_≤_};
 ghost use Rattle.profile.specs.Curve.{layerOf};
-ghost use Rattle.layers.specs.Layers.{firstFive, spanOf, blankOf, readOf, downOf};
+ghost use Rattle.layers.specs.Layers.{firstFive, spanOf, blankOf, layerRead, downOf};
 use elementary::exponential::exp;
 use elementary::power::pow;
 use profile::curve::Curve;
@@ -82,7 +82,7 @@ pub fn blank() -> Span
 // The spline over n nodes, read at x.
 pub fn read_at(xs: [f64; 5], ys: [f64; 5], y2: [f64; 5], n: usize, x: f64) -> Read
     requires { ⌜ (2 ≤ n) × (n ≤ 5) ⌝ }
-    ensures { λ r. ⌜ r ≡ readOf xs ys y2 n x ⌝ }
+    ensures { λ r. ⌜ r ≡ layerRead xs ys y2 n x ⌝ }
 {
     let y = splint(&xs, &ys, &y2, n, x);
     let yi = splini(&xs, &ys, &y2, n, x);

@@ -13,12 +13,12 @@ use Rattle.line_text.proofs.Choice.{cond-true, cond-false}
 use Rattle.line_text.specs.Text.{written, Writes}
 use Rattle.line_answer.specs.declared.Place.{Place}
 use Rattle.line_answer.specs.Answer.{answerText}
-use Rattle.line_answer.specs.Lines.{Progress, afterOf, progressOf, keptOf, stepOf, fedOf, lenAfter, lineStep, lineAfter, KeptBehind, lastOf, begin}
+use Rattle.line_answer.specs.Lines.{Progress, nextNumber, progressOf, keptOf, stepOf, fedOf, lenAfter, lineStep, lineAfter, KeptBehind, lastPrinted, begin}
 
-pub after-more : (n : ℕ) → n < 0xffff_ffff_ffff_ffff → n + 1 ≡ afterOf n
+pub after-more : (n : ℕ) → n < 0xffff_ffff_ffff_ffff → n + 1 ≡ nextNumber n
 after-more n h = cond-true _ _ _ (lt-ltb n 0xffff_ffff_ffff_ffff h)
 
-pub after-last : (n : ℕ) → 0xffff_ffff_ffff_ffff ≤ n → n ≡ afterOf n
+pub after-last : (n : ℕ) → 0xffff_ffff_ffff_ffff ≤ n → n ≡ nextNumber n
 after-last n h = cond-false _ _ _ (le-ltb n 0xffff_ffff_ffff_ffff h)
 
 take-written : (b c t : List ℕ) (at r : ℕ) → at ≤ length b → Writes b at t c r → take r c ≡ take at b ++ t
@@ -47,7 +47,7 @@ behind-more b c d m n h f g =
 
 module _ (line out : List ℕ) (p : Place) (b : ℕ) where
   pub line-ended : (c : List ℕ) (r m : ℕ) → b ≡ 10 → p .used ≤ length out → Writes out (p .used) (answerText (take (p .len) line) (p .number)) c r
-      → m ≡ afterOf (p .number) → progressOf line c (record { len = 0; number = m; used = r }) ≡ stepOf b (progressOf line out p)
+      → m ≡ nextNumber (p .number) → progressOf line c (record { len = 0; number = m; used = r }) ≡ stepOf b (progressOf line out p)
   unfolding progressOf stepOf
   line-ended c r m e h w f =
       rw (f, take-written out c (answerText (take (p .len) line) (p .number)) (p .used) r h w) (cond-true _ _ _ (eq-eqb b 10 e))
@@ -111,13 +111,13 @@ fed-last chunk i s e = rw (e, drop-length chunk)
 -- ---- the end of the input
 
 module _ (line : List ℕ) (len number : ℕ) where
-  pub no-last : len ≡ 0 → [] ≡ lastOf (begin (take len line) number)
-  unfolding lastOf
+  pub no-last : len ≡ 0 → [] ≡ lastPrinted (begin (take len line) number)
+  unfolding lastPrinted
   no-last e = cond-true _ _ _ (ap (λ (k : ℕ). eqb (length (take k line)) 0) e)
 
   pub last-line : (len ≡ 0 → ⊥) → len ≤ length line → (out c : List ℕ) (r : ℕ) → Writes out 0 (answerText (take len line) number) c r
-      → take r c ≡ lastOf (begin (take len line) number)
-  unfolding lastOf
+      → take r c ≡ lastPrinted (begin (take len line) number)
+  unfolding lastPrinted
   last-line n h out c r w =
       let some : eqb (length (take len line)) 0 ≡ false = rw (length-take-le len line h) (ne-eqb _ _ n) in
       take-written out c (answerText (take len line) number) 0 r zero-le w ∙ cond-false _ _ _ some

@@ -14,14 +14,14 @@ use lib.Ieee.{Float}
 use Rattle.mixing.specs.Mixing.{ccorOf, dnetOf}
 use Rattle.line_form.specs.declared.Reading.{Reading}
 use Rattle.line_form.specs.declared.Run.{Run}
-use Rattle.line_form.specs.Grammar.{dnetFormOf, ccorFormOf, runFormOf, thousandthsOf, thousandthsAt, partOf}
+use Rattle.line_form.specs.Grammar.{dnetFormOf, ccorFormOf, runFormOf, thousandthsOf, thousandthsAt, valuesFrom}
 use Rattle.line_form.specs.Forms.{partsText, runParts, runValues, IsDnet, IsCcor, IsRun}
 use Rattle.line_form.proofs.Theorems.{dnet-read, dnet-gives, ccor-read, ccor-gives, run-read, run-gives}
 use Rattle.line_text.specs.Text.{valueText, refusedText}
 use Rattle.line_text.proofs.Choice.{cond-true, cond-false}
 use Rattle.line_answer.specs.Answer.{dnetValue, ccorValue, runAnswer, answerText}
 use Rattle.line_cut.specs.Lines.{linesFrom}
-use Rattle.line_answer.specs.Lines.{afterOf, answersFrom, answersTo, Progress, keptOf, stepOf, fedOf, lastOf, begin, writtenFor, wholeOf}
+use Rattle.line_answer.specs.Lines.{nextNumber, answersFrom, answersTo, Progress, keptOf, stepOf, fedOf, lastPrinted, begin, writtenFor, joinedChunks}
 
 -- ---- a line by its form
 
@@ -49,7 +49,7 @@ thousandth v i = thousandthsOf (getD v i (pos 0))
 -- a dnet form is answered with the value of dnet
 pub dnet-answer : (s : List ℕ) (v : List ℤ) (number : ℕ) → IsDnet s v
     → answerText s number ≡ valueText (dnetOf (thousandth v 0) (thousandth v 1) (thousandth v 2) (thousandth v 3) (thousandth v 4))
-unfolding answerText dnetValue thousandthsAt partOf
+unfolding answerText dnetValue thousandthsAt valuesFrom
 dnet-answer s v number h =
     let e = dnet-read s v h in
     sym (cond-true _ _ _ (ap (λ (r : Reading). r .ok) e)) ∙ ap (λ (r : Reading). valueText (dnetValue r)) e
@@ -57,7 +57,7 @@ dnet-answer s v number h =
 -- a ccor form is answered with the value of ccor
 pub ccor-answer : (s : List ℕ) (v : List ℤ) (number : ℕ) → IsCcor s v
     → answerText s number ≡ valueText (ccorOf (thousandth v 0) (thousandth v 1) (thousandth v 2) (thousandth v 3))
-unfolding answerText ccorValue thousandthsAt partOf partsText
+unfolding answerText ccorValue thousandthsAt valuesFrom partsText
 ccor-answer s v number h =
     let e = ccor-read s v h in
     let c : getD s 1 0 ≡ 99 = second s 99 _ (h .0) refl in
@@ -127,9 +127,9 @@ unfolding stepOf after
 step-after t b s = by (eqb b 10)
   where
     by : (q : Bool)
-        → cond q (record { kept = []; number = afterOf (s .number); printed = t ++ s .printed ++ answerText (s .kept) (s .number) })
+        → cond q (record { kept = []; number = nextNumber (s .number); printed = t ++ s .printed ++ answerText (s .kept) (s .number) })
         (record { kept = keptOf (s .kept) b; number = s .number; printed = t ++ s .printed })
-        ≡ after t (cond q (record { kept = []; number = afterOf (s .number); printed = s .printed ++ answerText (s .kept) (s .number) })
+        ≡ after t (cond q (record { kept = []; number = nextNumber (s .number); printed = s .printed ++ answerText (s .kept) (s .number) })
         (record { kept = keptOf (s .kept) b; number = s .number; printed = s .printed }))
     by true = rw (append-assoc t (s .printed) (answerText (s .kept) (s .number)))
     by false = refl
@@ -148,7 +148,7 @@ record Fed (bytes rest l : List ℕ) (n : ℕ) : Type 0 where
   answers : (fedOf bytes (begin (take 512 l) n)) .printed ++ answersFrom ((fedOf bytes (begin (take 512 l) n)) .number) (linesFrom rest begun)
       ≡ answersFrom n (linesFrom (bytes ++ rest) l)
 
-newline : (l : List ℕ) (n b : ℕ) → eqb b 10 ≡ true → stepOf b (begin (take 512 l) n) ≡ after (answerText l n) (begin [] (afterOf n))
+newline : (l : List ℕ) (n b : ℕ) → eqb b 10 ≡ true → stepOf b (begin (take 512 l) n) ≡ after (answerText l n) (begin [] (nextNumber n))
 unfolding stepOf after
 newline l n b e = sym (cond-true _ _ _ e) ∙ rw (cut-line l n, append-nil (answerText l n))
 
@@ -156,15 +156,15 @@ no-newline : (l : List ℕ) (n b : ℕ) → eqb b 10 ≡ false → stepOf b (beg
 unfolding stepOf
 no-newline l n b e = sym (cond-false _ _ _ e) ∙ rw (kept-cut l b)
 
-fed-more : (b : ℕ) (bytes rest l : List ℕ) (n : ℕ) → Fed bytes rest [] (afterOf n) → Fed bytes rest (l ++ (b ∷ [])) n → Fed (b ∷ bytes) rest l n
+fed-more : (b : ℕ) (bytes rest l : List ℕ) (n : ℕ) → Fed bytes rest [] (nextNumber n) → Fed bytes rest (l ++ (b ∷ [])) n → Fed (b ∷ bytes) rest l n
 unfolding fedOf linesFrom answersFrom after
 fed-more b bytes rest l n f g = by (eqb b 10) refl
   where
     by : (q : Bool) → eqb b 10 ≡ q → Fed (b ∷ bytes) rest l n
     by true e =
         let t : List ℕ = answerText l n in
-        let s : Progress = fedOf bytes (begin [] (afterOf n)) in
-        let p : fedOf bytes (stepOf b (begin (take 512 l) n)) ≡ after t s = ap (fedOf bytes) (newline l n b e) ∙ fed-after t bytes (begin [] (afterOf n)) in
+        let s : Progress = fedOf bytes (begin [] (nextNumber n)) in
+        let p : fedOf bytes (stepOf b (begin (take 512 l) n)) ≡ after t s = ap (fedOf bytes) (newline l n b e) ∙ fed-after t bytes (begin [] (nextNumber n)) in
         record {
           begun = f .begun;
           kept-is = ap (λ (q : Progress). q .kept) p ∙ f .kept-is;
@@ -186,28 +186,28 @@ fed-more b bytes rest l n f g = by (eqb b 10) refl
 fed : (bytes rest l : List ℕ) (n : ℕ) → Fed bytes rest l n
 unfolding fedOf
 fed [] rest l n = record { begun = l; kept-is = refl; answers = refl }
-fed (b ∷ bytes) rest l n = fed-more b bytes rest l n (fed bytes rest [] (afterOf n)) (fed bytes rest (l ++ (b ∷ [])) n)
+fed (b ∷ bytes) rest l n = fed-more b bytes rest l n (fed bytes rest [] (nextNumber n)) (fed bytes rest (l ++ (b ∷ [])) n)
 
 -- ---- the whole input
 
-ended : (l : List ℕ) (n : ℕ) → lastOf (begin (take 512 l) n) ≡ answersFrom n (linesFrom [] l)
-unfolding lastOf linesFrom answersFrom
+ended : (l : List ℕ) (n : ℕ) → lastPrinted (begin (take 512 l) n) ≡ answersFrom n (linesFrom [] l)
+unfolding lastPrinted linesFrom answersFrom
 ended [] n = refl
 ended (c ∷ l) n = sym (cond-false _ _ _ (ne-eqb _ 0 some)) ∙ (cut-line (c ∷ l) n ∙ sym (append-nil (answerText (c ∷ l) n)))
   where
     some : suc (length (take 511 l)) ≡ 0 → ⊥
     some e = omega arith
 
-written : (chunks : List (List ℕ)) (l : List ℕ) (n : ℕ) → writtenFor chunks (take 512 l) n ≡ answersFrom n (linesFrom (wholeOf chunks) l)
-unfolding writtenFor wholeOf
+written : (chunks : List (List ℕ)) (l : List ℕ) (n : ℕ) → writtenFor chunks (take 512 l) n ≡ answersFrom n (linesFrom (joinedChunks chunks) l)
+unfolding writtenFor joinedChunks
 written [] l n = ended l n
 written (c ∷ chunks) l n =
-    let f = fed c (wholeOf chunks) l n in
+    let f = fed c (joinedChunks chunks) l n in
     let s : Progress = fedOf c (begin (take 512 l) n) in
     ap (λ (k : List ℕ). s .printed ++ writtenFor chunks k (s .number)) (f .kept-is)
     ∙ (ap (λ (t : List ℕ). s .printed ++ t) (written chunks (f .begun) (s .number)) ∙ f .answers)
 
 -- whatever the chunks, what is written are the answers to the lines of the whole input
-pub lines-answered : (chunks : List (List ℕ)) → writtenFor chunks [] 1 ≡ answersTo (wholeOf chunks)
+pub lines-answered : (chunks : List (List ℕ)) → writtenFor chunks [] 1 ≡ answersTo (joinedChunks chunks)
 unfolding answersTo
 lines-answered chunks = written chunks [] 1

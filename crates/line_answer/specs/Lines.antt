@@ -12,13 +12,13 @@ use Rattle.line_answer.specs.Answer.{answerText}
 -- ---- a whole text
 
 -- the number after a line's, which stops at the largest that 64 bits hold
-abbrev pub afterOf : ℕ → ℕ
-afterOf number = cond (ltb number 0xffff_ffff_ffff_ffff) (number + 1) number
+abbrev pub nextNumber : ℕ → ℕ
+nextNumber number = cond (ltb number 0xffff_ffff_ffff_ffff) (number + 1) number
 
 -- the answers to lines, the first of which has the number given
 unfoldable pub answersFrom : ℕ → List (List ℕ) → List ℕ
 answersFrom number [] = []
-answersFrom number (s ∷ lines) = answerText s number ++ answersFrom (afterOf number) lines
+answersFrom number (s ∷ lines) = answerText s number ++ answersFrom (nextNumber number) lines
 
 -- what the program prints for a text
 unfoldable pub answersTo : List ℕ → List ℕ
@@ -47,7 +47,7 @@ keptOf l b = cond (ltb (length l) 512) (l ++ (b ∷ [])) l
 -- a newline has the line answered; any other byte is one more of it
 unfoldable pub stepOf : ℕ → Progress → Progress
 stepOf b s =
-    cond (eqb b 10) (record { kept = []; number = afterOf (s .number); printed = s .printed ++ answerText (s .kept) (s .number) })
+    cond (eqb b 10) (record { kept = []; number = nextNumber (s .number); printed = s .printed ++ answerText (s .kept) (s .number) })
     (record { kept = keptOf (s .kept) b; number = s .number; printed = s .printed })
 
 unfoldable pub fedOf : List ℕ → Progress → Progress
@@ -71,19 +71,19 @@ abbrev pub KeptBehind : List ℕ → List ℕ → ℕ → Type 0
 KeptBehind out c used = drop used c ≡ drop used out
 
 -- the answers once the input has ended: the last line may lack its newline
-unfoldable pub lastOf : Progress → List ℕ
-lastOf s = cond (eqb (length (s .kept)) 0) (s .printed) (s .printed ++ answerText (s .kept) (s .number))
+unfoldable pub lastPrinted : Progress → List ℕ
+lastPrinted s = cond (eqb (length (s .kept)) 0) (s .printed) (s .printed ++ answerText (s .kept) (s .number))
 
 -- ---- chunk by chunk
 
 -- what is written for the chunks that the input comes in: the answers of each, and of a last line without newline
 unfoldable pub writtenFor : List (List ℕ) → List ℕ → ℕ → List ℕ
-writtenFor [] kept number = lastOf (begin kept number)
+writtenFor [] kept number = lastPrinted (begin kept number)
 writtenFor (chunk ∷ chunks) kept number =
     let s = fedOf chunk (begin kept number) in
     s .printed ++ writtenFor chunks (s .kept) (s .number)
 
 -- the chunks one after the other
-unfoldable pub wholeOf : List (List ℕ) → List ℕ
-wholeOf [] = []
-wholeOf (chunk ∷ chunks) = chunk ++ wholeOf chunks
+unfoldable pub joinedChunks : List (List ℕ) → List ℕ
+joinedChunks [] = []
+joinedChunks (chunk ∷ chunks) = chunk ++ joinedChunks chunks

@@ -4,7 +4,7 @@ ghost use Prim.Native.Nat.{_+_, _*_, _≤_};
 ghost use lib.ListN.{length, take};
 ghost use Rattle.line_text.specs.Text.{Writes};
 ghost use Rattle.line_answer.specs.Answer.{dnetValue, ccorValue, outcomeText, runAnswer, answerText};
-ghost use Rattle.line_answer.specs.Lines.{afterOf, progressOf, stepOf, fedOf, lenAfter, lineStep, lineAfter, KeptBehind, lastOf, begin};
+ghost use Rattle.line_answer.specs.Lines.{nextNumber, progressOf, stepOf, fedOf, lenAfter, lineStep, lineAfter, KeptBehind, lastPrinted, begin};
 use acceptance::Answer;
 use atmosphere::gtd7;
 use line_form::Reading;
@@ -95,7 +95,7 @@ pub fn answer(out: &mut [u8], at: usize, s: &[u8], number: u64) -> usize
 }
 
 pub fn after(number: u64) -> u64
-    ensures { λ r. ⌜ r ≡ afterOf number ⌝ }
+    ensures { λ r. ⌜ r ≡ nextNumber number ⌝ }
 {
     if number < 18446744073709551615 {
         return number + 1;
@@ -169,7 +169,7 @@ pub fn feed(chunk: &[u8], line: &mut [u8], out: &mut [u8], p: Place) -> Place
 // The end of the input, and the answer to a last line without newline.
 pub fn finish(line: &[u8], out: &mut [u8], p: Place) -> usize
     requires { ⌜ (p .len ≤ length (now line)) × (193 ≤ length (now out)) ⌝ }
-    ensures { λ r. ⌜ (take r (now (out .exit)) ≡ lastOf (begin (take (p .len) (now (line .entry))) (p .number)))
+    ensures { λ r. ⌜ (take r (now (out .exit)) ≡ lastPrinted (begin (take (p .len) (now (line .entry))) (p .number)))
         × (r ≤ length (now (out .entry))) × KeptBehind (now (out .entry)) (now (out .exit)) r ⌝ }
 {
     let len = p.len;

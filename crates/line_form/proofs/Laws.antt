@@ -21,7 +21,7 @@ use Rattle.line_form.specs.declared.Reading.{Reading}
 use Rattle.line_form.specs.declared.Run.{Run}
 use Rattle.setting.specs.declared.History.{History}
 use lib.Ieee.{Float}
-use Rattle.line_form.specs.Grammar.{hereOf, startsOf, digitOf, moreOf, signedOf, positiveOf, numberOf, stoppedOf, numbersOf, fieldOf, startOf, laterOf, partOf, thousandthsAt, historyOf, arrayOf, inputOf}
+use Rattle.line_form.specs.Grammar.{hereOf, startsOf, digitOf, moreOf, withSign, positiveOf, readNumber, stoppedOf, readNumbers, fieldOf, startOf, laterOf, valuesFrom, thousandthsAt, historyWhen, arrayOf, inputOf}
 use Rattle.line_form.proofs.Bytes.{and-first, and-second, here-below}
 
 -- ---- texts
@@ -111,23 +111,23 @@ all-read s k v m e = rw e
 
 -- ---- signed numbers
 
-minus-pos : (n : ℕ) → pos 0 -ℤ pos n ≡ signedOf true n
+minus-pos : (n : ℕ) → pos 0 -ℤ pos n ≡ withSign true n
 minus-pos zero = refl
 minus-pos (suc n) = +ℤ-idl (negsuc n)
 
-sfits : (b : Bool) (n : ℕ) → n < 1000000000 → SFits w32 (signedOf b n)
+sfits : (b : Bool) (n : ℕ) → n < 1000000000 → SFits w32 (withSign b n)
 sfits false n h = sfits-of (lt-trans h (lit< tt))
 sfits true zero h = sfits-lit tt
 sfits true (suc n) h = let g : n < 1000000000 = omega arith in sfits-of (lt-trans g (lit< tt))
 
-pub back : (b : Bool) (z : ℤ) (n : ℕ) → z ≡ signedOf b n → n < 1000000000 → toZ w32 (ofZ w32 z) ≡ signedOf b n
-back b z n e h = ap (λ (x : ℤ). toZ w32 (ofZ w32 x)) e ∙ toZ-ofZ w32 (signedOf b n) (sfits b n h)
+pub back : (b : Bool) (z : ℤ) (n : ℕ) → z ≡ withSign b n → n < 1000000000 → toZ w32 (ofZ w32 z) ≡ withSign b n
+back b z n e h = ap (λ (x : ℤ). toZ w32 (ofZ w32 x)) e ∙ toZ-ofZ w32 (withSign b n) (sfits b n h)
 
 pub negated-fits : (z : ℤ) (n : ℕ) → z ≡ pos n → n < 1000000000 → SFits w32 (pos 0 -ℤ toZ w32 (ofZ w32 z))
 negated-fits z n e h =
     subst (λ (v : ℤ). SFits w32 (pos 0 -ℤ v)) (sym (back false z n e h)) (subst (λ (v : ℤ). SFits w32 v) (sym (minus-pos n)) (sfits true n h))
 
-pub negated-is : (z : ℤ) (n : ℕ) → z ≡ pos n → n < 1000000000 → toZ w32 (ofZ w32 (pos 0 -ℤ toZ w32 (ofZ w32 z))) ≡ signedOf true n
+pub negated-is : (z : ℤ) (n : ℕ) → z ≡ pos n → n < 1000000000 → toZ w32 (ofZ w32 (pos 0 -ℤ toZ w32 (ofZ w32 z))) ≡ withSign true n
 negated-is z n e h = toZ-ofZ w32 _ (negated-fits z n e h) ∙ (ap (λ (v : ℤ). pos 0 -ℤ v) (back false z n e h) ∙ minus-pos n)
 
 -- ---- whole numbers
@@ -141,7 +141,7 @@ module _ (minus : Bool) (s : List ℕ) (k d : ℕ) (e : d ≡ digitOf s k) where
   unfolding positiveOf
   a-zero h z = simp (← e) (simp (le-ltb 9 d h, eq-eqb d 0 z))
 
-  pub some-digits : d ≤ 9 → (d ≡ 0 → ⊥) → (w : Digits) (z : ℤ) → w ≡ moreOf 8 s (k + 1) d → w .size < 1000000000 → z ≡ signedOf minus (w .size)
+  pub some-digits : d ≤ 9 → (d ≡ 0 → ⊥) → (w : Digits) (z : ℤ) → w ≡ moreOf 8 s (k + 1) d → w .size < 1000000000 → z ≡ withSign minus (w .size)
       → record { ok = true; value = toZ w32 (ofZ w32 z); next = w .next } ≡ positiveOf minus s k
   unfolding positiveOf
   some-digits h n w z f g i =
@@ -151,16 +151,16 @@ pub here-inside : (s : List ℕ) (k c : ℕ) (b : Bool) → b ≡ hereOf s k c �
 here-inside s k c b e t = here-below s k c (sym e ∙ t)
 
 module _ (s : List ℕ) (k : ℕ) (b : Bool) (e : b ≡ hereOf s k 48) where
-  pub nought : b ≡ true → record { ok = true; value = pos 0; next = k + 1 } ≡ numberOf s k
-  unfolding numberOf
+  pub nought : b ≡ true → record { ok = true; value = pos 0; next = k + 1 } ≡ readNumber s k
+  unfolding readNumber
   nought t = simp (← e) (simp t)
 
-  pub below-nought : b ≡ false → (c : Bool) → c ≡ hereOf s k 45 → c ≡ true → positiveOf true s (k + 1) ≡ numberOf s k
-  unfolding numberOf
+  pub below-nought : b ≡ false → (c : Bool) → c ≡ hereOf s k 45 → c ≡ true → positiveOf true s (k + 1) ≡ readNumber s k
+  unfolding readNumber
   below-nought t c f u = simp (← e, ← f) (simp (t, u))
 
-  pub above-nought : b ≡ false → (c : Bool) → c ≡ hereOf s k 45 → c ≡ false → positiveOf false s k ≡ numberOf s k
-  unfolding numberOf
+  pub above-nought : b ≡ false → (c : Bool) → c ≡ hereOf s k 45 → c ≡ false → positiveOf false s k ≡ readNumber s k
+  unfolding readNumber
   above-nought t c f u = simp (← e, ← f) (simp (t, u))
 
 -- ---- numbers in a row
@@ -170,26 +170,26 @@ unfolding stoppedOf
 stopped-next q t n e h = rw e h
 
 module _ (s : List ℕ) (j : ℕ) (q : Reading) (b : Bool) (e : b ≡ hereOf s (q .next) 32) where
-  pub no-space : (m : ℕ) → 0 < m → not b ≡ true → stoppedOf q ≡ numbersOf m s j q
-  unfolding numbersOf
+  pub no-space : (m : ℕ) → 0 < m → not b ≡ true → stoppedOf q ≡ readNumbers m s j q
+  unfolding readNumbers
   no-space zero g t = absurd (none g)
     where
       none : 0 < 0 → ⊥
       none l = omega arith
   no-space (suc m) g t = simp (← e) (simp t)
 
-  pub no-number : (m : ℕ) → 0 < m → not b ≡ false → (n : WholeNumber) → n ≡ numberOf s (q .next + 1) → not (n .ok) ≡ true → stoppedOf q ≡ numbersOf m s j q
-  unfolding numbersOf
+  pub no-number : (m : ℕ) → 0 < m → not b ≡ false → (n : WholeNumber) → n ≡ readNumber s (q .next + 1) → not (n .ok) ≡ true → stoppedOf q ≡ readNumbers m s j q
+  unfolding readNumbers
   no-number zero g t n f u = absurd (none g)
     where
       none : 0 < 0 → ⊥
       none l = omega arith
   no-number (suc m) g t n f u = simp (← e, ← f) (simp (t, u))
 
-  pub one-number : (m : ℕ) → 0 < m → not b ≡ false → (n : WholeNumber) → n ≡ numberOf s (q .next + 1) → not (n .ok) ≡ false
+  pub one-number : (m : ℕ) → 0 < m → not b ≡ false → (n : WholeNumber) → n ≡ readNumber s (q .next + 1) → not (n .ok) ≡ false
       → (p : Reading) → p ≡ record { ok = true; next = n .next; values = set (q .values) j (n .value) }
-      → numbersOf (m - 1) s (j + 1) p ≡ numbersOf m s j q
-  unfolding numbersOf
+      → readNumbers (m - 1) s (j + 1) p ≡ readNumbers m s j q
+  unfolding readNumbers
   one-number zero g t n f u p h = absurd (none g)
     where
       none : 0 < 0 → ⊥
@@ -198,8 +198,8 @@ module _ (s : List ℕ) (j : ℕ) (q : Reading) (b : Bool) (e : b ≡ hereOf s (
       let k : suc m - 1 ≡ m = omega arith in
       rw (k, h) (simp (← e, ← f) (simp (t, u)))
 
-pub no-more : (s : List ℕ) (j m : ℕ) (q : Reading) → m ≡ 0 → q ≡ numbersOf m s j q
-unfolding numbersOf
+pub no-more : (s : List ℕ) (j m : ℕ) (q : Reading) → m ≡ 0 → q ≡ readNumbers m s j q
+unfolding readNumbers
 no-more s j m q e = rw e
 
 -- ---- a field
@@ -225,7 +225,7 @@ module _ (s text : List ℕ) (i m : ℕ) (r : Reading) where
   field-other t b e u = simp (← e) (simp (t, u))
 
   pub field-read : not (r .ok) ≡ false → (b : Bool) → b ≡ startsOf s (r .next) text → not b ≡ false
-      → (q : Reading) → q ≡ record { ok = true; next = r .next + length text; values = r .values } → numbersOf m s i q ≡ fieldOf s text i m r
+      → (q : Reading) → q ≡ record { ok = true; next = r .next + length text; values = r .values } → readNumbers m s i q ≡ fieldOf s text i m r
   unfolding fieldOf
   field-read t b e u q f = rw f (simp (← e) (simp (t, u)))
 
@@ -246,13 +246,13 @@ later-next q a r n e g h = rw e (go (a .ok))
 
 -- ---- a part of the numbers
 
-pub partOf-length : (v : List ℤ) (m i : ℕ) → length (partOf v m i) ≡ m
-unfolding partOf
+pub partOf-length : (v : List ℤ) (m i : ℕ) → length (valuesFrom v m i) ≡ m
+unfolding valuesFrom
 partOf-length v zero i = refl
 partOf-length v (suc m) i = ap suc (partOf-length v m (i + 1))
 
-pub partOf-at : (v : List ℤ) (m i k : ℕ) → k < m → getD (partOf v m i) k (pos 0) ≡ getD v (i + k) (pos 0)
-unfolding partOf
+pub partOf-at : (v : List ℤ) (m i k : ℕ) → k < m → getD (valuesFrom v m i) k (pos 0) ≡ getD v (i + k) (pos 0)
+unfolding valuesFrom
 partOf-at v zero i k h = absurd (none h)
   where
     none : k < 0 → ⊥
@@ -274,7 +274,7 @@ pub input-is : (f : Run) (year doy : ℤ) (sec alt g-lat g-long lst f107a f107 a
     → f107a ≡ thousandthsAt (f .reading) 7
     → f107 ≡ thousandthsAt (f .reading) 8
     → a ≡ thousandthsAt (f .reading) 9
-    → h ≡ historyOf (f .array)
+    → h ≡ historyWhen (f .array)
     → l ≡ arrayOf (f .reading)
     → record { year = year; doy = doy; sec = sec; alt = alt; «g_lat» = g-lat; «g_long» = g-long; lst = lst; f107a = f107a; f107 = f107; ap = a; history = h; «ap_array» = l } ≡ inputOf f
 unfolding inputOf

@@ -14,7 +14,7 @@ use lib.Seq.{sets, ext-getD, getD-set-same, getD-set-other, getD-append-seam, ap
 use Rattle.line_text.proofs.Choice.{cond-true, cond-false}
 use Rattle.line_form.specs.declared.WholeNumber.{WholeNumber}
 use Rattle.line_form.specs.declared.Reading.{Reading}
-use Rattle.line_form.specs.Grammar.{hereOf, startsOf, digitOf, numberOf, stoppedOf, numbersOf, fieldOf, closedOf, startOf, partOf}
+use Rattle.line_form.specs.Grammar.{hereOf, startsOf, digitOf, readNumber, stoppedOf, readNumbers, fieldOf, closedOf, startOf, valuesFrom}
 use Rattle.line_form.specs.Forms.{numberText, Nine, AllNine, numbersText, Part, partsText, NineIn}
 use Rattle.line_form.proofs.Bytes.{and-first, and-second, and-both, here-byte, here-is, starts-first, starts-rest, starts-both}
 use Rattle.line_form.proofs.Laws.{partOf-length}
@@ -57,8 +57,8 @@ module _ (s : List ℕ) where
   first-space (z ∷ zs) k h g = no-digit s k 32 (omega arith) (and-first _ (startsOf s (k + 1) (numberText z ++ numbersText zs)) h)
 
   pub numbers-read : (zs : List ℤ) (i k : ℕ) (v : List ℤ) → AllNine zs → startsOf s k (numbersText zs) ≡ true → 9 < digitOf s (k + length (numbersText zs))
-      → numbersOf (length zs) s i (record { ok = true; next = k; values = v }) ≡ record { ok = true; next = k + length (numbersText zs); values = sets v i zs }
-  unfolding numbersOf numbersText startsOf
+      → readNumbers (length zs) s i (record { ok = true; next = k; values = v }) ≡ record { ok = true; next = k + length (numbersText zs); values = sets v i zs }
+  unfolding readNumbers numbersText startsOf
   numbers-read [] i k v a h g = let e : k + 0 ≡ k = omega arith in rw e
   numbers-read (z ∷ zs) i k v a h g =
       let space : hereOf s k 32 ≡ true = and-first _ (startsOf s (k + 1) (numberText z ++ numbersText zs)) h in
@@ -67,25 +67,25 @@ module _ (s : List ℕ) where
       let u : startsOf s (k + 1 + length (numberText z)) (numbersText zs) ≡ true = starts-rest s (k + 1) (numberText z) (numbersText zs) rest in
       let e : k + suc (length (numberText z ++ numbersText zs)) ≡ k + 1 + length (numberText z) + length (numbersText zs) = simp length-append (omega arith) in
       let f : 9 < digitOf s (k + 1 + length (numberText z) + length (numbersText zs)) = rw e at g in
-      let n : numberOf s (k + 1) ≡ record { ok = true; value = z; next = k + 1 + length (numberText z) } =
+      let n : readNumber s (k + 1) ≡ record { ok = true; value = z; next = k + 1 + length (numberText z) } =
       number-read s z (k + 1) (a .0) t (first-space zs (k + 1 + length (numberText z)) u f) in
       rw e (sym (cond-false _ _ _ (ap not space))
       ∙ (sym (cond-false _ _ _ (ap (λ (w : WholeNumber). not (w .ok)) n))
-      ∙ (ap (λ (w : WholeNumber). numbersOf (length zs) s (i + 1) (record { ok = true; next = w .next; values = set v i (w .value) })) n
+      ∙ (ap (λ (w : WholeNumber). readNumbers (length zs) s (i + 1) (record { ok = true; next = w .next; values = set v i (w .value) })) n
       ∙ rw (← add-one i) (numbers-read zs (i + 1) (k + 1 + length (numberText z)) (set v i z) (a .1) u f))))
 
   -- what is read as numbers are their texts; the values before them are as they were
   pub record Numbers (m i k : ℕ) (v : List ℤ) (q : Reading) : Type 0 where
-    pub there : startsOf s k (numbersText (partOf (q .values) m i)) ≡ true
-    pub next-is : q .next ≡ k + length (numbersText (partOf (q .values) m i))
+    pub there : startsOf s k (numbersText (valuesFrom (q .values) m i)) ≡ true
+    pub next-is : q .next ≡ k + length (numbersText (valuesFrom (q .values) m i))
     pub before : (j : ℕ) → j < i → getD (q .values) j (pos 0) ≡ getD v j (pos 0)
-    pub nine : AllNine (partOf (q .values) m i)
+    pub nine : AllNine (valuesFrom (q .values) m i)
 
   numbers-more : (m i k : ℕ) (v : List ℤ) (z : ℤ) (q : Reading) → i < length v → Nine z → hereOf s k 32 ≡ true → startsOf s (k + 1) (numberText z) ≡ true
       → Numbers m (i + 1) (k + 1 + length (numberText z)) (set v i z) q → Numbers (suc m) i k v q
-  unfolding partOf numbersText startsOf
+  unfolding valuesFrom numbersText startsOf
   numbers-more m i k v z q l n h t f =
-      let zs : List ℤ = partOf (q .values) m (i + 1) in
+      let zs : List ℤ = valuesFrom (q .values) m (i + 1) in
       let e : getD (q .values) i (pos 0) ≡ z = f .before i (omega arith) ∙ getD-set-same v i z (pos 0) l in
       record {
         there = rw e (and-both _ _ h (starts-both s (k + 1) (numberText z) (numbersText zs) t (f .there)));
@@ -94,24 +94,24 @@ module _ (s : List ℕ) where
         nine = rw e (n, f .nine);
       }
 
-  pub numbers-give : (m i k : ℕ) (v : List ℤ) → i + m ≤ length v → (numbersOf m s i (record { ok = true; next = k; values = v })) .ok ≡ true
-      → Numbers m i k v (numbersOf m s i (record { ok = true; next = k; values = v }))
-  unfolding numbersOf stoppedOf partOf numbersText startsOf
+  pub numbers-give : (m i k : ℕ) (v : List ℤ) → i + m ≤ length v → (readNumbers m s i (record { ok = true; next = k; values = v })) .ok ≡ true
+      → Numbers m i k v (readNumbers m s i (record { ok = true; next = k; values = v }))
+  unfolding readNumbers stoppedOf valuesFrom numbersText startsOf
   numbers-give zero i k v l h =
       let e : k ≡ k + 0 = omega arith in
       record { there = refl; next-is = e; before = λ j g. refl; nine = tt }
   numbers-give (suc m) i k v l h =
-      by (hereOf s k 32) ((numberOf s (k + 1)) .ok) refl refl
-      (numbers-give m (i + 1) ((numberOf s (k + 1)) .next) (set v i ((numberOf s (k + 1)) .value)) (rw (length-set v i ((numberOf s (k + 1)) .value)) (omega arith))) h
+      by (hereOf s k 32) ((readNumber s (k + 1)) .ok) refl refl
+      (numbers-give m (i + 1) ((readNumber s (k + 1)) .next) (set v i ((readNumber s (k + 1)) .value)) (rw (length-set v i ((readNumber s (k + 1)) .value)) (omega arith))) h
     where
       n : WholeNumber
-      n = numberOf s (k + 1)
+      n = readNumber s (k + 1)
 
       q : Reading
-      q = numbersOf (suc m) s i (record { ok = true; next = k; values = v })
+      q = readNumbers (suc m) s i (record { ok = true; next = k; values = v })
 
       r : Reading
-      r = numbersOf m s (i + 1) (record { ok = true; next = n .next; values = set v i (n .value) })
+      r = readNumbers m s (i + 1) (record { ok = true; next = n .next; values = set v i (n .value) })
 
       by : (a b : Bool) → hereOf s k 32 ≡ a → n .ok ≡ b → (r .ok ≡ true → Numbers m (i + 1) (n .next) (set v i (n .value)) r) → q .ok ≡ true → Numbers (suc m) i k v q
       by false b e f g h = absurd (false≢true (ap (λ (t : Reading). t .ok) (cond-true _ _ _ (ap not e)) ∙ h))
@@ -133,7 +133,7 @@ readOf s (p ∷ ps) r = readOf s ps (fieldOf s (p .text) (p .at) (p .count) r)
 -- the parts' numbers put in their places
 unfoldable pub filled : List Part → List ℤ → List ℤ → List ℤ
 filled [] v w = w
-filled (p ∷ ps) v w = filled ps v (sets w (p .at) (partOf v (p .count) (p .at)))
+filled (p ∷ ps) v w = filled ps v (sets w (p .at) (valuesFrom v (p .count) (p .at)))
 
 -- a text that begins with a byte before the digits
 abbrev pub plain : List ℕ → Bool
@@ -149,8 +149,8 @@ abbrev pub Rising : ℕ → ℕ → List Part → Type 0
 Rising lo len [] = Unit {0}
 Rising lo len (p ∷ ps) = (lo ≤ p .at) × (p .at + p .count ≤ len) × Rising (p .at + p .count) len ps
 
-part-same : (a b : List ℤ) (m i : ℕ) → ((j : ℕ) → j < i + m → getD a j (pos 0) ≡ getD b j (pos 0)) → partOf a m i ≡ partOf b m i
-unfolding partOf
+part-same : (a b : List ℤ) (m i : ℕ) → ((j : ℕ) → j < i + m → getD a j (pos 0) ≡ getD b j (pos 0)) → valuesFrom a m i ≡ valuesFrom b m i
+unfolding valuesFrom
 part-same a b zero i f = refl
 part-same a b (suc m) i f = rw (f i (omega arith), part-same a b m (i + 1) (λ j g. f j (omega arith)))
 
@@ -159,17 +159,17 @@ module _ (s : List ℕ) where
   unfolding startsOf
   plain-first (c ∷ t) k a h = no-digit s k c (ltb→lt c 48 a) (and-first _ (startsOf s (k + 1) t) h)
 
-  field-read : (text : List ℕ) (i m k : ℕ) (v w : List ℤ) → AllNine (partOf v m i) → startsOf s k (text ++ numbersText (partOf v m i)) ≡ true
-      → 9 < digitOf s (k + length (text ++ numbersText (partOf v m i)))
+  field-read : (text : List ℕ) (i m k : ℕ) (v w : List ℤ) → AllNine (valuesFrom v m i) → startsOf s k (text ++ numbersText (valuesFrom v m i)) ≡ true
+      → 9 < digitOf s (k + length (text ++ numbersText (valuesFrom v m i)))
       → fieldOf s text i m (record { ok = true; next = k; values = w })
-      ≡ record { ok = true; next = k + length (text ++ numbersText (partOf v m i)); values = sets w i (partOf v m i) }
+      ≡ record { ok = true; next = k + length (text ++ numbersText (valuesFrom v m i)); values = sets w i (valuesFrom v m i) }
   unfolding fieldOf
   field-read text i m k v w a h g =
-      let zs : List ℤ = partOf v m i in
+      let zs : List ℤ = valuesFrom v m i in
       let e : k + length (text ++ numbersText zs) ≡ k + length text + length (numbersText zs) = omega (arith, length-append text (numbersText zs)) in
       rw e
       (sym (cond-false _ _ _ (ap not (starts-first s k text (numbersText zs) h)))
-      ∙ (ap (λ (j : ℕ). numbersOf j s i (record { ok = true; next = k + length text; values = w })) (sym (partOf-length v m i))
+      ∙ (ap (λ (j : ℕ). readNumbers j s i (record { ok = true; next = k + length text; values = w })) (sym (partOf-length v m i))
       ∙ numbers-read s zs i (k + length text) w a (starts-rest s k text (numbersText zs) h) (rw e at g)))
 
   pub parts-read : (ps : List Part) (k : ℕ) (v w : List ℤ) → AllPlain ps → NineIn ps v → startsOf s k (partsText ps v) ≡ true
@@ -178,18 +178,18 @@ module _ (s : List ℕ) where
   unfolding readOf filled partsText
   parts-read [] k v w a n h g = let e : k + 0 ≡ k = omega arith in rw e
   parts-read (p ∷ ps) k v w a n h g =
-      let t : List ℕ = p .text ++ numbersText (partOf v (p .count) (p .at)) in
+      let t : List ℕ = p .text ++ numbersText (valuesFrom v (p .count) (p .at)) in
       let e : k + length (t ++ partsText ps v) ≡ k + length t + length (partsText ps v) = omega (arith, length-append t (partsText ps v)) in
       let rest : startsOf s (k + length t) (partsText ps v) ≡ true = starts-rest s k t (partsText ps v) h in
       let f : 9 < digitOf s (k + length t + length (partsText ps v)) = rw e at g in
       rw e
       (ap (readOf s ps) (field-read (p .text) (p .at) (p .count) k v w (n .0) (starts-first s k t (partsText ps v) h) (next ps (k + length t) (a .1) rest f))
-      ∙ parts-read ps (k + length t) v (sets w (p .at) (partOf v (p .count) (p .at))) (a .1) (n .1) rest f)
+      ∙ parts-read ps (k + length t) v (sets w (p .at) (valuesFrom v (p .count) (p .at))) (a .1) (n .1) rest f)
     where
       next : (qs : List Part) (j : ℕ) → AllPlain qs → startsOf s j (partsText qs v) ≡ true → 9 < digitOf s (j + length (partsText qs v)) → 9 < digitOf s j
       next [] j b i d = let e : j + 0 ≡ j = omega arith in rw e at d
       next (q ∷ qs) j b i d =
-          let t : List ℕ = numbersText (partOf v (q .count) (q .at)) in
+          let t : List ℕ = numbersText (valuesFrom v (q .count) (q .at)) in
           plain-first (q .text) j (b .0) (starts-first s j (q .text) t (starts-first s j (q .text ++ t) (partsText qs v) i))
 
 -- ---- what is read
@@ -199,21 +199,21 @@ module _ (s : List ℕ) where
   either-length true x y n g h = g
   either-length false x y n g h = h
 
-  numbers-length : (m i : ℕ) (r : Reading) → length ((numbersOf m s i r) .values) ≡ length (r .values)
-  unfolding numbersOf stoppedOf
+  numbers-length : (m i : ℕ) (r : Reading) → length ((readNumbers m s i r) .values) ≡ length (r .values)
+  unfolding readNumbers stoppedOf
   numbers-length zero i r = refl
   numbers-length (suc m) i r =
-      let n : WholeNumber = numberOf s (r .next + 1) in
+      let n : WholeNumber = readNumber s (r .next + 1) in
       let q : Reading = record { ok = true; next = n .next; values = set (r .values) i (n .value) } in
       either-length (not (hereOf s (r .next) 32)) (stoppedOf r) _ (length (r .values)) refl
-      (either-length (not (n .ok)) (stoppedOf r) (numbersOf m s (i + 1) q) (length (r .values)) refl (numbers-length m (i + 1) q ∙ length-set (r .values) i (n .value)))
+      (either-length (not (n .ok)) (stoppedOf r) (readNumbers m s (i + 1) q) (length (r .values)) refl (numbers-length m (i + 1) q ∙ length-set (r .values) i (n .value)))
 
   field-length : (text : List ℕ) (i m : ℕ) (r : Reading) → length ((fieldOf s text i m r) .values) ≡ length (r .values)
   unfolding fieldOf stoppedOf
   field-length text i m r =
       let q : Reading = record { ok = true; next = r .next + length text; values = r .values } in
       either-length (not (r .ok)) r _ (length (r .values)) refl
-      (either-length (not (startsOf s (r .next) text)) (stoppedOf r) (numbersOf m s i q) (length (r .values)) refl (numbers-length m i q))
+      (either-length (not (startsOf s (r .next) text)) (stoppedOf r) (readNumbers m s i q) (length (r .values)) refl (numbers-length m i q))
 
   pub read-length : (ps : List Part) (r : Reading) → length ((readOf s ps r) .values) ≡ length (r .values)
   unfolding readOf
@@ -230,7 +230,7 @@ module _ (s : List ℕ) where
   field-gives text i m r l h = by (r .ok) (startsOf s (r .next) text) refl refl h
     where
       q : Reading
-      q = numbersOf m s i (record { ok = true; next = r .next + length text; values = r .values })
+      q = readNumbers m s i (record { ok = true; next = r .next + length text; values = r .values })
 
       by : (a b : Bool) → r .ok ≡ a → startsOf s (r .next) text ≡ b → (fieldOf s text i m r) .ok ≡ true → Field text i m r (fieldOf s text i m r)
       by false b e f g = absurd (false≢true (sym e ∙ (ap (λ (t : Reading). t .ok) (cond-true _ r _ (ap not e)) ∙ g)))
@@ -256,8 +256,8 @@ module _ (s : List ℕ) where
       → Parts lo (p ∷ ps) r q
   unfolding partsText
   part-more lo p ps r t q l f g =
-      let zs : List ℤ = partOf (t .values) (p .count) (p .at) in
-      let e : partOf (q .values) (p .count) (p .at) ≡ zs = part-same (q .values) (t .values) (p .count) (p .at) (g .before) in
+      let zs : List ℤ = valuesFrom (t .values) (p .count) (p .at) in
+      let e : valuesFrom (q .values) (p .count) (p .at) ≡ zs = part-same (q .values) (t .values) (p .count) (p .at) (g .before) in
       let text : List ℕ = p .text ++ numbersText zs in
       let n : t .next ≡ r .next + length text = f .numbers .next-is ∙ omega (arith, length-append (p .text) (numbersText zs)) in
       record {

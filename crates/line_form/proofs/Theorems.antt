@@ -9,7 +9,7 @@ use lib.IntN.{ℤ, pos}
 use lib.ListN.{length, replicate}
 use Rattle.line_text.proofs.Choice.{cond-true, cond-false}
 use Rattle.line_form.specs.declared.Reading.{Reading}
-use Rattle.line_form.specs.Grammar.{hereOf, startsOf, stoppedOf, fieldOf, closedOf, startOf, dnetFormOf, ccorFormOf, dateOf, placeOf, activityOf, laterOf, restOf, runFormOf, partOf}
+use Rattle.line_form.specs.Grammar.{hereOf, startsOf, stoppedOf, fieldOf, closedOf, startOf, dnetFormOf, ccorFormOf, dateFields, placeFields, activityFields, laterOf, lastFields, runFormOf, valuesFrom}
 use Rattle.line_form.specs.Forms.{Part, partsText, dnetParts, IsDnet, ccorParts, IsCcor, fieldParts, arrayPart, switchesPart, runParts, IsRun, runValues}
 use Rattle.line_form.proofs.Bytes.{and-first, and-second, here-other}
 use Rattle.line_form.proofs.Parts.{readOf, filled, AllPlain, Rising, form-read, form-gives, field-gives, read-length}
@@ -18,8 +18,8 @@ use Rattle.line_form.proofs.Parts.{readOf, filled, AllPlain, Rising, fo
 
 -- the form of five numbers is read with just these
 pub dnet-read : (s : List ℕ) (v : List ℤ) → IsDnet s v
-    → dnetFormOf s ≡ record { ok = true; next = length (partsText dnetParts v); values = partOf v 5 0 ++ replicate 36 (pos 0) }
-unfolding dnetFormOf readOf filled partOf
+    → dnetFormOf s ≡ record { ok = true; next = length (partsText dnetParts v); values = valuesFrom v 5 0 ++ replicate 36 (pos 0) }
+unfolding dnetFormOf readOf filled valuesFrom
 dnet-read s v h = form-read dnetParts (41 ∷ []) s v (tt, tt) tt (h .0, (h .1, tt), h .2)
 
 -- a line that is read as one is the form of the numbers read
@@ -29,8 +29,8 @@ dnet-gives s h = let g = form-gives dnetParts (41 ∷ []) s (omega arith, omega 
 
 -- the form of four numbers is read with just these
 pub ccor-read : (s : List ℕ) (v : List ℤ) → IsCcor s v
-    → ccorFormOf s ≡ record { ok = true; next = length (partsText ccorParts v); values = partOf v 4 0 ++ replicate 37 (pos 0) }
-unfolding ccorFormOf readOf filled partOf
+    → ccorFormOf s ≡ record { ok = true; next = length (partsText ccorParts v); values = valuesFrom v 4 0 ++ replicate 37 (pos 0) }
+unfolding ccorFormOf readOf filled valuesFrom
 ccor-read s v h = form-read ccorParts (41 ∷ []) s v (tt, tt) tt (h .0, (h .1, tt), h .2)
 
 -- a line that is read as one is the form of the numbers read
@@ -60,11 +60,11 @@ module _ (s : List ℕ) where
 
   -- the run form by whether the array is read
   with-array : array .ok ≡ true → (runFormOf s) .reading ≡ closedOf s (41 ∷ 41 ∷ []) (readOf s (runParts true) startOf)
-  unfolding runFormOf restOf laterOf dateOf placeOf activityOf readOf fields array
+  unfolding runFormOf lastFields laterOf dateFields placeFields activityFields readOf fields array
   with-array e = ap (λ (r : Reading). closedOf s (41 ∷ 41 ∷ []) (fieldOf s (switchesPart .text) 17 24 r)) (sym (cond-true _ array _ e))
 
   without-array : array .ok ≡ false → (runFormOf s) .reading ≡ closedOf s (41 ∷ 41 ∷ []) (readOf s (runParts false) startOf)
-  unfolding runFormOf restOf laterOf dateOf placeOf activityOf readOf fields array
+  unfolding runFormOf lastFields laterOf dateFields placeFields activityFields readOf fields array
   without-array e = ap (λ (r : Reading). closedOf s (41 ∷ 41 ∷ []) (fieldOf s (switchesPart .text) 17 24 r)) (sym (cond-false _ _ fields e))
 
   -- a form that is read has been read up to its switches
@@ -101,7 +101,7 @@ module _ (s : List ℕ) where
       by false f = sym (ap (λ (r : Reading). r .ok) (cond-true _ fields _ (ap not f))) ∙ f
 
   mark-is : (b : Bool) → startsOf s (fields .next) (arrayPart .text) ≡ b → (runFormOf s) .array ≡ b
-  unfolding runFormOf dateOf placeOf activityOf readOf fields
+  unfolding runFormOf dateFields placeFields activityFields readOf fields
   mark-is b e = e
 
 plain-fields : (qs : List Part) → AllPlain qs → AllPlain (fieldParts ++ qs)
@@ -116,7 +116,7 @@ run-is s b r e f = ap (λ (a : Bool). record { array = a; reading = (runFormOf s
 -- the run form of numbers, with or without the array, is read with just these
 pub run-read : (b : Bool) (s : List ℕ) (v : List ℤ) → IsRun b s v
     → runFormOf s ≡ record { array = b; reading = record { ok = true; next = length (partsText (runParts b) v); values = runValues b v } }
-unfolding filled partOf
+unfolding filled valuesFrom
 run-read true s v h =
     let q = form-read (runParts true) (41 ∷ 41 ∷ []) s v (plain-fields (arrayPart ∷ switchesPart ∷ []) (tt, (tt, tt))) tt h in
     let a : (array s) .ok ≡ true = array-read s (read-all s true (ap (λ (r : Reading). r .ok) q)) in

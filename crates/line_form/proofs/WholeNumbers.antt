@@ -14,7 +14,7 @@ use Rattle.line_text.proofs.Choice.{cond-true, cond-false}
 use Rattle.line_text.specs.Text.{decimalText}
 use Rattle.line_text.proofs.DecimalDigits.{decimal-one, decimal-more}
 use Rattle.line_form.specs.declared.WholeNumber.{WholeNumber}
-use Rattle.line_form.specs.Grammar.{hereOf, startsOf, digitOf, moreOf, signedOf, positiveOf, numberOf}
+use Rattle.line_form.specs.Grammar.{hereOf, startsOf, digitOf, moreOf, withSign, positiveOf, readNumber}
 use Rattle.line_form.specs.Forms.{numberText, Nine}
 use Rattle.line_form.proofs.Laws.{room-less, room-next}
 use Rattle.line_form.proofs.Bytes.{and-first, and-second, and-both, here-below, here-byte, here-is, here-other}
@@ -232,7 +232,7 @@ module _ (s : List ℕ) where
 
 module _ (minus : Bool) (s : List ℕ) where
   pub positive-read : (k n : ℕ) → 0 < n → n < 1000000000 → startsOf s k (decimalText n) ≡ true → 9 < digitOf s (k + length (decimalText n))
-      → positiveOf minus s k ≡ record { ok = true; value = signedOf minus n; next = k + length (decimalText n) }
+      → positiveOf minus s k ≡ record { ok = true; value = withSign minus n; next = k + length (decimalText n) }
   unfolding positiveOf bytesOf startsOf
   positive-read k n g l t a =
       let f : Spelled n = spell n n (le-refl n) g in
@@ -251,7 +251,7 @@ module _ (minus : Bool) (s : List ℕ) where
     pub positive : 0 < size
     pub nine : size < 1000000000
     pub there : startsOf s k (decimalText size) ≡ true
-    pub is : positiveOf minus s k ≡ record { ok = true; value = signedOf minus size; next = k + length (decimalText size) }
+    pub is : positiveOf minus s k ≡ record { ok = true; value = withSign minus size; next = k + length (decimalText size) }
 
   pub positive-gives : (k : ℕ) → (positiveOf minus s k) .ok ≡ true → Positive k
   unfolding positiveOf bytesOf startsOf
@@ -281,8 +281,8 @@ module _ (minus : Bool) (s : List ℕ) where
 module _ (s : List ℕ) where
   -- a number's text, and then no digit: the number is read
   pub number-read : (z : ℤ) (k : ℕ) → Nine z → startsOf s k (numberText z) ≡ true → 9 < digitOf s (k + length (numberText z))
-      → numberOf s k ≡ record { ok = true; value = z; next = k + length (numberText z) }
-  unfolding numberOf numberText startsOf
+      → readNumber s k ≡ record { ok = true; value = z; next = k + length (numberText z) }
+  unfolding readNumber numberText startsOf
   number-read (pos zero) k l t a =
       let h : (hereOf s k 48 && true) ≡ true = rw (decimal-one 0 zero-le) at t in
       let c : hereOf s k 48 ≡ true = and-first (hereOf s k 48) true h in
@@ -305,18 +305,18 @@ module _ (s : List ℕ) where
     pub number : ℤ
     pub nine : Nine number
     pub there : startsOf s k (numberText number) ≡ true
-    pub is : numberOf s k ≡ record { ok = true; value = number; next = k + length (numberText number) }
+    pub is : readNumber s k ≡ record { ok = true; value = number; next = k + length (numberText number) }
 
-  above : (k : ℕ) → Positive false s k → numberOf s k ≡ positiveOf false s k → Number k
+  above : (k : ℕ) → Positive false s k → readNumber s k ≡ positiveOf false s k → Number k
   unfolding numberText
   above k p e = record { number = pos (p .size); nine = p .nine; there = p .there; is = e ∙ p .is }
 
-  below : (k : ℕ) → hereOf s k 45 ≡ true → Positive true s (k + 1) → numberOf s k ≡ positiveOf true s (k + 1) → Number k
+  below : (k : ℕ) → hereOf s k 45 ≡ true → Positive true s (k + 1) → readNumber s k ≡ positiveOf true s (k + 1) → Number k
   unfolding numberText startsOf
   below k h p e = by (p .size) (p .positive) (p .nine) (p .there) (p .is)
     where
       by : (n : ℕ) → 0 < n → n < 1000000000 → startsOf s (k + 1) (decimalText n) ≡ true
-          → positiveOf true s (k + 1) ≡ record { ok = true; value = signedOf true n; next = k + 1 + length (decimalText n) } → Number k
+          → positiveOf true s (k + 1) ≡ record { ok = true; value = withSign true n; next = k + 1 + length (decimalText n) } → Number k
       by zero g l t i = absurd (none g)
         where
           none : 0 < 0 → ⊥
@@ -325,11 +325,11 @@ module _ (s : List ℕ) where
           let f : k + suc (length (decimalText (suc n))) ≡ k + 1 + length (decimalText (suc n)) = omega arith in
           record { number = negsuc n; nine = l; there = and-both _ _ h t; is = e ∙ rw f i }
 
-  pub number-gives : (k : ℕ) → (numberOf s k) .ok ≡ true → Number k
-  unfolding numberOf numberText startsOf
+  pub number-gives : (k : ℕ) → (readNumber s k) .ok ≡ true → Number k
+  unfolding readNumber numberText startsOf
   number-gives k h = by (hereOf s k 48) (hereOf s k 45) refl refl h
     where
-      by : (a b : Bool) → hereOf s k 48 ≡ a → hereOf s k 45 ≡ b → (numberOf s k) .ok ≡ true → Number k
+      by : (a b : Bool) → hereOf s k 48 ≡ a → hereOf s k 45 ≡ b → (readNumber s k) .ok ≡ true → Number k
       by true b e f g =
           record {
             number = pos 0;
@@ -338,8 +338,8 @@ module _ (s : List ℕ) where
             is = sym (cond-true _ _ _ e) ∙ rw (decimal-one 0 zero-le);
           }
       by false true e f g =
-          let i : numberOf s k ≡ positiveOf true s (k + 1) = sym (cond-true _ _ _ f ∙ cond-false _ _ _ e) in
+          let i : readNumber s k ≡ positiveOf true s (k + 1) = sym (cond-true _ _ _ f ∙ cond-false _ _ _ e) in
           below k f (positive-gives true s (k + 1) (ap (λ (w : WholeNumber). w .ok) (sym i) ∙ g)) i
       by false false e f g =
-          let i : numberOf s k ≡ positiveOf false s k = sym (cond-false _ _ _ f ∙ cond-false _ _ _ e) in
+          let i : readNumber s k ≡ positiveOf false s k = sym (cond-false _ _ _ f ∙ cond-false _ _ _ e) in
           above k (positive-gives false s k (ap (λ (w : WholeNumber). w .ok) (sym i) ∙ g)) i

@@ -7,7 +7,7 @@ use mathlib.Core.List.{List, [], _∷_, _++_}
 use lib.IntN.{ℤ, pos, negsuc}
 use lib.ListN.{length, replicate}
 use Rattle.line_text.specs.Text.{decimalText}
-use Rattle.line_form.specs.Grammar.{partOf}
+use Rattle.line_form.specs.Grammar.{valuesFrom}
 
 -- a whole number in decimal digits without leading zeros, after a minus where it is below 0
 unfoldable pub numberText : ℤ → List ℕ
@@ -36,12 +36,12 @@ pub record Part : Type 0 where
 
 unfoldable pub partsText : List Part → List ℤ → List ℕ
 partsText [] v = []
-partsText (p ∷ ps) v = (p .text ++ numbersText (partOf v (p .count) (p .at))) ++ partsText ps v
+partsText (p ∷ ps) v = (p .text ++ numbersText (valuesFrom v (p .count) (p .at))) ++ partsText ps v
 
 -- the parts' numbers have at most nine digits
 abbrev pub NineIn : List Part → List ℤ → Type 0
 NineIn [] v = Unit {0}
-NineIn (p ∷ ps) v = AllNine (partOf v (p .count) (p .at)) × NineIn ps v
+NineIn (p ∷ ps) v = AllNine (valuesFrom v (p .count) (p .at)) × NineIn ps v
 
 -- (dnet dd dm zhm xmm xm)
 abbrev pub dnetParts : List Part
@@ -51,7 +51,7 @@ abbrev pub dnetText : List ℤ → List ℕ
 dnetText v = partsText dnetParts v ++ (41 ∷ [])
 
 abbrev pub IsDnet : List ℕ → List ℤ → Type 0
-IsDnet s v = (s ≡ dnetText v) × AllNine (partOf v 5 0) × (length s < 512)
+IsDnet s v = (s ≡ dnetText v) × AllNine (valuesFrom v 5 0) × (length s < 512)
 
 -- (ccor alt r h1 zh)
 abbrev pub ccorParts : List Part
@@ -61,7 +61,7 @@ abbrev pub ccorText : List ℤ → List ℕ
 ccorText v = partsText ccorParts v ++ (41 ∷ [])
 
 abbrev pub IsCcor : List ℕ → List ℤ → Type 0
-IsCcor s v = (s ≡ ccorText v) × AllNine (partOf v 4 0) × (length s < 512)
+IsCcor s v = (s ≡ ccorText v) × AllNine (valuesFrom v 4 0) × (length s < 512)
 
 -- the ten fields of a record, one nested form each
 abbrev pub fieldParts : List Part
@@ -108,5 +108,5 @@ IsRun array s v = (s ≡ runText array v) × NineIn (runParts array) v × (lengt
 
 -- the numbers that a run form has: all 41, or all but the array's
 abbrev pub runValues : Bool → List ℤ → List ℤ
-runValues true v = partOf v 41 0
-runValues false v = partOf v 10 0 ++ replicate 7 (pos 0) ++ partOf v 24 17
+runValues true v = valuesFrom v 41 0
+runValues false v = valuesFrom v 10 0 ++ replicate 7 (pos 0) ++ valuesFrom v 24 17

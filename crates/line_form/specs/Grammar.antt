@@ -35,10 +35,10 @@ moreOf zero s k v = record { size = v; next = k }
 moreOf (suc m) s k v = cond (ltb 9 (digitOf s k)) (record { size = v; next = k }) (moreOf m s (k + 1) (10 * v + digitOf s k))
 
 -- minus where the mark is there
-abbrev pub signedOf : Bool → ℕ → ℤ
-signedOf false n = pos n
-signedOf true zero = pos 0
-signedOf true (suc n) = negsuc n
+abbrev pub withSign : Bool → ℕ → ℤ
+withSign false n = pos n
+withSign true zero = pos 0
+withSign true (suc n) = negsuc n
 
 -- nine digits at most, the first one not 0
 unfoldable pub positiveOf : Bool → List ℕ → ℕ → WholeNumber
@@ -47,13 +47,13 @@ positiveOf minus s k =
     (cond (eqb (digitOf s k) 0) (record { ok = false; value = pos 0; next = k })
     (record {
       ok = true;
-      value = signedOf minus ((moreOf 8 s (k + 1) (digitOf s k)) .size);
+      value = withSign minus ((moreOf 8 s (k + 1) (digitOf s k)) .size);
       next = (moreOf 8 s (k + 1) (digitOf s k)) .next;
     }))
 
 -- a whole number: 0, or an optional minus and one to nine digits that do not begin with 0
-unfoldable pub numberOf : List ℕ → ℕ → WholeNumber
-numberOf s k =
+unfoldable pub readNumber : List ℕ → ℕ → WholeNumber
+readNumber s k =
     cond (hereOf s k 48) (record { ok = true; value = pos 0; next = k + 1 })
     (cond (hereOf s k 45) (positiveOf true s (k + 1)) (positiveOf false s k))
 
@@ -65,16 +65,16 @@ unfoldable pub stoppedOf : Reading → Reading
 stoppedOf r = record { ok = false; next = r .next; values = r .values }
 
 -- m numbers, each after one space, put at i and on
-unfoldable pub numbersOf : ℕ → List ℕ → ℕ → Reading → Reading
-numbersOf zero s i r = r
-numbersOf (suc m) s i r =
+unfoldable pub readNumbers : ℕ → List ℕ → ℕ → Reading → Reading
+readNumbers zero s i r = r
+readNumbers (suc m) s i r =
     cond (not (hereOf s (r .next) 32)) (stoppedOf r)
-    (cond (not ((numberOf s (r .next + 1)) .ok)) (stoppedOf r)
-    (numbersOf m s (i + 1)
+    (cond (not ((readNumber s (r .next + 1)) .ok)) (stoppedOf r)
+    (readNumbers m s (i + 1)
     (record {
       ok = true;
-      next = (numberOf s (r .next + 1)) .next;
-      values = set (r .values) i ((numberOf s (r .next + 1)) .value);
+      next = (readNumber s (r .next + 1)) .next;
+      values = set (r .values) i ((readNumber s (r .next + 1)) .value);
     })))
 
 -- a text, then m numbers, put at i and on
@@ -82,7 +82,7 @@ unfoldable pub fieldOf : List ℕ → List ℕ → ℕ → ℕ → Reading → R
 fieldOf s text i m r =
     cond (not (r .ok)) r
     (cond (not (startsOf s (r .next) text)) (stoppedOf r)
-    (numbersOf m s i (record { ok = true; next = r .next + length text; values = r .values })))
+    (readNumbers m s i (record { ok = true; next = r .next + length text; values = r .values })))
 
 -- a text that ends the line; the line has 511 bytes at most
 unfoldable pub closedOf : List ℕ → List ℕ → Reading → Reading
@@ -105,8 +105,8 @@ unfoldable pub ccorFormOf : List ℕ → Reading
 ccorFormOf s = closedOf s (41 ∷ []) (fieldOf s (40 ∷ 99 ∷ 99 ∷ 111 ∷ 114 ∷ []) 0 4 startOf)
 
 -- (run (year ..) (doy ..) (sec ..) (alt ..)
-unfoldable pub dateOf : List ℕ → Reading
-dateOf s =
+unfoldable pub dateFields : List ℕ → Reading
+dateFields s =
     -- ") (alt"
     fieldOf s (41 ∷ 32 ∷ 40 ∷ 97 ∷ 108 ∷ 116 ∷ []) 3 1
     -- ") (sec"
@@ -117,8 +117,8 @@ dateOf s =
     (fieldOf s (40 ∷ 114 ∷ 117 ∷ 110 ∷ 32 ∷ 40 ∷ 121 ∷ 101 ∷ 97 ∷ 114 ∷ []) 0 1 startOf)))
 
 -- .. (g_lat ..) (g_long ..) (lst ..)
-unfoldable pub placeOf : List ℕ → Reading → Reading
-placeOf s r =
+unfoldable pub placeFields : List ℕ → Reading → Reading
+placeFields s r =
     -- ") (lst"
     fieldOf s (41 ∷ 32 ∷ 40 ∷ 108 ∷ 115 ∷ 116 ∷ []) 6 1
     -- ") (g_long"
@@ -127,8 +127,8 @@ placeOf s r =
     (fieldOf s (41 ∷ 32 ∷ 40 ∷ 103 ∷ 95 ∷ 108 ∷ 97 ∷ 116 ∷ []) 4 1 r))
 
 -- .. (f107a ..) (f107 ..) (ap ..)
-unfoldable pub activityOf : List ℕ → Reading → Reading
-activityOf s r =
+unfoldable pub activityFields : List ℕ → Reading → Reading
+activityFields s r =
     -- ") (ap"
     fieldOf s (41 ∷ 32 ∷ 40 ∷ 97 ∷ 112 ∷ []) 9 1
     -- ") (f107"
@@ -140,8 +140,8 @@ unfoldable pub laterOf : Reading → Reading → Reading
 laterOf a r = cond (a .ok) a r
 
 -- .. (ap_array ..), which may be left out, and (switches ..) to the end of the line
-unfoldable pub restOf : List ℕ → Reading → Reading
-restOf s r =
+unfoldable pub lastFields : List ℕ → Reading → Reading
+lastFields s r =
     -- "))"
     closedOf s (41 ∷ 41 ∷ [])
     -- ") (switches"
@@ -151,23 +151,23 @@ restOf s r =
 
 unfoldable pub runFormOf : List ℕ → Run
 runFormOf s =
-    let r = activityOf s (placeOf s (dateOf s)) in
-    record { array = startsOf s (r .next) (41 ∷ 32 ∷ 40 ∷ 97 ∷ 112 ∷ 95 ∷ 97 ∷ 114 ∷ 114 ∷ 97 ∷ 121 ∷ []); reading = restOf s r }
+    let r = activityFields s (placeFields s (dateFields s)) in
+    record { array = startsOf s (r .next) (41 ∷ 32 ∷ 40 ∷ 97 ∷ 112 ∷ 95 ∷ 97 ∷ 114 ∷ 114 ∷ 97 ∷ 121 ∷ []); reading = lastFields s r }
 
 -- m of the numbers, from i on
-unfoldable pub partOf : List ℤ → ℕ → ℕ → List ℤ
-partOf v zero i = []
-partOf v (suc m) i = getD v i (pos 0) ∷ partOf v m (i + 1)
+unfoldable pub valuesFrom : List ℤ → ℕ → ℕ → List ℤ
+valuesFrom v zero i = []
+valuesFrom v (suc m) i = getD v i (pos 0) ∷ valuesFrom v m (i + 1)
 
 unfoldable pub switchesOf : Reading → List ℤ
-switchesOf r = partOf (r .values) 24 17
+switchesOf r = valuesFrom (r .values) 24 17
 
 unfoldable pub thousandthsAt : Reading → ℕ → Float
 thousandthsAt r i = thousandthsOf (getD (r .values) i (pos 0))
 
-abbrev pub historyOf : Bool → History
-historyOf true = Present
-historyOf false = Absent
+abbrev pub historyWhen : Bool → History
+historyWhen true = Present
+historyWhen false = Absent
 
 unfoldable pub arrayOf : Reading → List Float
 arrayOf r =
@@ -189,6 +189,6 @@ inputOf f =
       f107a = thousandthsAt r 7;
       f107 = thousandthsAt r 8;
       ap = thousandthsAt r 9;
-      history = historyOf (f .array);
+      history = historyWhen (f .array);
       «ap_array» = arrayOf r;
     }

@@ -4,7 +4,7 @@ ghost use Prim.Native.Nat.{_+_, _≤_, _<_};
 ghost use lib.IntN.{pos};
 ghost use lib.ListN.{length, set, getD};
 ghost use mathlib.Core.Bool.{true};
-ghost use Rattle.line_form.specs.Grammar.{hereOf, startsOf, digitOf, moreOf, signedOf, positiveOf, numberOf, stoppedOf, numbersOf, fieldOf, closedOf, startOf, dnetFormOf, ccorFormOf, dateOf, placeOf, activityOf, laterOf, restOf, runFormOf, switchesOf, thousandthsAt, historyOf, arrayOf, inputOf};
+ghost use Rattle.line_form.specs.Grammar.{hereOf, startsOf, digitOf, moreOf, withSign, positiveOf, readNumber, stoppedOf, readNumbers, fieldOf, closedOf, startOf, dnetFormOf, ccorFormOf, dateFields, placeFields, activityFields, laterOf, lastFields, runFormOf, switchesOf, thousandthsAt, historyWhen, arrayOf, inputOf};
 use setting::History;
 use setting::Input;
 
@@ -106,7 +106,7 @@ pub fn to_i32(size: u32) -> i32
 
 pub fn signed(minus: bool, size: u32) -> i32
     requires { ⌜ size < 1000000000 ⌝ }
-    ensures { λ r. ⌜ r ≡ signedOf minus size ⌝ }
+    ensures { λ r. ⌜ r ≡ withSign minus size ⌝ }
 {
     let z = to_i32(size);
     if minus {
@@ -145,7 +145,7 @@ pub fn positive(minus: bool, s: &[u8], k: usize) -> WholeNumber
 
 pub fn number(s: &[u8], k: usize) -> WholeNumber
     requires { ⌜ k ≤ length (now s) ⌝ }
-    ensures { λ r. ⌜ (r ≡ numberOf (now (s .entry)) k) × (r .next ≤ length (now (s .entry))) ⌝ }
+    ensures { λ r. ⌜ (r ≡ readNumber (now (s .entry)) k) × (r .next ≤ length (now (s .entry))) ⌝ }
 {
     if here(s, k, 48) {
         return WholeNumber {
@@ -184,7 +184,7 @@ pub fn with_number(r: Reading, i: usize, n: WholeNumber) -> Reading
 pub fn numbers(s: &[u8], i: usize, m: usize, r: Reading) -> Reading
     requires { ⌜ i + m ≤ 41 ⌝ }
     requires { ⌜ r .next ≤ length (now s) ⌝ }
-    ensures { λ q. ⌜ (q ≡ numbersOf m (now (s .entry)) i r) × (q .next ≤ length (now (s .entry))) ⌝ }
+    ensures { λ q. ⌜ (q ≡ readNumbers m (now (s .entry)) i r) × (q .next ≤ length (now (s .entry))) ⌝ }
 {
     let mut j = i;
     let mut left = m;
@@ -273,7 +273,7 @@ pub fn ccor_form(s: &[u8]) -> Reading
 }
 
 pub fn date(s: &[u8]) -> Reading
-    ensures { λ r. ⌜ (r ≡ dateOf (now (s .entry))) × (r .next ≤ length (now (s .entry))) ⌝ }
+    ensures { λ r. ⌜ (r ≡ dateFields (now (s .entry))) × (r .next ≤ length (now (s .entry))) ⌝ }
 {
     let a = start();
     let b = field(s, b"(run (year", 0, 1, a);
@@ -284,7 +284,7 @@ pub fn date(s: &[u8]) -> Reading
 
 pub fn place(s: &[u8], r: Reading) -> Reading
     requires { ⌜ r .next ≤ length (now s) ⌝ }
-    ensures { λ q. ⌜ (q ≡ placeOf (now (s .entry)) r) × (q .next ≤ length (now (s .entry))) ⌝ }
+    ensures { λ q. ⌜ (q ≡ placeFields (now (s .entry)) r) × (q .next ≤ length (now (s .entry))) ⌝ }
 {
     let a = field(s, b") (g_lat", 4, 1, r);
     let b = field(s, b") (g_long", 5, 1, a);
@@ -293,7 +293,7 @@ pub fn place(s: &[u8], r: Reading) -> Reading
 
 pub fn activity(s: &[u8], r: Reading) -> Reading
     requires { ⌜ r .next ≤ length (now s) ⌝ }
-    ensures { λ q. ⌜ (q ≡ activityOf (now (s .entry)) r) × (q .next ≤ length (now (s .entry))) ⌝ }
+    ensures { λ q. ⌜ (q ≡ activityFields (now (s .entry)) r) × (q .next ≤ length (now (s .entry))) ⌝ }
 {
     let a = field(s, b") (f107a", 7, 1, r);
     let b = field(s, b") (f107", 8, 1, a);
@@ -311,7 +311,7 @@ pub fn later(a: Reading, r: Reading) -> Reading
 
 pub fn rest(s: &[u8], r: Reading) -> Reading
     requires { ⌜ r .next ≤ length (now s) ⌝ }
-    ensures { λ q. ⌜ q ≡ restOf (now (s .entry)) r ⌝ }
+    ensures { λ q. ⌜ q ≡ lastFields (now (s .entry)) r ⌝ }
 {
     let a = field(s, b") (ap_array", 10, 7, r);
     let b = later(a, r);
@@ -357,7 +357,7 @@ pub fn thousandths_at(r: Reading, i: usize) -> f64
 }
 
 pub fn history_of(array: bool) -> History
-    ensures { λ h. ⌜ h ≡ historyOf array ⌝ }
+    ensures { λ h. ⌜ h ≡ historyWhen array ⌝ }
 {
     if array {
         return History::Present;

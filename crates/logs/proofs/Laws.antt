@@ -11,7 +11,7 @@ use lib.ListN.{length, take, drop, getD, set, replicate, drop-of-length-le, leng
 use lib.Seq.{take-suc-set, append-snoc, drop-set-lt, drop-drop, drop-cons, drop-length, length-take-le}
 use Rattle.logs.specs.declared.Report.{Report}
 use Rattle.logs.specs.declared.Answer.the-variants.{Counted, Refused}
-use Rattle.logs.specs.Logs.{Entry, entriesOf, Finding, pair, single1, single2, apart, findings, findingNumber, findingNumbers, unfitLog, risesFrom, risesOf, accepted, refusal, reportOf}
+use Rattle.logs.specs.Logs.{Entry, entriesOf, Finding, pair, single1, single2, apart, findings, findingNumber, findingNumbers, unfitLog, secondsRiseFrom, secondsRise, acceptedLogs, refusal, reportOf}
 use Rattle.logs.specs.Lent.{countedOf, lentAnswer, lentAfter}
 use Rattle.logs.specs.Theorems.{length-log, only-first}
 use Rattle.logs.specs.Steps.{meetOf, frontOf, taken1, taken2}
@@ -200,7 +200,7 @@ module _ (s₁ b₁ s₂ b₂ : List ℕ) (e : length s₁ ≡ length b₁) (f :
 pub filled : (s₁ b₁ s₂ b₂ : List ℕ) → length s₁ ≡ length b₁ → length s₂ ≡ length b₂ → (t i j n : ℕ) (table : List ℕ) → n ≤ 512 → length table ≡ 512
     → length s₁ ≤ i → length s₂ ≤ j
     → Filled t (entriesOf s₁ b₁) (entriesOf s₂ b₂) table n i j
-    → record { answer = Counted n; table = table } ≡ accepted (findingNumbers t (entriesOf s₁ b₁) (entriesOf s₂ b₂))
+    → record { answer = Counted n; table = table } ≡ acceptedLogs (findingNumbers t (entriesOf s₁ b₁) (entriesOf s₂ b₂))
 unfolding findingNumbers findings
 filled s₁ b₁ s₂ b₂ e f t i j n table m l g h r =
     let N = findingNumbers t (entriesOf s₁ b₁) (entriesOf s₂ b₂) in
@@ -212,11 +212,11 @@ filled s₁ b₁ s₂ b₂ e f t i j n table m l g h r =
 
 -- ---- rising seconds
 
-pub begins : (s : List ℕ) → (length s ≡ 0 → ⊥) → risesFrom 1 (getD s 0 0) (drop 1 s) ≡ risesOf s
+pub begins : (s : List ℕ) → (length s ≡ 0 → ⊥) → secondsRiseFrom 1 (getD s 0 0) (drop 1 s) ≡ secondsRise s
 begins [] h = absurd (h refl)
 begins (a ∷ s) h = refl
 
-pub none-there : (s : List ℕ) → length s ≡ 0 → 0 ≡ risesOf s
+pub none-there : (s : List ℕ) → length s ≡ 0 → 0 ≡ secondsRise s
 none-there [] h = refl
 none-there (a ∷ s) h = absurd (none h)
   where
@@ -224,16 +224,16 @@ none-there (a ∷ s) h = absurd (none h)
     none g = omega arith
 
 module _ (s : List ℕ) (last i : ℕ) where
-  pub falls-here : i < length s → getD s i 0 ≤ last → i ≡ risesFrom i last (drop i s)
-  unfolding risesFrom
+  pub falls-here : i < length s → getD s i 0 ≤ last → i ≡ secondsRiseFrom i last (drop i s)
+  unfolding secondsRiseFrom
   falls-here h g = rw (drop-cons s i 0 h) (simp (le-ltb _ _ g))
 
-  pub rises-here : i < length s → last < getD s i 0 → risesFrom (i + 1) (getD s i 0) (drop (i + 1) s) ≡ risesFrom i last (drop i s)
-  unfolding risesFrom
+  pub rises-here : i < length s → last < getD s i 0 → secondsRiseFrom (i + 1) (getD s i 0) (drop (i + 1) s) ≡ secondsRiseFrom i last (drop i s)
+  unfolding secondsRiseFrom
   rises-here h g = rw (drop-cons s i 0 h, add-one) (simp (lt-ltb _ _ g))
 
-  pub all-rise : i ≡ length s → i ≡ risesFrom i last (drop i s)
-  unfolding risesFrom
+  pub all-rise : i ≡ length s → i ≡ secondsRiseFrom i last (drop i s)
+  unfolding secondsRiseFrom
   all-rise h = rw (h, drop-length s)
 
 -- ---- the call
@@ -248,24 +248,24 @@ module _ (s₁ b₁ s₂ b₂ : List ℕ) (t : ℕ) where
     unfolding reportOf
     unfit-second f = simp (e, f)
 
-    module _ (f : unfitLog s₂ b₂ ≡ false) (p : ℕ) (i : p ≡ risesOf s₁) where
+    module _ (f : unfitLog s₂ b₂ ≡ false) (p : ℕ) (i : p ≡ secondsRise s₁) where
       pub first-falls : p < length s₁ → refusal 15 p ≡ reportOf s₁ b₁ s₂ b₂ t
       unfolding reportOf
-      first-falls g = let w : risesOf s₁ < length s₁ = rw i at g in rw i (simp (e, f, lt-ltb _ _ w))
+      first-falls g = let w : secondsRise s₁ < length s₁ = rw i at g in rw i (simp (e, f, lt-ltb _ _ w))
 
-      module _ (g : length s₁ ≤ p) (q : ℕ) (j : q ≡ risesOf s₂) where
+      module _ (g : length s₁ ≤ p) (q : ℕ) (j : q ≡ secondsRise s₂) where
         pub second-falls : q < length s₂ → refusal 15 (256 + q) ≡ reportOf s₁ b₁ s₂ b₂ t
         unfolding reportOf
         second-falls h =
-            let v : length s₁ ≤ risesOf s₁ = rw i at g in
-            let w : risesOf s₂ < length s₂ = rw j at h in
+            let v : length s₁ ≤ secondsRise s₁ = rw i at g in
+            let w : secondsRise s₂ < length s₂ = rw j at h in
             rw j (simp (e, f, le-ltb _ _ v, lt-ltb _ _ w))
 
-        pub both-fit : length s₂ ≤ q → (r : Report) → r ≡ accepted (findingNumbers t (entriesOf s₁ b₁) (entriesOf s₂ b₂)) → r ≡ reportOf s₁ b₁ s₂ b₂ t
+        pub both-fit : length s₂ ≤ q → (r : Report) → r ≡ acceptedLogs (findingNumbers t (entriesOf s₁ b₁) (entriesOf s₂ b₂)) → r ≡ reportOf s₁ b₁ s₂ b₂ t
         unfolding reportOf
         both-fit h r z =
-            let v : length s₁ ≤ risesOf s₁ = rw i at g in
-            let w : length s₂ ≤ risesOf s₂ = rw j at h in
+            let v : length s₁ ≤ secondsRise s₁ = rw i at g in
+            let w : length s₂ ≤ secondsRise s₂ = rw j at h in
             z ∙ simp (e, f, le-ltb _ _ v, le-ltb _ _ w)
 
 -- ---- a lent slice

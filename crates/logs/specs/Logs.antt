@@ -53,17 +53,17 @@ unfitLog s b = ltb 256 (length s) || not (eqb (length s) (length b))
 
 -- the index of the first number that is not above the one before it, or how many there are where they rise strictly; the last of the i passed
 -- ones is a
-unfoldable pub risesFrom : ℕ → ℕ → List ℕ → ℕ
-risesFrom i a [] = i
-risesFrom i a (b ∷ s) = cond (ltb a b) (risesFrom (i + 1) b s) i
+unfoldable pub secondsRiseFrom : ℕ → ℕ → List ℕ → ℕ
+secondsRiseFrom i a [] = i
+secondsRiseFrom i a (b ∷ s) = cond (ltb a b) (secondsRiseFrom (i + 1) b s) i
 
-abbrev pub risesOf : List ℕ → ℕ
-risesOf [] = 0
-risesOf (a ∷ s) = risesFrom 1 a s
+abbrev pub secondsRise : List ℕ → ℕ
+secondsRise [] = 0
+secondsRise (a ∷ s) = secondsRiseFrom 1 a s
 
 -- accepted: the count, and a table of 512 numbers, those found and 0 past the count
-abbrev pub accepted : List ℕ → Report
-accepted ns = record { answer = Counted (length ns); table = ns ++ replicate (512 - length ns) 0 }
+abbrev pub acceptedLogs : List ℕ → Report
+acceptedLogs ns = record { answer = Counted (length ns); table = ns ++ replicate (512 - length ns) 0 }
 
 -- refused: number and place
 abbrev pub refusal : ℕ → ℕ → Report
@@ -74,6 +74,6 @@ unfoldable pub reportOf : List ℕ → List ℕ → List ℕ → List ℕ → �
 reportOf s₁ b₁ s₂ b₂ t =
     cond (unfitLog s₁ b₁) (refusal 14 1)
     (cond (unfitLog s₂ b₂) (refusal 14 2)
-    (cond (ltb (risesOf s₁) (length s₁)) (refusal 15 (risesOf s₁))
-    (cond (ltb (risesOf s₂) (length s₂)) (refusal 15 (256 + risesOf s₂))
-    (accepted (findingNumbers t (entriesOf s₁ b₁) (entriesOf s₂ b₂))))))
+    (cond (ltb (secondsRise s₁) (length s₁)) (refusal 15 (secondsRise s₁))
+    (cond (ltb (secondsRise s₂) (length s₂)) (refusal 15 (256 + secondsRise s₂))
+    (acceptedLogs (findingNumbers t (entriesOf s₁ b₁) (entriesOf s₂ b₂))))))

@@ -11,7 +11,7 @@ use lib.Dec.{leb, ltb, eqb}
 use lib.ListN.{length, getD, replicate, length-map}
 use Rattle.logs.specs.declared.Answer.the-variants.{Counted, Refused}
 use Rattle.logs.specs.declared.Report.{Report}
-use Rattle.logs.specs.Logs.{Entry, entriesOf, Finding, pair, single1, single2, apart, findings, findingNumber, findingNumbers, unfitLog, risesFrom, risesOf, accepted, refusal, reportOf}
+use Rattle.logs.specs.Logs.{Entry, entriesOf, Finding, pair, single1, single2, apart, findings, findingNumber, findingNumbers, unfitLog, secondsRiseFrom, secondsRise, acceptedLogs, refusal, reportOf}
 
 -- ---- each entry once
 
@@ -60,35 +60,35 @@ each-once t (x ∷ xs) (y ∷ ys) =
 -- ---- pairs and singles counted
 
 -- how often k stands in a list
-unfoldable pub countOf : ℕ → List ℕ → ℕ
-countOf k [] = 0
-countOf k (n ∷ l) = cond (eqb n k) 1 0 + countOf k l
+unfoldable pub countIn : ℕ → List ℕ → ℕ
+countIn k [] = 0
+countIn k (n ∷ l) = cond (eqb n k) 1 0 + countIn k l
 
 -- twice the pairs plus the singles
 abbrev pub twice-pairs-plus-singles : List ℕ → ℕ
-twice-pairs-plus-singles l = 2 * (countOf 1 l + countOf 2 l) + (countOf 3 l + countOf 4 l)
+twice-pairs-plus-singles l = 2 * (countIn 1 l + countIn 2 l) + (countIn 3 l + countIn 4 l)
 
-counted : (l : List Finding) → twice-pairs-plus-singles (map findingNumber l) ≡ length (of1 l) + length (of2 l)
-unfolding of1 of2 countOf
-counted [] = refl
-counted (pair x y ∷ l) = go (eqb (x .bits) (y .bits)) (counted l)
+pairs-and-singles : (l : List Finding) → twice-pairs-plus-singles (map findingNumber l) ≡ length (of1 l) + length (of2 l)
+unfolding of1 of2 countIn
+pairs-and-singles [] = refl
+pairs-and-singles (pair x y ∷ l) = go (eqb (x .bits) (y .bits)) (pairs-and-singles l)
   where
     go : (r : Bool) → twice-pairs-plus-singles (map findingNumber l) ≡ length (of1 l) + length (of2 l)
         → twice-pairs-plus-singles (cond r 1 2 ∷ map findingNumber l) ≡ suc (length (of1 l)) + suc (length (of2 l))
     go true e = omega arith
     go false e = omega arith
-counted (single1 x ∷ l) = omega (arith, counted l)
-counted (single2 y ∷ l) = omega (arith, counted l)
+pairs-and-singles (single1 x ∷ l) = omega (arith, pairs-and-singles l)
+pairs-and-singles (single2 y ∷ l) = omega (arith, pairs-and-singles l)
 
 -- Twice the pairs plus the singles is the number of entries in both logs.
 pub entries-counted : (t : ℕ) (xs ys : List Entry) → twice-pairs-plus-singles (findingNumbers t xs ys) ≡ length xs + length ys
 unfolding findingNumbers
 entries-counted t xs ys =
     let e = each-once t xs ys in
-    counted (findings t xs ys) ∙ ap₂ (λ (a b : List Entry). length a + length b) (e .0) (e .1)
+    pairs-and-singles (findings t xs ys) ∙ ap₂ (λ (a b : List Entry). length a + length b) (e .0) (e .1)
 
 no-more : (l : List Finding) → length (map findingNumber l) ≤ twice-pairs-plus-singles (map findingNumber l)
-unfolding countOf
+unfolding countIn
 no-more [] = omega arith
 no-more (pair x y ∷ l) = go (eqb (x .bits) (y .bits)) (no-more l)
   where
@@ -100,13 +100,13 @@ no-more (single1 x ∷ l) = omega (arith, no-more l)
 no-more (single2 y ∷ l) = omega (arith, no-more l)
 
 -- zeros behind a list are no pairs and no singles
-no-zeros : (k m : ℕ) → eqb 0 k ≡ false → countOf k (replicate m 0) ≡ 0
-unfolding countOf
+no-zeros : (k m : ℕ) → eqb 0 k ≡ false → countIn k (replicate m 0) ≡ 0
+unfolding countIn
 no-zeros k zero e = refl
 no-zeros k (suc m) e = simp e (omega (arith, no-zeros k m e))
 
-count-append : (k : ℕ) (l m : List ℕ) → countOf k (l ++ m) ≡ countOf k l + countOf k m
-unfolding countOf
+count-append : (k : ℕ) (l m : List ℕ) → countIn k (l ++ m) ≡ countIn k l + countIn k m
+unfolding countIn
 count-append k [] m = omega arith
 count-append k (n ∷ l) m = omega (arith, count-append k l m)
 
@@ -133,8 +133,8 @@ length-log (a ∷ s) [] e = sym e
 length-log (a ∷ s) (x ∷ b) e = ap suc (length-log s b (omega arith))
 
 -- a log that is not refused with 14
-pub fit : (s b : List ℕ) → unfitLog s b ≡ false → (length s ≡ length b) × (length s ≤ 256)
-fit s b h = go (ltb 256 (length s)) (eqb (length s) (length b)) refl refl h
+pub log-fit : (s b : List ℕ) → unfitLog s b ≡ false → (length s ≡ length b) × (length s ≤ 256)
+log-fit s b h = go (ltb 256 (length s)) (eqb (length s) (length b)) refl refl h
   where
     go : (p q : Bool) → ltb 256 (length s) ≡ p → eqb (length s) (length b) ≡ q → (p || not q) ≡ false → (length s ≡ length b) × (length s ≤ 256)
     go true q u v w = absurd (false≢true (sym w))
@@ -161,12 +161,12 @@ module _ (s₁ b₁ s₂ b₂ : List ℕ) (t n : ℕ) where
   passed false false false false p q r e = (refl, refl, refl, refl)
 
   module _ (e : (reportOf s₁ b₁ s₂ b₂ t) .answer ≡ Counted n) where
-    tests-passed : (unfitLog s₁ b₁ ≡ false) × (unfitLog s₂ b₂ ≡ false) × (ltb (risesOf s₁) (length s₁) ≡ false) × (ltb (risesOf s₂) (length s₂) ≡ false)
+    tests-passed : (unfitLog s₁ b₁ ≡ false) × (unfitLog s₂ b₂ ≡ false) × (ltb (secondsRise s₁) (length s₁) ≡ false) × (ltb (secondsRise s₂) (length s₂) ≡ false)
     unfolding reportOf
     tests-passed =
-        passed (unfitLog s₁ b₁) (unfitLog s₂ b₂) (ltb (risesOf s₁) (length s₁)) (ltb (risesOf s₂) (length s₂)) (risesOf s₁) (256 + risesOf s₂) (accepted numbers) e
+        passed (unfitLog s₁ b₁) (unfitLog s₂ b₂) (ltb (secondsRise s₁) (length s₁)) (ltb (secondsRise s₂) (length s₂)) (secondsRise s₁) (256 + secondsRise s₂) (acceptedLogs numbers) e
 
-    is-accepted : reportOf s₁ b₁ s₂ b₂ t ≡ accepted numbers
+    is-accepted : reportOf s₁ b₁ s₂ b₂ t ≡ acceptedLogs numbers
     unfolding reportOf
     is-accepted = let h = tests-passed in simp (h .0, h .1, h .2, h .3)
 
@@ -184,16 +184,16 @@ module _ (s₁ b₁ s₂ b₂ : List ℕ) (t n : ℕ) where
         entries : twice-pairs-plus-singles numbers ≤ 512
         entries =
             let h = tests-passed in
-            let f = fit s₁ b₁ (h .0) in
-            let g = fit s₂ b₂ (h .1) in
+            let f = log-fit s₁ b₁ (h .0) in
+            let g = log-fit s₂ b₂ (h .1) in
             omega (arith, entries-counted t (entriesOf s₁ b₁) (entriesOf s₂ b₂), length-log s₁ b₁ (f .0), length-log s₂ b₂ (g .0))
 
     -- Twice the pairs plus the singles in the table is the number of entries in both logs.
     pub table-counted : twice-pairs-plus-singles ((reportOf s₁ b₁ s₂ b₂ t) .table) ≡ length s₁ + length s₂
     table-counted =
         let h = tests-passed in
-        let f = fit s₁ b₁ (h .0) in
-        let g = fit s₂ b₂ (h .1) in
+        let f = log-fit s₁ b₁ (h .0) in
+        let g = log-fit s₂ b₂ (h .1) in
         ap (λ (r : Report). twice-pairs-plus-singles (r .table)) is-accepted
         ∙ (behind numbers (512 - length numbers)
         ∙ (entries-counted t (entriesOf s₁ b₁) (entriesOf s₂ b₂) ∙ ap₂ _+_ (length-log s₁ b₁ (f .0)) (length-log s₂ b₂ (g .0))))
@@ -280,7 +280,7 @@ module _ (s₁ b₁ s₂ b₂ : List ℕ) (t n : ℕ) (e : (reportOf s₁ b₁ s
   abbrev M : List ℕ
   M = findingNumbers t (entriesOf s₂ b₂) (entriesOf s₁ b₁)
 
-  accepted-too : reportOf s₂ b₂ s₁ b₁ t ≡ accepted M
+  accepted-too : reportOf s₂ b₂ s₁ b₁ t ≡ acceptedLogs M
   unfolding reportOf
   accepted-too = let h = tests-passed s₁ b₁ s₂ b₂ t n e in simp (h .0, h .1, h .2, h .3)
 
@@ -306,41 +306,41 @@ module _ (s₁ b₁ s₂ b₂ : List ℕ) (t n : ℕ) (e : (reportOf s₁ b₁ s
 -- ---- the tolerance
 
 -- a pair that is no further apart than t
-unfoldable Near : ℕ → Finding → Type 0
-Near t (pair x y) = apart (x .second) (y .second) ≤ t
-Near t (single1 x) = Unit
-Near t (single2 y) = Unit
+unfoldable WithinTolerance : ℕ → Finding → Type 0
+WithinTolerance t (pair x y) = apart (x .second) (y .second) ≤ t
+WithinTolerance t (single1 x) = Unit
+WithinTolerance t (single2 y) = Unit
 
-near-singles1 : (t : ℕ) (xs : List Entry) (f : Finding) → List·Memᴰ f (map single1 xs) → Near t f
-unfolding Near
+near-singles1 : (t : ℕ) (xs : List Entry) (f : Finding) → List·Memᴰ f (map single1 xs) → WithinTolerance t f
+unfolding WithinTolerance
 near-singles1 t [] f m = absurd (List·Memᴰ·not-nil m)
-near-singles1 t (x ∷ xs) f m = ⊎-elim (λ e. subst (Near t) (sym e) tt) (λ r. near-singles1 t xs f r) (List·Memᴰ·cases-cons m)
+near-singles1 t (x ∷ xs) f m = ⊎-elim (λ e. subst (WithinTolerance t) (sym e) tt) (λ r. near-singles1 t xs f r) (List·Memᴰ·cases-cons m)
 
-near-singles2 : (t : ℕ) (ys : List Entry) (f : Finding) → List·Memᴰ f (map single2 ys) → Near t f
-unfolding Near
+near-singles2 : (t : ℕ) (ys : List Entry) (f : Finding) → List·Memᴰ f (map single2 ys) → WithinTolerance t f
+unfolding WithinTolerance
 near-singles2 t [] f m = absurd (List·Memᴰ·not-nil m)
-near-singles2 t (y ∷ ys) f m = ⊎-elim (λ e. subst (Near t) (sym e) tt) (λ r. near-singles2 t ys f r) (List·Memᴰ·cases-cons m)
+near-singles2 t (y ∷ ys) f m = ⊎-elim (λ e. subst (WithinTolerance t) (sym e) tt) (λ r. near-singles2 t ys f r) (List·Memᴰ·cases-cons m)
 
-all-near : (t : ℕ) (xs ys : List Entry) (f : Finding) → List·Memᴰ f (findings t xs ys) → Near t f
-unfolding findings Near
+all-near : (t : ℕ) (xs ys : List Entry) (f : Finding) → List·Memᴰ f (findings t xs ys) → WithinTolerance t f
+unfolding findings WithinTolerance
 all-near t [] ys f m = near-singles2 t ys f m
 all-near t (x ∷ xs) [] f m = near-singles1 t (x ∷ xs) f m
 all-near t (x ∷ xs) (y ∷ ys) f m =
     go (leb (apart (x .second) (y .second)) t) refl (ltb (x .second) (y .second)) (all-near t xs ys f) (all-near t xs (y ∷ ys) f) (all-near t (x ∷ xs) ys f) m
   where
     go : (p : Bool) → leb (apart (x .second) (y .second)) t ≡ p → (q : Bool)
-        → (List·Memᴰ f (findings t xs ys) → Near t f)
-        → (List·Memᴰ f (findings t xs (y ∷ ys)) → Near t f)
-        → (List·Memᴰ f (findings t (x ∷ xs) ys) → Near t f)
+        → (List·Memᴰ f (findings t xs ys) → WithinTolerance t f)
+        → (List·Memᴰ f (findings t xs (y ∷ ys)) → WithinTolerance t f)
+        → (List·Memᴰ f (findings t (x ∷ xs) ys) → WithinTolerance t f)
         → List·Memᴰ f (cond p (pair x y ∷ findings t xs ys) (cond q (single1 x ∷ findings t xs (y ∷ ys)) (single2 y ∷ findings t (x ∷ xs) ys)))
-        → Near t f
-    go true e q a b c m = ⊎-elim (λ i. subst (Near t) (sym i) (leb-true (apart (x .second) (y .second)) t e)) a (List·Memᴰ·cases-cons m)
-    go false e true a b c m = ⊎-elim (λ i. subst (Near t) (sym i) tt) b (List·Memᴰ·cases-cons m)
-    go false e false a b c m = ⊎-elim (λ i. subst (Near t) (sym i) tt) c (List·Memᴰ·cases-cons m)
+        → WithinTolerance t f
+    go true e q a b c m = ⊎-elim (λ i. subst (WithinTolerance t) (sym i) (leb-true (apart (x .second) (y .second)) t e)) a (List·Memᴰ·cases-cons m)
+    go false e true a b c m = ⊎-elim (λ i. subst (WithinTolerance t) (sym i) tt) b (List·Memᴰ·cases-cons m)
+    go false e false a b c m = ⊎-elim (λ i. subst (WithinTolerance t) (sym i) tt) c (List·Memᴰ·cases-cons m)
 
 -- The entries of a pair are no further apart than the tolerance.
 pub pairs-near : (t : ℕ) (xs ys : List Entry) (x y : Entry) → List·Memᴰ (pair x y) (findings t xs ys) → apart (x .second) (y .second) ≤ t
-unfolding Near
+unfolding WithinTolerance
 pairs-near t xs ys x y m = all-near t xs ys (pair x y) m
 
 -- With the tolerance 0 only equal seconds pair.
@@ -350,36 +350,36 @@ tolerance-0 xs ys x y m = omega (arith, pairs-near 0 xs ys x y m)
 -- ---- the place of 15
 
 -- the same with i seconds passed, the last of them a
-rises-from : (i a : ℕ) (s : List ℕ) → (i ≤ risesFrom i a s) × (risesFrom i a s ≤ i + length s)
-    × ((k : ℕ) → i + k < risesFrom i a s → getD (a ∷ s) k 0 < getD s k 0)
-    × ((k : ℕ) → risesFrom i a s ≡ i + k → k < length s → getD s k 0 ≤ getD (a ∷ s) k 0)
-unfolding risesFrom
-rises-from i a [] = (omega arith, omega arith, λ k h. absurd (none k h), λ k e h. absurd (none' k h))
+seconds-rise-from : (i a : ℕ) (s : List ℕ) → (i ≤ secondsRiseFrom i a s) × (secondsRiseFrom i a s ≤ i + length s)
+    × ((k : ℕ) → i + k < secondsRiseFrom i a s → getD (a ∷ s) k 0 < getD s k 0)
+    × ((k : ℕ) → secondsRiseFrom i a s ≡ i + k → k < length s → getD s k 0 ≤ getD (a ∷ s) k 0)
+unfolding secondsRiseFrom
+seconds-rise-from i a [] = (omega arith, omega arith, λ k h. absurd (none k h), λ k e h. absurd (none' k h))
   where
     none : (k : ℕ) → i + k < i → ⊥
     none k h = omega arith
 
     none' : (k : ℕ) → k < 0 → ⊥
     none' k h = omega arith
-rises-from i a (b ∷ s) = go (ltb a b) refl (rises-from (i + 1) b s)
+seconds-rise-from i a (b ∷ s) = go (ltb a b) refl (seconds-rise-from (i + 1) b s)
   where
     go : (p : Bool) → ltb a b ≡ p
-        → (i + 1 ≤ risesFrom (i + 1) b s) × (risesFrom (i + 1) b s ≤ i + 1 + length s)
-        × ((k : ℕ) → i + 1 + k < risesFrom (i + 1) b s → getD (b ∷ s) k 0 < getD s k 0)
-        × ((k : ℕ) → risesFrom (i + 1) b s ≡ i + 1 + k → k < length s → getD s k 0 ≤ getD (b ∷ s) k 0)
-        → (i ≤ cond p (risesFrom (i + 1) b s) i) × (cond p (risesFrom (i + 1) b s) i ≤ i + suc (length s))
-        × ((k : ℕ) → i + k < cond p (risesFrom (i + 1) b s) i → getD (a ∷ b ∷ s) k 0 < getD (b ∷ s) k 0)
-        × ((k : ℕ) → cond p (risesFrom (i + 1) b s) i ≡ i + k → k < suc (length s) → getD (b ∷ s) k 0 ≤ getD (a ∷ b ∷ s) k 0)
+        → (i + 1 ≤ secondsRiseFrom (i + 1) b s) × (secondsRiseFrom (i + 1) b s ≤ i + 1 + length s)
+        × ((k : ℕ) → i + 1 + k < secondsRiseFrom (i + 1) b s → getD (b ∷ s) k 0 < getD s k 0)
+        × ((k : ℕ) → secondsRiseFrom (i + 1) b s ≡ i + 1 + k → k < length s → getD s k 0 ≤ getD (b ∷ s) k 0)
+        → (i ≤ cond p (secondsRiseFrom (i + 1) b s) i) × (cond p (secondsRiseFrom (i + 1) b s) i ≤ i + suc (length s))
+        × ((k : ℕ) → i + k < cond p (secondsRiseFrom (i + 1) b s) i → getD (a ∷ b ∷ s) k 0 < getD (b ∷ s) k 0)
+        × ((k : ℕ) → cond p (secondsRiseFrom (i + 1) b s) i ≡ i + k → k < suc (length s) → getD (b ∷ s) k 0 ≤ getD (a ∷ b ∷ s) k 0)
     go true e r = (omega (arith, r .0), omega (arith, r .1), up, down)
       where
-        up : (k : ℕ) → i + k < risesFrom (i + 1) b s → getD (a ∷ b ∷ s) k 0 < getD (b ∷ s) k 0
+        up : (k : ℕ) → i + k < secondsRiseFrom (i + 1) b s → getD (a ∷ b ∷ s) k 0 < getD (b ∷ s) k 0
         up zero h = ltb-true a b e
         up (suc k) h = r .2 k (omega arith)
 
-        down : (k : ℕ) → risesFrom (i + 1) b s ≡ i + k → k < suc (length s) → getD (b ∷ s) k 0 ≤ getD (a ∷ b ∷ s) k 0
+        down : (k : ℕ) → secondsRiseFrom (i + 1) b s ≡ i + k → k < suc (length s) → getD (b ∷ s) k 0 ≤ getD (a ∷ b ∷ s) k 0
         down zero f h = absurd (no (r .0) f)
           where
-            no : i + 1 ≤ risesFrom (i + 1) b s → risesFrom (i + 1) b s ≡ i + 0 → ⊥
+            no : i + 1 ≤ secondsRiseFrom (i + 1) b s → secondsRiseFrom (i + 1) b s ≡ i + 0 → ⊥
             no g f' = omega arith
         down (suc k) f h = r .3 k (omega arith) (omega arith)
     go false e r = (omega arith, omega arith, up, down)
@@ -399,14 +399,14 @@ rises-from i a (b ∷ s) = go (ltb a b) refl (rises-from (i + 1) b s)
 
 -- 15's place: it is a later entry's or the number of entries; the seconds before it rise strictly; where it is an entry's, that entry is not
 -- above the one before it.
-pub first-fall : (s : List ℕ) → (risesOf s ≤ length s)
-    × (0 < length s → 0 < risesOf s)
-    × ((k : ℕ) → suc k < risesOf s → getD s k 0 < getD s (suc k) 0)
-    × ((k : ℕ) → risesOf s ≡ suc k → suc k < length s → getD s (suc k) 0 ≤ getD s k 0)
-first-fall [] = (omega arith, λ h. h, λ k h. absurd (none k h), λ k e h. absurd (none k h))
+pub seconds-first-fall : (s : List ℕ) → (secondsRise s ≤ length s)
+    × (0 < length s → 0 < secondsRise s)
+    × ((k : ℕ) → suc k < secondsRise s → getD s k 0 < getD s (suc k) 0)
+    × ((k : ℕ) → secondsRise s ≡ suc k → suc k < length s → getD s (suc k) 0 ≤ getD s k 0)
+seconds-first-fall [] = (omega arith, λ h. h, λ k h. absurd (none k h), λ k e h. absurd (none k h))
   where
     none : (k : ℕ) → suc k < 0 → ⊥
     none k h = omega arith
-first-fall (a ∷ s) =
-    let r = rises-from 1 a s in
+seconds-first-fall (a ∷ s) =
+    let r = seconds-rise-from 1 a s in
     (omega (arith, r .1), λ h. r .0, λ k h. r .2 k (omega arith), λ k e h. r .3 k (omega arith) (omega arith))

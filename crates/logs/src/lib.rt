@@ -4,7 +4,7 @@ ghost use mathlib.Core.Bool.{_||_};
 ghost use Prim.Native.Nat.{_≤_};
 ghost use lib.Dec.{ltb};
 ghost use lib.ListN.{length, drop};
-ghost use Rattle.logs.specs.Logs.{apart, entriesOf, findingNumbers, unfitLog, risesOf, accepted, refusal, reportOf};
+ghost use Rattle.logs.specs.Logs.{apart, entriesOf, findingNumbers, unfitLog, secondsRise, acceptedLogs, refusal, reportOf};
 ghost use Rattle.logs.specs.Lent.{countedOf, lentAnswer, lentAfter};
 ghost use Rattle.logs.specs.Steps.{meetOf, frontOf, taken1, taken2};
 
@@ -99,7 +99,7 @@ pub fn left(i: usize, n: usize, j: usize, m: usize) -> bool
 // The findings of two logs that are fit.
 pub fn found(s1: &[u64], b1: &[u64], s2: &[u64], b2: &[u64], tolerance: u64) -> Report
     requires { ⌜ (length (now s1) ≡ length (now b1)) × (length (now s2) ≡ length (now b2)) × (length (now s1) ≤ 256) × (length (now s2) ≤ 256) ⌝ }
-    ensures { λ r. ⌜ r ≡ accepted (findingNumbers tolerance (entriesOf (now (s1 .entry)) (now (b1 .entry))) (entriesOf (now (s2 .entry)) (now (b2 .entry)))) ⌝ }
+    ensures { λ r. ⌜ r ≡ acceptedLogs (findingNumbers tolerance (entriesOf (now (s1 .entry)) (now (b1 .entry))) (entriesOf (now (s2 .entry)) (now (b2 .entry)))) ⌝ }
 {
     let mut table = [0u32; 512];
     let mut n: usize = 0;
@@ -127,7 +127,7 @@ pub fn unfit(seconds: &[u64], bits: &[u64]) -> bool
 
 // The index of the first second that is not above the one before it, or how many there are.
 pub fn rises(seconds: &[u64]) -> usize
-    ensures { λ r. ⌜ r ≡ risesOf (now (seconds .entry)) ⌝ }
+    ensures { λ r. ⌜ r ≡ secondsRise (now (seconds .entry)) ⌝ }
 {
     if seconds.len() == 0 {
         return 0;

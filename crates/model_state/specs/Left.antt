@@ -9,7 +9,6 @@ use lib.Ieee.{Float, lt, le, eq, ne, ofBits}
 use Rattle.numbers.specs.Arithmetic.{_‼_}
 use Rattle.numbers.specs.Literals.{1·0, 72·5}
 use Rattle.setting.specs.declared.Input.{Input}
-use Rattle.setting.specs.declared.State.{State}
 use Rattle.setting.specs.declared.View.{View}
 use Rattle.setting.specs.Switches.{given, isOne, onOff, filled, swOf}
 use Rattle.setting.specs.State.{freshOf}
@@ -18,11 +17,11 @@ use Rattle.parameters.specs.Parameters.{presentOf}
 use Rattle.parameters.specs.declared.Parameters.{Parameters}
 use Rattle.mixing.specs.Limits.{mixedAt}
 use Rattle.places.proofs.Order.{lt-asym}
-use Rattle.expansion.specs.Expansion.{afterOf}
+use Rattle.expansion.specs.Expansion.{stateAfter}
 use Rattle.plan.specs.Plan.{Ran, run, stepped}
-use Rattle.upper.specs.declared.Site.{Site}
-use Rattle.upper.specs.Upper.{siteWith}
-use Rattle.lower.specs.declared.Whole.{Whole}
+use Rattle.gts7_arithmetic.specs.declared.Site.{Site}
+use Rattle.gts7_arithmetic.specs.Gts7Arithmetic.{siteWith}
+use Rattle.lower_atmosphere.specs.declared.Gtd7Output.{Gtd7Output}
 use Rattle.acceptance.specs.declared.Answer.{Answer}
 use Rattle.acceptance.specs.declared.Answer.the-variants.{Accepted, Refused}
 use Rattle.acceptance.specs.Acceptance.{judgedOf, acceptedOf, unmixedOf, recordAnswer}
@@ -32,18 +31,18 @@ use Rattle.model_state.specs.Mark.{gtd7-marks}
 
 -- ---- the mark after any run
 
-itself : (b : Bool) → cond b true false ≡ b
-itself true = refl
-itself false = refl
+chosen-test : (b : Bool) → cond b true false ≡ b
+chosen-test true = refl
+chosen-test false = refl
 
 -- From a fresh State gtd7 leaves the mark true exactly where N2 is mixed at gts7's altitude, whatever the number that is then in dm28
 pub left-marked : (v : View) (x : Site) (alt : Float)
     → (run v (gtd7Plan (v .sw) x alt) freshOf) .left .«dm28_set» ≡ (mixedAt (x .nine) (v .sw ‼ 15) (cond (lt 72·5 alt) alt 72·5)) .n2
-unfolding stepped afterOf freshOf
+unfolding stepped stateAfter freshOf
 left-marked v x alt =
-    ap (λ (r : Ran Whole). r .left .«dm28_set») (gtd7-left v x alt)
+    ap (λ (r : Ran Gtd7Output). r .left .«dm28_set») (gtd7-left v x alt)
     ∙ gtd7-marks (v .sw) x alt _ _
-    ∙ itself ((mixedAt (x .nine) (v .sw ‼ 15) (cond (lt 72·5 alt) alt 72·5)) .n2)
+    ∙ chosen-test ((mixedAt (x .nine) (v .sw ‼ 15) (cond (lt 72·5 alt) alt 72·5)) .n2)
 
 -- ---- after accepted runs below 72.5 km
 
@@ -66,9 +65,9 @@ unfolding answerOf recordAnswer unmixedOf
 mixing-given w n len e low =
     is-on (isOne (given w 15)) (lt (n .alt) 72·5) low (ten-passed (judgedOf w n) _ (length-passed (eqb len 11) _ e))
 
-main-15 : (w : List ℤ) (n : Input) → (viewOf w n) .sw ‼ 15 ≡ onOff (isOne (given w 15))
+view-15 : (w : List ℤ) (n : Input) → (viewOf w n) .sw ‼ 15 ≡ onOff (isOne (given w 15))
 unfolding viewOf swOf filled
-main-15 w n = refl
+view-15 w n = refl
 
 on-at-72 : (c : Parameters) → le 72·5 (c .n2) ≡ true → (mixedAt c 1·0 72·5) .n2 ≡ true
 unfolding mixedAt ne eq ofBits
@@ -80,7 +79,7 @@ pub marked-below : (c : Parameters) (w : List ℤ) (n : Input) → isOne (given 
 unfolding leftWith siteWith
 marked-below c w n one high low =
     left-marked (viewOf w n) _ (n .alt)
-    ∙ rw (main-15 w n, one, lt-asym (n .alt) 72·5 low) (on-at-72 c high)
+    ∙ rw (view-15 w n, one, lt-asym (n .alt) 72·5 low) (on-at-72 c high)
 
 present-high : le 72·5 (presentOf .n2) ≡ true
 unfolding presentOf le lt eq ofBits

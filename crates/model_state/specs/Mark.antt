@@ -1,5 +1,5 @@
 -- The mark beside dm28 after gts7 and gtd7: N2's step sets it where N2 is mixed, and no other step does.
-use mathlib.Core.Path.{_≡_, refl, _∙_}
+use mathlib.Core.Path.{_∙_}
 use mathlib.Core.Bool.{Bool, false, cond, not}
 use mathlib.Core.List.{List}
 use lib.Ieee.{Float, lt, le}
@@ -9,15 +9,15 @@ use Rattle.profile.specs.declared.unchecked.Shape.{Shape}
 use Rattle.mixing.specs.Limits.{mixedAt}
 use Rattle.mixing.specs.declared.limits.Mixed.{Mixed}
 use Rattle.species.specs.Species.{heliumOf, oxygenOf, o2Of, argonOf, hydrogenOf, nitrogenOf}
-use Rattle.plan.specs.Fields.{Fields, when, setDm04, setDm16, setDm32, setDm40, setDm01, setDm14}
-use Rattle.plan.specs.Plan.{Plan, done, ask, keep, either, _>>=_}
+use Rattle.plan.specs.Fields.{Fields, setWhen, setDm04, setDm16, setDm32, setDm40, setDm01, setDm14}
+use Rattle.plan.specs.Plan.{done, ask, keep, _>>=_}
 use Rattle.plan.specs.Mark.{Leaves, dm28-marks, gravity-leaves, dd-leaves, dm04-leaves, dm16-leaves, dm32-leaves, dm40-leaves, dm01-leaves, dm14-leaves, tn1-leaves, tn2-leaves, tn3-leaves, nodes1-leaves, top3-leaves, when-leaves, Marks, Unmarking, done-leaves, ask-marks, keep-marks, when-marks, either-leaves, then-leaves, then-marks}
 use Rattle.tables.specs.Tables.{pdT0, pdT1, pdT4, pdT5, pdT6, pdT7, pdmT0, pdmT1, pdmT3, pdmT4, pdmT5, pdmT6, pdlT1}
-use Rattle.upper.specs.declared.Site.{Site}
-use Rattle.upper.specs.declared.Upper.{Upper}
-use Rattle.stages.specs.Stages.{densuSets, mixedSets, tinfPlan, gradientPlan, tlbPlan, nodesPlan, shapePlan, n2Plan, heliumPlan, oxygenPlan, o2Plan, argonPlan, hydrogenPlan, nitrogenPlan, hotPlan, speciesPlan, gts7Plan}
-use Rattle.lower.specs.declared.Meso.{Meso}
-use Rattle.lower.specs.Lower.{mesoNodesPlan, mesoPlan, lowerPlan}
+use Rattle.gts7_arithmetic.specs.declared.Site.{Site}
+use Rattle.gts7_arithmetic.specs.declared.Gts7Output.{Gts7Output}
+use Rattle.stages.specs.Stages.{densuSets, mixedSets, tinfPlan, gradientPlan, tlbPlan, nodesPlan, shapePlan, n2Plan, heliumPlan, oxygenPlan, o2Plan, argonPlan, hydrogenPlan, nitrogenPlan, anomalousPlan, speciesPlan, gts7Plan}
+use Rattle.lower_atmosphere.specs.declared.Meso.{Meso}
+use Rattle.lower_atmosphere.specs.LowerAtmosphere.{mesoNodesPlan, mesoPlan, lowerPlan}
 use Rattle.atmosphere.specs.Atmosphere.{gtd7Plan}
 
 densu-leaves : (h : Shape) (z : Float) → Leaves (densuSets h z)
@@ -29,10 +29,10 @@ mixed-leaves h z zh u i f = i (densuSets h z (densuSets h zh f)) ∙ densu-leave
 
 -- a species: densu's, and its dm by u where b holds
 species-leaves : {A : Type 0} (b : Bool) (h : Shape) (z zh : Float) (u : Fields → Fields) → Leaves u → (a : A)
-    → Unmarking (keep (densuSets h z) (keep (when b (mixedSets h z zh u)) (done a)))
+    → Unmarking (keep (densuSets h z) (keep (setWhen b (mixedSets h z zh u)) (done a)))
 species-leaves b h z zh u i a =
-    keep-marks false (densuSets h z) (keep (when b (mixedSets h z zh u)) (done a)) (densu-leaves h z)
-    (keep-marks false (when b (mixedSets h z zh u)) (done a) (when-leaves b (mixedSets h z zh u) (mixed-leaves h z zh u i)) (done-leaves a))
+    keep-marks false (densuSets h z) (keep (setWhen b (mixedSets h z zh u)) (done a)) (densu-leaves h z)
+    (keep-marks false (setWhen b (mixedSets h z zh u)) (done a) (when-leaves b (mixedSets h z zh u) (mixed-leaves h z zh u i)) (done-leaves a))
 
 -- ---- gts7
 
@@ -102,9 +102,9 @@ unfolding nitrogenPlan _>>=_
 nitrogen-leaves sw h on z b28 zhm xmm =
     ask-marks false _ _ (λ g. let x = nitrogenOf h on z b28 (pdmT6 ‼ 0 ⊗ g ⊗ pdT7 ‼ 0) zhm xmm in species-leaves on h z (pdmT6 ‼ 2) (setDm14 (x .dm)) (dm14-leaves (x .dm)) x)
 
-hot-leaves : (sw : List Float) (h : Shape) (z : Float) → Unmarking (hotPlan sw h z)
-unfolding hotPlan _>>=_
-hot-leaves sw h z = ask-marks false _ _ (λ g. keep-marks false _ _ (densu-leaves h z) (done-leaves _))
+anomalous-leaves : (sw : List Float) (h : Shape) (z : Float) → Unmarking (anomalousPlan sw h z)
+unfolding anomalousPlan _>>=_
+anomalous-leaves sw h z = ask-marks false _ _ (λ g. keep-marks false _ _ (densu-leaves h z) (done-leaves _))
 
 six-leaves : (sw : List Float) (h : Shape) (m : Mixed) (z b28 flux xmm : Float) → Unmarking (speciesPlan sw h m z b28 flux xmm)
 unfolding speciesPlan
@@ -125,12 +125,12 @@ gts7-marks sw x z =
     then-marks (k .n2) (shapePlan sw x z) _ (shape-leaves sw x z)
     (λ h. then-leaves (k .n2) (n2Plan sw h (k .n2) z (x .zhf) (x .nine .xmm)) _ (n2-marks sw h (k .n2) z (x .zhf) (x .nine .xmm))
     (λ b. then-leaves false (speciesPlan sw h k z _ (x .flux) (x .nine .xmm)) _ (six-leaves sw h k z _ (x .flux) (x .nine .xmm))
-    (λ y. then-leaves false (hotPlan sw _ z) _ (hot-leaves sw _ z)
+    (λ y. then-leaves false (anomalousPlan sw _ z) _ (anomalous-leaves sw _ z)
     (λ o. keep-marks false _ _ (densu-leaves h _) (done-leaves _)))))
 
 -- ---- gtd7
 
-meso-leaves : (sw : List Float) (u : Upper) → Unmarking (mesoPlan sw u)
+meso-leaves : (sw : List Float) (u : Gts7Output) → Unmarking (mesoPlan sw u)
 unfolding mesoPlan mesoNodesPlan _>>=_
 meso-leaves sw u =
     ask-marks false _ _

@@ -6,24 +6,31 @@ ghost use Rattle.numbers.specs.Arithmetic.{_⊗_};
 ghost use Rattle.setting.specs.Shared.{Shared};
 ghost use Rattle.setting.specs.State.{freshOf};
 ghost use Rattle.plan.specs.Fields.{fieldsOf, withFields};
-ghost use Rattle.plan.specs.Plan.{ends, given, stepped, run};
+ghost use Rattle.plan.specs.Plan.{ends, answerTo, stepped, run};
 ghost use Rattle.mixing.specs.Limits.{someMixed};
 ghost use Rattle.species.specs.Places.{spineAt, placeAt, Mixes};
-ghost use Rattle.upper.specs.Upper.{gatherOf};
+ghost use Rattle.gts7_arithmetic.specs.Gts7Arithmetic.{gatherOf};
 ghost use Rattle.stages.specs.Stages.{densuSets, nodesPlan, shapePlan, speciesPlan, gts7Plan};
-ghost use Rattle.lower.specs.Lower.{mesoPlan, lowerPlan};
+ghost use Rattle.lower_atmosphere.specs.LowerAtmosphere.{mesoPlan, lowerPlan};
 ghost use Rattle.atmosphere.specs.Atmosphere.{gtd7Plan};
 use elementary::root::sqrt;
 use expansion::after;
-use levels::levels_of;
-use levels::need_at;
-use levels::with_high;
-use lower::Meso;
-use lower::Whole;
-use lower::above;
-use lower::below;
-use lower::lower_stage;
-use lower::meso_stage;
+use expansion_values::expansion_values_of;
+use expansion_values::need_at;
+use expansion_values::with_high;
+use gts7_arithmetic::Gts7Output;
+use gts7_arithmetic::Nodes;
+use gts7_arithmetic::Site;
+use gts7_arithmetic::SixSpecies;
+use gts7_arithmetic::anomalous;
+use gts7_arithmetic::gather;
+use gts7_arithmetic::shape_of;
+use lower_atmosphere::Gtd7Output;
+use lower_atmosphere::Meso;
+use lower_atmosphere::above;
+use lower_atmosphere::below;
+use lower_atmosphere::lower_stage;
+use lower_atmosphere::meso_stage;
 use mixing::limits::Mixed;
 use mixing::limits::mixed_at;
 use mixing::limits::some_mixed;
@@ -31,7 +38,7 @@ use numbers::pick;
 use places::place::Place;
 use places::place::Spine;
 use places::thinning::Thinning;
-use plan::Levels;
+use plan::ExpansionValues;
 use profile::unchecked::Shape;
 use setting::State;
 use setting::View;
@@ -43,10 +50,10 @@ use species::spine_at;
 use stages::gradient_stage;
 use stages::tinf_stage;
 use stages::tlb_stage;
+use state_steps::anomalous_step;
 use state_steps::argon_step;
 use state_steps::densu_sets;
 use state_steps::helium_step;
-use state_steps::hot_step;
 use state_steps::hydrogen_step;
 use state_steps::n2_step;
 use state_steps::nitrogen_step;
@@ -64,13 +71,6 @@ use tables::pdl1;
 use tables::pdm2;
 use thermosphere::nodes_stage;
 use thermosphere::turbopauses_of;
-use upper::Nodes;
-use upper::Site;
-use upper::Six;
-use upper::Upper;
-use upper::anomalous;
-use upper::gather;
-use upper::shape_of;
 
 // The nodes of the lower thermosphere, and the State that is left.
 pub struct NodesLeft {
@@ -86,13 +86,13 @@ pub struct ShapeLeft {
 
 // The six species that blend with N2, and the State that is left.
 pub struct SixLeft {
-    pub value: Six,
+    pub value: SixSpecies,
     pub state: State,
 }
 
 // gts7's answer, and the State that is left.
 pub struct UpperLeft {
-    pub value: Upper,
+    pub value: Gts7Output,
     pub state: State,
 }
 
@@ -104,18 +104,18 @@ pub struct MesoLeft {
 
 // The nodes of the lower atmosphere, and the State that is left.
 pub struct LowerLeft {
-    pub value: lower::Nodes,
+    pub value: lower_atmosphere::Nodes,
     pub state: State,
 }
 
 // gtd7's answer, and the State that is left.
 pub struct WholeLeft {
-    pub value: Whole,
+    pub value: Gtd7Output,
     pub state: State,
 }
 
-pub fn nodes_step(sw: [f64; 24], z: f64, l: Levels, s: State) -> NodesLeft
-    ensures { λ r. ⌜ stepped (given l) (nodesPlan sw z) s ≡ ends (r .value) (r .state) ⌝ }
+pub fn nodes_step(sw: [f64; 24], z: f64, l: ExpansionValues, s: State) -> NodesLeft
+    ensures { λ r. ⌜ stepped (answerTo l) (nodesPlan sw z) s ≡ ends (r .value) (r .state) ⌝ }
 {
     let n = nodes_stage(sw, z, l);
     let t = n.tn;
@@ -127,8 +127,8 @@ pub fn nodes_step(sw: [f64; 24], z: f64, l: Levels, s: State) -> NodesLeft
     }
 }
 
-pub fn shape_step(sw: [f64; 24], x: Site, z: f64, l: Levels, s: State) -> ShapeLeft
-    ensures { λ r. ⌜ stepped (given l) (shapePlan sw x z) s ≡ ends (r .value) (r .state) ⌝ }
+pub fn shape_step(sw: [f64; 24], x: Site, z: f64, l: ExpansionValues, s: State) -> ShapeLeft
+    ensures { λ r. ⌜ stepped (answerTo l) (shapePlan sw x z) s ≡ ends (r .value) (r .state) ⌝ }
 {
     let tinf = tinf_stage(sw, z, l);
     let g = gradient_stage(sw, z, l);
@@ -155,11 +155,11 @@ pub fn species_step(
     b28: f64,
     flux: f64,
     xmm: f64,
-    l: Levels,
+    l: ExpansionValues,
     s: State,
 ) -> SixLeft
     requires { ⌜ (k ≡ spineAt h) × (p ≡ placeAt h z) × Mixes (someMixed m) p xmm t ⌝ }
-    ensures { λ r. ⌜ stepped (given l) (speciesPlan sw h m z b28 flux xmm) s ≡ ends (r .value) (r .state) ⌝ }
+    ensures { λ r. ⌜ stepped (answerTo l) (speciesPlan sw h m z b28 flux xmm) s ≡ ends (r .value) (r .state) ⌝ }
 {
     let a = pdm2();
     let d = pdl1();
@@ -186,7 +186,7 @@ pub fn species_step(
     let x4 = ar.value;
     let x5 = hy.value;
     let x6 = n.value;
-    let six = Six {
+    let six = SixSpecies {
         he: x1,
         o: x2,
         o2: x3,
@@ -207,7 +207,7 @@ pub fn gather_step(
     k: Spine,
     z: f64,
     b: Blend,
-    y: Six,
+    y: SixSpecies,
     o: f64,
     s: State,
 ) -> UpperLeft
@@ -223,8 +223,8 @@ pub fn gather_step(
     }
 }
 
-pub fn gts7(sw: [f64; 24], x: Site, z: f64, l: Levels, s: State) -> UpperLeft
-    ensures { λ r. ⌜ stepped (given l) (gts7Plan sw x z) s ≡ ends (r .value) (r .state) ⌝ }
+pub fn gts7(sw: [f64; 24], x: Site, z: f64, l: ExpansionValues, s: State) -> UpperLeft
+    ensures { λ r. ⌜ stepped (answerTo l) (gts7Plan sw x z) s ≡ ends (r .value) (r .state) ⌝ }
 {
     let hs = shape_step(sw, x, z, l, s);
     let h = hs.value;
@@ -244,13 +244,13 @@ pub fn gts7(sw: [f64; 24], x: Site, z: f64, l: Levels, s: State) -> UpperLeft
     let y = ys.value;
     let s3 = ys.state;
     let q = anomalous(h);
-    let os = hot_step(sw, q, z, l, s3);
+    let os = anomalous_step(sw, q, z, l, s3);
     let s4 = os.state;
     gather_step(sw[0], h, k, z, b, y, os.value, s4)
 }
 
-pub fn meso_step(sw: [f64; 24], u: Upper, l: Levels, s: State) -> MesoLeft
-    ensures { λ r. ⌜ stepped (given l) (mesoPlan sw u) s ≡ ends (r .value) (r .state) ⌝ }
+pub fn meso_step(sw: [f64; 24], u: Gts7Output, l: ExpansionValues, s: State) -> MesoLeft
+    ensures { λ r. ⌜ stepped (answerTo l) (mesoPlan sw u) s ≡ ends (r .value) (r .state) ⌝ }
 {
     let m = meso_stage(sw, u, l);
     let t = m.tn2;
@@ -263,8 +263,8 @@ pub fn meso_step(sw: [f64; 24], u: Upper, l: Levels, s: State) -> MesoLeft
     }
 }
 
-pub fn lower_step(sw: [f64; 24], alt: f64, m: Meso, l: Levels, s: State) -> LowerLeft
-    ensures { λ r. ⌜ stepped (given l) (lowerPlan sw alt m) s ≡ ends (r .value) (r .state) ⌝ }
+pub fn lower_step(sw: [f64; 24], alt: f64, m: Meso, l: ExpansionValues, s: State) -> LowerLeft
+    ensures { λ r. ⌜ stepped (answerTo l) (lowerPlan sw alt m) s ≡ ends (r .value) (r .state) ⌝ }
 {
     let w = lower_stage(sw, alt, m, l);
     if !(alt < 32.5) {
@@ -279,8 +279,8 @@ pub fn lower_step(sw: [f64; 24], alt: f64, m: Meso, l: Levels, s: State) -> Lowe
     }
 }
 
-pub fn gtd7(sw: [f64; 24], x: Site, alt: f64, l: Levels, s: State) -> WholeLeft
-    ensures { λ r. ⌜ stepped (given l) (gtd7Plan sw x alt) s ≡ ends (r .value) (r .state) ⌝ }
+pub fn gtd7(sw: [f64; 24], x: Site, alt: f64, l: ExpansionValues, s: State) -> WholeLeft
+    ensures { λ r. ⌜ stepped (answerTo l) (gtd7Plan sw x alt) s ≡ ends (r .value) (r .state) ⌝ }
 {
     let s1 = set_gravity(s, x.gsurf, x.re);
     let altt = pick(alt > 72.5, alt, 72.5);
@@ -315,7 +315,7 @@ pub fn gtd7_from_fresh(v: View, x: Site, alt: f64) -> WholeLeft
 {
     let b = need_at(alt);
     let a = with_high(b);
-    let l = levels_of(v, a);
+    let l = expansion_values_of(v, a);
     let s = fresh();
     let p7 = pd7();
     let s7 = after(v, &p7, s);

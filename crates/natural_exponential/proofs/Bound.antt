@@ -1,6 +1,5 @@
 -- Bounds of the tables' entries, and of the numbers that the kernel of exp goes through. Assumes nothing.
-use mathlib.Core.Path.{_≡_, refl}
-use Prim.Native.Nat.{ℕ, zero, suc, _+_, _*_, _/_, _%_, _^_, _≤_, _<_}
+use Prim.Native.Nat.{ℕ, _+_, _*_, _/_, _%_, _^_, _≤_, _<_}
 use native.Mathlib.Omega.{arith}
 use native.Mathlib.Nat.{div-le-of-le-mul, le-trans, le-div-iff-mul-le, le-add-right, mul-le-mul}
 use lib.Pow.{pow-pos}
@@ -8,7 +7,7 @@ use lib.ListN.{getD}
 use lib.Dec.{leb→le}
 use Rattle.fixed_point.proofs.Product.{below-mul}
 use Rattle.fixed_point.proofs.Table.{at-most, at-least}
-use Rattle.natural_exponential.specs.Exp.{coarse, fine, tailOf, expm1Of, compoundedOf, kernelOf}
+use Rattle.natural_exponential.specs.Exp.{coarse, fine, expTail, expm1Of, compoundedOf, kernelOf}
 use Rattle.fixed_point.specs.Fixed.{highOf, termOf}
 
 pub coarse-le : (i : ℕ) → getD coarse i 0 ≤ 3134000000000000000
@@ -34,16 +33,16 @@ module _ (d : ℕ) (h : d < 2 ^ 48) where
   pub first-product : d / 2 ^ 16 * termOf 715827883 42 (d / 2 ^ 16) 178956971 ≤ 4294967295 * 716002646
   first-product = below-mul 4294967295 716002646 s-le first-le
 
-  pub tail-le : tailOf (d / 2 ^ 16) ≤ 2148182900
+  pub tail-le : expTail (d / 2 ^ 16) ≤ 2148182900
   tail-le = omega (arith, first-product)
 
-  pub tail-product : d / 2 ^ 16 * tailOf (d / 2 ^ 16) ≤ 4294967295 * 2148182900
+  pub tail-product : d / 2 ^ 16 * expTail (d / 2 ^ 16) ≤ 4294967295 * 2148182900
   tail-product = below-mul 4294967295 2148182900 s-le tail-le
 
-  half-le : d / 2 ^ 16 * tailOf (d / 2 ^ 16) / 2 ^ 32 ≤ 2148182900
+  half-le : d / 2 ^ 16 * expTail (d / 2 ^ 16) / 2 ^ 32 ≤ 2148182900
   half-le = omega (arith, tail-product)
 
-  pub remainder-product : d / 2 ^ 16 * (d / 2 ^ 16 * tailOf (d / 2 ^ 16) / 2 ^ 32) ≤ 4294967295 * 2148182900
+  pub remainder-product : d / 2 ^ 16 * (d / 2 ^ 16 * expTail (d / 2 ^ 16) / 2 ^ 32) ≤ 4294967295 * 2148182900
   remainder-product = below-mul 4294967295 2148182900 s-le half-le
 
 -- the two products of compoundedOf

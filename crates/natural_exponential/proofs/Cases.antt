@@ -1,10 +1,10 @@
 -- Which case of exp's definition each test leads to. Assumes nothing.
 use mathlib.Core.Path.{_≡_, refl, sym, ap, subst}
-use mathlib.Core.Bool.{Bool, true, false}
+use mathlib.Core.Bool.{true, false}
 use lib.Dec.{T}
 use lib.Ieee.{Float, nan, inf, fin, lt, isNan}
 use Rattle.fixed_point.specs.Fixed.{scaledOf}
-use Rattle.natural_exponential.specs.Exp.{reducedOf, insideOf, most, least, expOf}
+use Rattle.natural_exponential.specs.Exp.{expReduced, insideOf, most, least, expOf}
 use Rattle.fixed_point.specs.Float.{over, minusSign, nought}
 
 pub exp-nan : (x : Float) → x ≡ nan → expOf x ≡ nan
@@ -31,7 +31,7 @@ module _ (x : Float) (n : isNan x ≡ false) where
     exp-least b = simp (n, a, b)
 
     module _ (b : lt x least ≡ false) where
-      pub exp-reduced : over 1 x ≡ true → expOf x ≡ reducedOf (minusSign x) (scaledOf 53 x)
+      pub exp-reduced : over 1 x ≡ true → expOf x ≡ expReduced (minusSign x) (scaledOf 53 x)
       unfolding expOf
       exp-reduced c = simp (n, a, b, c)
 

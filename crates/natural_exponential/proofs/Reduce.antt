@@ -1,9 +1,9 @@
 -- The reduction of exp's argument: n times log 2 is taken off m, or m off n times log 2. Assumes nothing.
 use mathlib.Core.Path.{_≡_, refl, sym, subst}
-use Prim.Native.Nat.{ℕ, zero, suc, _+_, _-_, _*_, _/_, _%_, _^_, _≤_, _<_}
+use Prim.Native.Nat.{ℕ, zero, suc, _+_, _-_, _*_, _/_, _^_, _≤_, _<_}
 use native.Mathlib.Omega.{arith}
 use native.Mathlib.Nat.{add-zero, not-suc-le-zero, le-of-suc-le-suc}
-use Rattle.natural_exponential.specs.Exp.{timesOf, gapOf, restOf}
+use Rattle.natural_exponential.specs.Exp.{timesOf, gapOf, expRest}
 use Rattle.fixed_point.specs.Fixed.{chooseOf}
 
 -- a is m / 2 ^ 32, and n is a * 3098164009 / 2 ^ 52
@@ -43,7 +43,7 @@ pub record Reduced (s m n : ℕ) : Type 0 where
   pub some : chooseOf s (n * 6243314768165359) m ≤ 2 ^ 53 + chooseOf s m (n * 6243314768165359)
   pub small : gapOf s m n * 32 + n * 6 < 2 ^ 64
   pub more : (1 - s ≡ 0 → ⊥) → n * 6 ≤ gapOf s m n * 32
-  pub inside : restOf s m n ≤ 2 ^ 59
+  pub inside : expRest s m n ≤ 2 ^ 59
 
 module _ (m n : ℕ) (f : n ≤ 1022) (h : n * 6243314768165359 ≤ m) (k : m ≤ n * 6243314768165359 + 6243314768165359 + 12884901888) where
   upwards : Reduced 0 m n

@@ -1,5 +1,5 @@
 -- exp as arithmetic on whole numbers.
-use Prim.Native.Nat.{ℕ, zero, suc, _+_, _-_, _*_, _/_, _%_, _^_}
+use Prim.Native.Nat.{ℕ, _+_, _-_, _*_, _/_, _%_, _^_}
 use mathlib.Core.Bool.{true, false, cond}
 use mathlib.Core.List.{List, [], _∷_}
 use lib.ListN.{getD}
@@ -37,12 +37,12 @@ fine =
     4748792597922598596 ∷ 4753432355832064292 ∷ []
 
 -- 1 / 2 + d / 6 + d ^ 2 / 24 in units of 2 ^ -32, for s = d * 2 ^ 42
-abbrev pub tailOf : ℕ → ℕ
-tailOf s = termOf 2147483648 42 s (termOf 715827883 42 s 178956971)
+abbrev pub expTail : ℕ → ℕ
+expTail s = termOf 2147483648 42 s (termOf 715827883 42 s 178956971)
 
 -- d ^ 2 times that in units of 2 ^ -58
 abbrev pub remainderOf : ℕ → ℕ
-remainderOf s = s * (s * tailOf s / 2 ^ 32) / 2 ^ 26
+remainderOf s = s * (s * expTail s / 2 ^ 32) / 2 ^ 26
 
 -- e ^ d - 1 in units of 2 ^ -51, for d in units of 2 ^ -58
 abbrev pub expm1Of : ℕ → ℕ
@@ -70,12 +70,12 @@ abbrev pub gapOf : ℕ → ℕ → ℕ → ℕ
 gapOf s m n = 2 ^ 53 + chooseOf s m (n * 6243314768165359) - chooseOf s (n * 6243314768165359) m
 
 -- the same in units of 2 ^ -58, with the 6 / 32
-abbrev pub restOf : ℕ → ℕ → ℕ → ℕ
-restOf s m n = offsetOf (1 - s) (gapOf s m n * 32) (n * 6)
+abbrev pub expRest : ℕ → ℕ → ℕ → ℕ
+expRest s m n = offsetOf (1 - s) (gapOf s m n * 32) (n * 6)
 
 -- e ^ m, or e ^ -m, for m in units of 2 ^ -53: 2 ^ n, or 2 ^ -n, is left to the exponent
-abbrev pub reducedOf : ℕ → ℕ → Float
-reducedOf s m = assembledOf (kernelOf (restOf s m (timesOf m + s))) (offsetOf s 1087 (timesOf m + s))
+abbrev pub expReduced : ℕ → ℕ → Float
+expReduced s m = assembledOf (kernelOf (expRest s m (timesOf m + s))) (offsetOf s 1087 (timesOf m + s))
 
 -- e ^ m, or e ^ -m, for m in units of 2 ^ -58, from 0 to 1
 abbrev pub insideOf : ℕ → ℕ → Float
@@ -93,5 +93,5 @@ expOf x =
     cond (isNan x) nan
     (cond (lt most x) (inf false)
     (cond (lt x least) nought
-    (cond (over 1 x) (reducedOf (minusSign x) (scaledOf 53 x))
+    (cond (over 1 x) (expReduced (minusSign x) (scaledOf 53 x))
     (insideOf (minusSign x) (scaledOf 58 x)))))

@@ -10,7 +10,7 @@ ghost use lib.Dec.{T};
 ghost use lib.ListN.{getD};
 ghost use lib.Ieee.{Float, fin, binary64, isNan, lt};
 ghost use lib.Ieee.Scale.{finite};
-ghost use Rattle.natural_exponential.specs.Exp.{coarse, fine, expm1Of, compoundedOf, kernelOf, assembledOf, timesOf, restOf, most, least, expOf};
+ghost use Rattle.natural_exponential.specs.Exp.{coarse, fine, expm1Of, compoundedOf, kernelOf, assembledOf, timesOf, expRest, most, least, expOf};
 ghost use Rattle.fixed_point.specs.Fixed.{offsetOf};
 
 // The tables are functions that match on the index: an array constant that is indexed by a variable is built on the
@@ -188,7 +188,7 @@ pub struct Rest {
 // For |x| = m in units of 2^-53: n times log 2 is taken off m, or m off n times log 2, and 2^n or 2^-n is left to the exponent.
 pub fn reduced(s: u64, m: u64) -> Rest
     requires { ⌜ (s ≤ 1) × (m ≤ 745 * 2 ^ 53) × (s ≡ 0 → m ≤ 709 * 2 ^ 53) ⌝ }
-    ensures { λ r. ⌜ (r .t ≡ restOf s m (timesOf m + s)) × (r .k ≡ offsetOf s 1087 (timesOf m + s)) × (r .t ≤ 2 ^ 59) × (1 ≤ r .k) × (r .k ≤ 2109) ⌝ }
+    ensures { λ r. ⌜ (r .t ≡ expRest s m (timesOf m + s)) × (r .k ≡ offsetOf s 1087 (timesOf m + s)) × (r .t ≤ 2 ^ 59) × (1 ≤ r .k) × (r .k ≤ 2109) ⌝ }
 {
     let n = m / 4294967296 * 3098164009 / 4503599627370496 + s;
     let u = n * 6243314768165359;

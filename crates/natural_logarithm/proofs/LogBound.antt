@@ -11,7 +11,7 @@ use lib.Ieee.Fits.{and-l, and-r}
 use Rattle.fixed_point.proofs.Product.{below-mul}
 use Rattle.fixed_point.proofs.Table.{at-most}
 use Rattle.fixed_point.specs.Fixed.{termOf}
-use Rattle.natural_logarithm.specs.Log.{reciprocals, logarithms, tailOf, squareOf, log1mOf, shortOf, withinOf}
+use Rattle.natural_logarithm.specs.Log.{reciprocals, logarithms, logTail, logSquare, log1mOf, shortOf, logWithin}
 
 -- ---- the short series
 
@@ -40,7 +40,7 @@ module _ (s : ℕ) (h : s ≤ 2355575561) where
   pub tail-product : s * d ≤ 2355575561 * 2881900000
   tail-product = below-mul 2355575561 2881900000 h (omega (arith, d-product))
 
-  pub tail-le : tailOf s ≤ 4330000000
+  pub tail-le : logTail s ≤ 4330000000
   tail-le = omega (arith, tail-product)
 
 module _ (z : ℕ) (h : z ≤ 2470000000000000) where
@@ -53,10 +53,10 @@ module _ (z : ℕ) (h : z ≤ 2470000000000000) where
   pub cross-product : z / 2 ^ 20 * (z % 2 ^ 20) ≤ 2355575561 * 1048575
   cross-product = below-mul 2355575561 1048575 s-le (omega arith)
 
-  pub square-le : squareOf (z / 2 ^ 20) (z % 2 ^ 20) ≤ 2584000000
+  pub square-le : logSquare (z / 2 ^ 20) (z % 2 ^ 20) ≤ 2584000000
   square-le = omega (arith, square-product, cross-product)
 
-  pub log1m-product : squareOf (z / 2 ^ 20) (z % 2 ^ 20) * tailOf (z / 2 ^ 20) ≤ 2584000000 * 4330000000
+  pub log1m-product : logSquare (z / 2 ^ 20) (z % 2 ^ 20) * logTail (z / 2 ^ 20) ≤ 2584000000 * 4330000000
   log1m-product = below-mul 2584000000 4330000000 square-le (tail-le (z / 2 ^ 20) s-le)
 
   pub log1m-le : log1mOf z ≤ 2 ^ 57
@@ -122,13 +122,13 @@ module _ (t : ℕ) (h : t < 2 ^ 52) where
       less : (p q : ℕ) → q ≤ p → 2 ^ 62 ≤ q + 39520000000000000 → (2 ^ 62 - p) / 16 ≤ 2470000000000000
       less p q h k = omega arith
 
-  pub within-ge : 8929000000000000 ≤ withinOf t
+  pub within-ge : 8929000000000000 ≤ logWithin t
   within-ge = less (getD logarithms (t / 2 ^ 45) 0) (log1mOf (shortOf t r)) (log1m-less (shortOf t r) short-le)
     where
       less : (a s : ℕ) → s ≤ 2500000000000000 → 8929000000000000 ≤ (a + 2 ^ 58 - s) / 32
       less a s h = omega arith
 
-  pub within-le : withinOf t ≤ 15300000000000000
+  pub within-le : logWithin t ≤ 15300000000000000
   within-le = more (getD logarithms (t / 2 ^ 45) 0) (log1mOf (shortOf t r)) (logarithms-less (t / 2 ^ 45))
     where
       more : (a s : ℕ) → a ≤ 200000000000000000 → (a + 2 ^ 58 - s) / 32 ≤ 15300000000000000

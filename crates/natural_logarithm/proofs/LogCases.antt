@@ -1,15 +1,15 @@
 -- The cases of log's definition, and its last step. Assumes nothing.
-use mathlib.Core.Path.{_≡_, refl, sym, ap, _∙_, subst}
+use mathlib.Core.Path.{_≡_, refl, sym, ap, _∙_}
 use mathlib.Core.Bool.{Bool, true, false, cond, _&&_, _||_}
-use Prim.Native.Nat.{ℕ, _+_, _-_, _*_, _/_, _%_, _^_, _≤_, _<_}
+use Prim.Native.Nat.{ℕ, _+_, _-_, _*_, _^_, _≤_, _<_}
 use native.Mathlib.Omega.{arith}
 use native.Mathlib.Nat.{add-comm, le-of-lt, le-antisymm, lt-of-not-le, mul-le-mul-left}
 use borrow.Author.Tests.{lt-ltb, le-ltb, ltb-true, ltb-false, eqb-true, eqb-false, ne-eqb}
-use lib.Dec.{T, ltb, eqb, leb→le}
+use lib.Dec.{ltb, eqb, leb→le}
 use lib.Ieee.{Float, nan, inf, fin, binary64, up, down, neg, mul, lt, le, eq, isNan}
 use lib.Ieee.Fits.{down-pos}
-use Rattle.fixed_point.specs.Float.{one, nought, tiny, lift}
-use Rattle.natural_logarithm.specs.Log.{fractionOf, differenceOf, withinOf, digitsOf, bitsOf, logOf}
+use Rattle.fixed_point.specs.Float.{unit, nought, tiny, lift}
+use Rattle.natural_logarithm.specs.Log.{fractionOf, differenceOf, logWithin, logDigits, bitsOf, logOf}
 use Rattle.fixed_point.proofs.Range.{clash, not-negative}
 
 pub difference-plus : (p n : ℕ) → n ≤ p → differenceOf p n ≡ fractionOf (p - n)
@@ -35,17 +35,17 @@ difference-shift p n k = go (ltb p n) refl
     go true e = difference-minus (p + k) (n + k) (more p n k (ltb-true p n e)) ∙ ap (λ (d : ℕ). neg (fractionOf d)) (same n p k) ∙ sym (difference-minus p n (ltb-true p n e))
     go false e = difference-plus (p + k) (n + k) (most p n k (ltb-false p n e)) ∙ ap fractionOf (same p n k) ∙ sym (difference-plus p n (ltb-false p n e))
 
-pub digits-below : (e t : ℕ) → e < 1023 → digitsOf 0 e t ≡ differenceOf (withinOf t) ((1023 - e) * 6243314768165359 + 2 ^ 53)
+pub digits-below : (e t : ℕ) → e < 1023 → logDigits 0 e t ≡ differenceOf (logWithin t) ((1023 - e) * 6243314768165359 + 2 ^ 53)
 digits-below e t h =
-    ap (λ (p : ℕ). differenceOf p (1023 * 6243314768165359 + 2 ^ 53)) (add-comm (e * 6243314768165359) (withinOf t))
-    ∙ ap (differenceOf (withinOf t + e * 6243314768165359)) (sym (under e h))
-    ∙ difference-shift (withinOf t) ((1023 - e) * 6243314768165359 + 2 ^ 53) (e * 6243314768165359)
+    ap (λ (p : ℕ). differenceOf p (1023 * 6243314768165359 + 2 ^ 53)) (add-comm (e * 6243314768165359) (logWithin t))
+    ∙ ap (differenceOf (logWithin t + e * 6243314768165359)) (sym (under e h))
+    ∙ difference-shift (logWithin t) ((1023 - e) * 6243314768165359 + 2 ^ 53) (e * 6243314768165359)
   where
     under : (e : ℕ) → e < 1023 → (1023 - e) * 6243314768165359 + 2 ^ 53 + e * 6243314768165359 ≡ 1023 * 6243314768165359 + 2 ^ 53
     under e h = omega arith
 
-pub digits-above : (e t : ℕ) → 1023 ≤ e → digitsOf 0 e t ≡ differenceOf ((e - 1023) * 6243314768165359 + withinOf t) (2 ^ 53)
-digits-above e t h = ap (λ (p : ℕ). differenceOf p (1023 * 6243314768165359 + 2 ^ 53)) (over e (withinOf t) h) ∙ difference-shift ((e - 1023) * 6243314768165359 + withinOf t) (2 ^ 53) (1023 * 6243314768165359)
+pub digits-above : (e t : ℕ) → 1023 ≤ e → logDigits 0 e t ≡ differenceOf ((e - 1023) * 6243314768165359 + logWithin t) (2 ^ 53)
+digits-above e t h = ap (λ (p : ℕ). differenceOf p (1023 * 6243314768165359 + 2 ^ 53)) (over e (logWithin t) h) ∙ difference-shift ((e - 1023) * 6243314768165359 + logWithin t) (2 ^ 53) (1023 * 6243314768165359)
   where
     over : (e w : ℕ) → 1023 ≤ e → e * 6243314768165359 + w ≡ (e - 1023) * 6243314768165359 + w + 1023 * 6243314768165359
     over e w h = omega arith
@@ -72,11 +72,11 @@ module _ (x : Float) (n : isNan x ≡ false) where
       log-infinite c = simp (n, a, b, c)
 
       module _ (c : eq x (inf false) ≡ false) where
-        pub log-one : eq x one ≡ true → logOf x ≡ nought
+        pub log-one : eq x unit ≡ true → logOf x ≡ nought
         unfolding logOf
         log-one d = simp (n, a, b, c, d)
 
-        module _ (d : eq x one ≡ false) where
+        module _ (d : eq x unit ≡ false) where
           pub log-tiny : lt x tiny ≡ true → logOf x ≡ bitsOf 54 (mul binary64 x lift)
           unfolding logOf
           log-tiny e = simp (n, a, b, c, d, e)
@@ -151,7 +151,7 @@ pub record Faded (x : Float) : Type 0 where
   pub sign : lt x nought ≡ false
   pub size : eq x nought ≡ false
   pub finite : eq x (inf false) ≡ false
-  pub other : eq x one ≡ false
+  pub other : eq x unit ≡ false
   pub tail : lt x tiny ≡ true
 
 -- above 0, and not from 2 ^ -1022 on

@@ -6,7 +6,7 @@ use lib.ListN.{getD}
 use lib.Dec.{ltb}
 use lib.Ieee.{Float, nan, inf, binary64, round, toBits, neg, mul, lt, eq, isNan}
 use Rattle.fixed_point.specs.Fixed.{termOf}
-use Rattle.fixed_point.specs.Float.{one, nought, tiny, lift}
+use Rattle.fixed_point.specs.Float.{unit, nought, tiny, lift}
 
 -- 2 ^ 10 / (1 + (i + 1) / 128), cut to a whole number, for i from 0 to 127. Made by scripts/elementary/generate.py.
 unfoldable pub reciprocals : List ℕ
@@ -51,16 +51,16 @@ logarithms =
     197543023314412548 ∷ 198662365987806318 ∷ 199786072581291494 ∷ []
 
 -- 1 / 2 + z / 3 + z ^ 2 / 4 + .. + z ^ 5 / 7 in units of 2 ^ -33, for s = z * 2 ^ 38
-abbrev pub tailOf : ℕ → ℕ
-tailOf s = termOf 4294967296 38 s (termOf 2863311530 38 s (termOf 2147483648 38 s (termOf 1717986918 38 s (termOf 1431655765 38 s 1227133513))))
+abbrev pub logTail : ℕ → ℕ
+logTail s = termOf 4294967296 38 s (termOf 2863311530 38 s (termOf 2147483648 38 s (termOf 1717986918 38 s (termOf 1431655765 38 s 1227133513))))
 
 -- z ^ 2 in units of 2 ^ -45, for z in units of 2 ^ -58: the upper digits s and the lower ones l
-abbrev pub squareOf : ℕ → ℕ → ℕ
-squareOf s l = (s * s + s * l / 2 ^ 19) / 2 ^ 31
+abbrev pub logSquare : ℕ → ℕ → ℕ
+logSquare s l = (s * s + s * l / 2 ^ 19) / 2 ^ 31
 
 -- - log (1 - z) in units of 2 ^ -58: z + z ^ 2 (1 / 2 + z / 3 + ..)
 abbrev pub log1mOf : ℕ → ℕ
-log1mOf z = z + squareOf (z / 2 ^ 20) (z % 2 ^ 20) * tailOf (z / 2 ^ 20) / 2 ^ 20
+log1mOf z = z + logSquare (z / 2 ^ 20) (z % 2 ^ 20) * logTail (z / 2 ^ 20) / 2 ^ 20
 
 -- the nearest to d / 2 ^ 53, and to (p - n) / 2 ^ 53
 abbrev pub fractionOf : ℕ → Float
@@ -74,16 +74,16 @@ abbrev pub shortOf : ℕ → ℕ → ℕ
 shortOf t r = (2 ^ 62 - (t + 2 ^ 52) * r) / 16
 
 -- 1 and the logarithm of 1 + t / 2 ^ 52, in units of 2 ^ -53
-abbrev pub withinOf : ℕ → ℕ
-withinOf t = (getD logarithms (t / 2 ^ 45) 0 + 2 ^ 58 - log1mOf (shortOf t (getD reciprocals (t / 2 ^ 45) 0))) / 32
+abbrev pub logWithin : ℕ → ℕ
+logWithin t = (getD logarithms (t / 2 ^ 45) 0 + 2 ^ 58 - log1mOf (shortOf t (getD reciprocals (t / 2 ^ 45) 0))) / 32
 
 -- the logarithm of (1 + t / 2 ^ 52) * 2 ^ (e - 1023 - k), by e times log 2 and 1023 + k times log 2; log 2 is 6243314768165359 / 2 ^ 53
-abbrev pub digitsOf : ℕ → ℕ → ℕ → Float
-digitsOf k e t = differenceOf (e * 6243314768165359 + withinOf t) ((1023 + k) * 6243314768165359 + 2 ^ 53)
+abbrev pub logDigits : ℕ → ℕ → ℕ → Float
+logDigits k e t = differenceOf (e * 6243314768165359 + logWithin t) ((1023 + k) * 6243314768165359 + 2 ^ 53)
 
 -- the logarithm of x / 2 ^ k by the bits of x
 abbrev pub bitsOf : ℕ → Float → Float
-bitsOf k x = digitsOf k (toBits binary64 x % 2 ^ 63 / 2 ^ 52) (toBits binary64 x % 2 ^ 63 % 2 ^ 52)
+bitsOf k x = logDigits k (toBits binary64 x % 2 ^ 63 / 2 ^ 52) (toBits binary64 x % 2 ^ 63 % 2 ^ 52)
 
 -- NaN and what is below 0 give NaN; only the zeros give -infinity; a number below 2 ^ -1022 is taken 2 ^ 54 times as large, exactly
 unfoldable pub logOf : Float → Float
@@ -92,6 +92,6 @@ logOf x =
     (cond (lt x nought) nan
     (cond (eq x nought) (inf true)
     (cond (eq x (inf false)) x
-    (cond (eq x one) nought
+    (cond (eq x unit) nought
     (cond (lt x tiny) (bitsOf 54 (mul binary64 x lift))
     (bitsOf 0 x))))))

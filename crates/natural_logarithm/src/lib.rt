@@ -6,7 +6,7 @@ ghost use Prim.Native.Nat.{ℕ, _+_, _*_, _/_, _^_, _<_, _≤_};
 ghost use lib.Dec.{T};
 ghost use lib.ListN.{getD};
 ghost use lib.Ieee.{Float, binary64, isNan};
-ghost use Rattle.natural_logarithm.specs.Log.{reciprocals, logarithms, log1mOf, tailOf, fractionOf, differenceOf, digitsOf, logOf};
+ghost use Rattle.natural_logarithm.specs.Log.{reciprocals, logarithms, log1mOf, logTail, fractionOf, differenceOf, logDigits, logOf};
 
 // A reciprocal and a logarithm.
 pub struct Piece(pub u64, pub u64);
@@ -153,7 +153,7 @@ pub fn piece_at(i: u64) -> Piece
 // 1/2 + z/3 + z^2/4 + .. + z^5/7 in units of 2^-33, for z in units of 2^-38.
 pub fn tail(s: u64) -> u64
     requires { ⌜ s ≤ 2355575561 ⌝ }
-    ensures { λ r. ⌜ (r ≡ tailOf s) × (r ≤ 4330000000) ⌝ }
+    ensures { λ r. ⌜ (r ≡ logTail s) × (r ≤ 4330000000) ⌝ }
 {
     let a = 1431655765 + s * 1227133513 / 274877906944;
     let b = 1717986918 + s * a / 274877906944;
@@ -186,7 +186,7 @@ pub fn difference(u: u64) -> f64
 // The logarithm of (1 + t / 2^52) * 2^(e - 1023 - k).
 pub fn digits(k: u64, e: u64, t: u64) -> f64
     requires { ⌜ (k ≤ 54) × (e < 2048) × (t < 2 ^ 52) ⌝ }
-    ensures { λ r. ⌜ r ≡ digitsOf k e t ⌝ }
+    ensures { λ r. ⌜ r ≡ logDigits k e t ⌝ }
 {
     let i = t / 35184372088832;
     let piece = piece_at(i);

@@ -1,6 +1,6 @@
 -- A number is finite where it lies between the infinities.
 use mathlib.Core.Path.{_≡_, refl}
-use mathlib.Core.Bool.{Bool, true, false, _&&_}
+use mathlib.Core.Bool.{true, false, _&&_}
 use lib.Ieee.{Float, nan, inf, fin, neg, lt}
 use Rattle.numbers.specs.Tests.{finiteOf}
 

@@ -2,7 +2,7 @@
 use Prim.Native.Nat.{ℕ}
 use mathlib.Core.List.{List, []}
 use lib.ListN.{getD}
-use lib.Ieee.{Float, nan, inf, fin, binary64, add, sub, mul, div}
+use lib.Ieee.{Float, nan, binary64, add, sub, mul, div}
 
 infixl 60 _⊕_ _⊖_
 infixl 70 _⊗_ _⊘_

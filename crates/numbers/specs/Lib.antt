@@ -3,3 +3,4 @@ pub mod Arithmetic
 pub mod Literals
 pub mod Constants
 pub mod Tests
+pub mod Booleans

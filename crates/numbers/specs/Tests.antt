@@ -1,5 +1,5 @@
--- Absolute value, the test for finite numbers, and what the test for NaN tells.
-use mathlib.Core.Path.{_≡_}
+-- Absolute value, the test for finite numbers, and what tests on NaN tell.
+use mathlib.Core.Path.{_≡_, refl}
 use mathlib.Core.Bool.{Bool, false, cond, not, true≢false}
 use lib.Dec.{T}
 use lib.Ieee.{Float, nan, inf, fin, neg, lt, eq, isNan}
@@ -20,3 +20,10 @@ unfolding eq isNan
 ordered nan h = absurd (true≢false h)
 ordered (inf s) h = tt
 ordered (fin s m e) h = tt
+
+-- nothing is below a NaN
+pub lt-nan : (x : Float) → lt x nan ≡ false
+unfolding lt
+lt-nan nan = refl
+lt-nan (inf s) = refl
+lt-nan (fin s m e) = refl

@@ -10,6 +10,7 @@ use lib.IntN.{ℤ}
 use lib.Ieee.{Float, nan, inf, fin, up, down, lt, le, eq, ofBits}
 use Rattle.numbers.specs.Literals.{0·0, 72·5}
 use Rattle.numbers.specs.Tests.{finiteOf}
+use Rattle.numbers.specs.Booleans.{neither}
 use Rattle.parameters.specs.declared.Parameters.{Parameters}
 use Rattle.parameters.specs.Parameters.{presentOf}
 use Rattle.setting.specs.declared.Input.{Input}
@@ -25,15 +26,15 @@ present-fit : firstUnfit presentOf ≡ 10
 unfolding firstUnfit presentOf unfitValue ofSpecies finiteOf lt eq ofBits
 present-fit = refl
 
-exchanged : (a b : Bool) → (a && (not b || false)) ≡ (not b && a)
-exchanged true true = refl
-exchanged true false = refl
-exchanged false true = refl
-exchanged false false = refl
+and-exchanged : (a b : Bool) → (a && (not b || false)) ≡ (not b && a)
+and-exchanged true true = refl
+and-exchanged true false = refl
+and-exchanged false true = refl
+and-exchanged false false = refl
 
 present-unmixed : (one : Bool) (z : Float) → unmixedWith presentOf one z ≡ unmixedOf one z
 unfolding unmixedWith unmixedOf presentOf lt ofBits
-present-unmixed one z = exchanged (lt z 72·5) one
+present-unmixed one z = and-exchanged (lt z 72·5) one
 
 -- with the present nine the answer is the one-altitude call's
 pub present-answer : (w : List ℤ) (n : Input) (len : ℕ)
@@ -44,31 +45,31 @@ present-answer w n len = rw (present-fit, present-unmixed (isOne (given w 15)) (
 -- ---- what is accepted
 
 -- each test in turn, none of which fits
-passed : (a b : Bool) (j : Answer) (u : Bool) (k : ℕ)
+none-fits : (a b : Bool) (j : Answer) (u : Bool) (k : ℕ)
     → acceptedOf (cond a (Refused 16 k) (cond b (Refused 4 11) (cond (not (acceptedOf j)) j (cond u (Refused 10 3) Accepted)))) ≡ true
     → (a ≡ false) × (b ≡ false) × (j ≡ Accepted) × (u ≡ false)
-passed true b j u k h = absurd (false≢true h)
-passed false true j u k h = absurd (false≢true h)
-passed false false (Refused m p) u k h = absurd (false≢true h)
-passed false false Accepted true k h = absurd (false≢true h)
-passed false false Accepted false k h = (refl, refl, refl, refl)
+none-fits true b j u k h = absurd (false≢true h)
+none-fits false true j u k h = absurd (false≢true h)
+none-fits false false (Refused m p) u k h = absurd (false≢true h)
+none-fits false false Accepted true k h = absurd (false≢true h)
+none-fits false false Accepted false k h = (refl, refl, refl, refl)
 
 -- a constant is fit: finite and above 0
-abbrev pub Fit : Float → Type 0
-Fit x = (finiteOf x ≡ true) × (lt 0·0 x ≡ true)
+abbrev pub PositiveFinite : Float → Type 0
+PositiveFinite x = (finiteOf x ≡ true) × (lt 0·0 x ≡ true)
 
 -- all nine are, and mixed air has no species' mass
 pub record FitNine (c : Parameters) : Type 0 where
-  pub rgas : Fit (c .rgas)
-  pub xmm : Fit (c .xmm)
+  pub rgas : PositiveFinite (c .rgas)
+  pub xmm : PositiveFinite (c .xmm)
   pub own : ofSpecies (c .xmm) ≡ false
-  pub he : Fit (c .he)
-  pub o : Fit (c .o)
-  pub n2 : Fit (c .n2)
-  pub o2 : Fit (c .o2)
-  pub ar : Fit (c .ar)
-  pub h : Fit (c .h)
-  pub n : Fit (c .n)
+  pub he : PositiveFinite (c .he)
+  pub o : PositiveFinite (c .o)
+  pub n2 : PositiveFinite (c .n2)
+  pub o2 : PositiveFinite (c .o2)
+  pub ar : PositiveFinite (c .ar)
+  pub h : PositiveFinite (c .h)
+  pub n : PositiveFinite (c .n)
 
 nine : (a b c d e f g h i : Bool) → ltb (lowest 1 (a ∷ b ∷ c ∷ d ∷ e ∷ f ∷ g ∷ h ∷ i ∷ []) 10) 10 ≡ false
     → (a ≡ false) × (b ≡ false) × (c ≡ false) × (d ≡ false) × (e ≡ false) × (f ≡ false) × (g ≡ false) × (h ≡ false) × (i ≡ false)
@@ -84,18 +85,14 @@ nine false false false false false false false true i t = absurd (true≢false t
 nine false false false false false false false false true t = absurd (true≢false t)
 nine false false false false false false false false false t = (refl, refl, refl, refl, refl, refl, refl, refl, refl, refl)
 
-both : (p q : Bool) → (not p || not q) ≡ false → (p ≡ true) × (q ≡ true)
-both true true t = (refl, refl)
-both true false t = absurd (true≢false t)
-both false q t = absurd (true≢false t)
+neither-not : (p q : Bool) → (not p || not q) ≡ false → (p ≡ true) × (q ≡ true)
+neither-not true true t = (refl, refl)
+neither-not true false t = absurd (true≢false t)
+neither-not false q t = absurd (true≢false t)
 
-neither : (p q : Bool) → (p || q) ≡ false → (p ≡ false) × (q ≡ false)
-neither true q t = absurd (true≢false t)
-neither false q t = (refl, t)
-
-fit : (x : Float) → unfitValue x ≡ false → Fit x
+positive-finite : (x : Float) → unfitValue x ≡ false → PositiveFinite x
 unfolding unfitValue
-fit x t = both (finiteOf x) (lt 0·0 x) t
+positive-finite x t = neither-not (finiteOf x) (lt 0·0 x) t
 
 module _ (c : Parameters) (t : oneOfNine (firstUnfit c) ≡ false) where
   tested : (unfitValue (c .rgas) ≡ false) × ((unfitValue (c .xmm) || ofSpecies (c .xmm)) ≡ false) × (unfitValue (c .he) ≡ false)
@@ -110,16 +107,16 @@ module _ (c : Parameters) (t : oneOfNine (firstUnfit c) ≡ false) where
   fit-nine =
       let m = neither (unfitValue (c .xmm)) (ofSpecies (c .xmm)) (tested .1) in
       record {
-        rgas = fit (c .rgas) (tested .0);
-        xmm = fit (c .xmm) (m .0);
+        rgas = positive-finite (c .rgas) (tested .0);
+        xmm = positive-finite (c .xmm) (m .0);
         own = m .1;
-        he = fit (c .he) (tested .2);
-        o = fit (c .o) (tested .3);
-        n2 = fit (c .n2) (tested .4);
-        o2 = fit (c .o2) (tested .5);
-        ar = fit (c .ar) (tested .6);
-        h = fit (c .h) (tested .7);
-        n = fit (c .n) (tested .8);
+        he = positive-finite (c .he) (tested .2);
+        o = positive-finite (c .o) (tested .3);
+        n2 = positive-finite (c .n2) (tested .4);
+        o2 = positive-finite (c .o2) (tested .5);
+        ar = positive-finite (c .ar) (tested .6);
+        h = positive-finite (c .h) (tested .7);
+        n = positive-finite (c .n) (tested .8);
       }
 
 -- a positive number that is not below another is at or above it
@@ -127,16 +124,16 @@ upto : (a b : ℕ) (t : Bool) → ltb b a ≡ t → b ≤ a → (t || (eqb b a &
 upto a b true e h = refl
 upto a b false e h = rw (eq-eqb b a (le-antisymm h (ltb-false b a e))) refl
 
-not-below : (x : Float) (n : ℕ) (d : ℤ) → finiteOf x ≡ true → lt 0·0 x ≡ true → lt x (fin false n d) ≡ false → le (fin false n d) x ≡ true
+at-or-above : (x : Float) (n : ℕ) (d : ℤ) → finiteOf x ≡ true → lt 0·0 x ≡ true → lt x (fin false n d) ≡ false → le (fin false n d) x ≡ true
 unfolding lt le eq finiteOf ofBits
-not-below nan n d f p h = absurd (false≢true f)
-not-below (inf s) n d f p h = absurd (false≢true f)
-not-below (fin true m e) n d f p h = absurd (false≢true p)
-not-below (fin false m e) n d f p h = upto (m * up e * down d) (n * up d * down e) _ refl (ltb-false (m * up e * down d) (n * up d * down e) h)
+at-or-above nan n d f p h = absurd (false≢true f)
+at-or-above (inf s) n d f p h = absurd (false≢true f)
+at-or-above (fin true m e) n d f p h = absurd (false≢true p)
+at-or-above (fin false m e) n d f p h = upto (m * up e * down d) (n * up d * down e) _ refl (ltb-false (m * up e * down d) (n * up d * down e) h)
 
-at-72·5 : (x : Float) → Fit x → lt x 72·5 ≡ false → le 72·5 x ≡ true
+at-72·5 : (x : Float) → PositiveFinite x → lt x 72·5 ≡ false → le 72·5 x ≡ true
 unfolding ofBits
-at-72·5 x f h = not-below x _ _ (f .0) (f .1) h
+at-72·5 x f h = at-or-above x _ _ (f .0) (f .1) h
 
 mixed : (a b c : Bool) → a ≡ true → (a && (not b || c)) ≡ false → (b ≡ true) × (c ≡ false)
 mixed true true c e t = (refl, t)
@@ -147,7 +144,7 @@ module _ (c : Parameters) (w : List ℤ) (n : Input) (len : ℕ) (e : answerWith
   parts : (oneOfNine (firstUnfit c) ≡ false) × (not (eqb len 11) ≡ false) × (judgedOf w n ≡ Accepted) × (unmixedWith c (isOne (given w 15)) (n .alt) ≡ false)
   unfolding answerWith
   parts =
-      passed (oneOfNine (firstUnfit c)) (not (eqb len 11)) (judgedOf w n) (unmixedWith c (isOne (given w 15)) (n .alt)) (firstUnfit c)
+      none-fits (oneOfNine (firstUnfit c)) (not (eqb len 11)) (judgedOf w n) (unmixedWith c (isOne (given w 15)) (n .alt)) (firstUnfit c)
       (ap acceptedOf e)
 
   -- none of the nine is unfit: each is finite and above 0, and mixed air has no species' mass

@@ -74,9 +74,9 @@ pub thinned-law : (t : Thinning) (dlb : Float) → t .none ≡ false → not (t 
 unfolding thinnedOf
 thinned-law t dlb e f = rw (e, f)
 
-pub warmth-law : (h : Shape) (s : Spine) (z zlb : Float) (zn : List Float) (r : Float)
+pub temperature-of-law : (h : Shape) (s : Spine) (z zlb : Float) (zn : List Float) (r : Float)
     → r ≡ (underOf (h .re) s z (zn ‼ 0) (zn ‼ 4)) .tz
     → s ≡ spineOf h zlb zn
     → lt z (zn ‼ 0) ≡ true
     → r ≡ (placeOf h z zlb zn) .tz
-warmth-law h s z zlb zn r e f t = e ∙ ap (λ (p : Place). p .tz) (under-law h s z zlb zn _ refl f t)
+temperature-of-law h s z zlb zn r e f t = e ∙ ap (λ (p : Place). p .tz) (under-law h s z zlb zn _ refl f t)

@@ -1,6 +1,6 @@
 -- densu's altitudes over one Shape: what the shape fixes for all of them, and what an altitude adds. A Place is a Point (Point.antt) with more beside it.
-use mathlib.Core.Path.{_≡_, refl, sym, _∙_}
-use mathlib.Core.Bool.{Bool, true, false, cond}
+use mathlib.Core.Path.{_≡_}
+use mathlib.Core.Bool.{true, false, cond}
 use mathlib.Core.List.{List}
 use lib.ListN.{set}
 use lib.Ieee.{Float, lt, le}
@@ -13,7 +13,7 @@ use Rattle.layers.specs.Layers.{firstFive, splint-five, splini-five}
 use Rattle.profile.specs.Gravity.{zetaOf}
 use Rattle.profile.specs.Curve.{layerOf, flooredOf}
 use Rattle.profile.specs.Profile.{batesOf, gradientOf}
-use Rattle.profile.specs.Point.{onCurve, offCurve, pointOf, point-z}
+use Rattle.profile.specs.Point.{onCurve, offCurve, pointOf}
 use Rattle.places.specs.declared.place.Spine.{Spine}
 use Rattle.places.specs.declared.place.Place.{Place}
 use Rattle.places.specs.declared.place.Read.{Read}
@@ -44,13 +44,13 @@ spineOf h zlb zn =
       y2 = firstFive (l .y2);
     }
 
-unfoldable pub readOf : List Float → List Float → List Float → Float → Read
-readOf xs ys y2 x = record { tz = 1·0 ⊘ splintOf xs ys y2 5 x; yi = spliniOf xs ys y2 5 x }
+unfoldable pub placeRead : List Float → List Float → List Float → Float → Read
+placeRead xs ys y2 x = record { tz = 1·0 ⊘ splintOf xs ys y2 5 x; yi = spliniOf xs ys y2 5 x }
 
 -- an altitude below za, from the spine
 unfoldable pub underOf : Float → Spine → Float → Float → Float → Place
 underOf re s z za low =
-    let a = readOf (s .xs) (s .ys) (s .y2) (zetaOf re (cond (lt low z) z low) za ⊘ s .zgdif) in
+    let a = placeRead (s .xs) (s .ys) (s .y2) (zetaOf re (cond (lt low z) z low) za ⊘ s .zgdif) in
     record {
       z = z;
       under = true;
@@ -124,7 +124,7 @@ placeOf h z zlb zn = placeOn h zlb (pointOf h z zlb zn)
 -- Below za the spine, which no altitude changes, gives the place
 pub under-place : (h : Shape) (z zlb : Float) (zn : List Float) → lt z (zn ‼ 0) ≡ true → lt (zn ‼ 0) z ≡ false
     → underOf (h .re) (spineOf h zlb zn) z (zn ‼ 0) (zn ‼ 4) ≡ placeOf h z zlb zn
-unfolding underOf readOf spineOf placeOf placeOn pointOf onCurve flooredOf layerOf
+unfolding underOf placeRead spineOf placeOf placeOn pointOf onCurve flooredOf layerOf
 under-place h z zlb zn below not-above = rw (below, not-above, splint-five, splini-five)
 
 -- At or above za
@@ -132,8 +132,3 @@ pub over-place : (h : Shape) (z zlb : Float) (zn : List Float) → lt z (zn ‼ 
     → overOf (h .re) (h .tinf) (h .tlb) (h .s) (h .gsurf ⊘ powOf (1·0 ⊕ zlb ⊘ h .re) 2·0) (h .s ⊗ h .rgas ⊗ h .tinf) (h .rgas) z (zn ‼ 0) zlb ≡ placeOf h z zlb zn
 unfolding overOf placeOf placeOn pointOf offCurve
 over-place h z zlb zn not-below above = rw (not-below, above)
-
--- a place keeps its altitude
-pub place-z : (h : Shape) (z zlb : Float) (zn : List Float) → (placeOf h z zlb zn) .z ≡ z
-unfolding placeOf placeOn
-place-z h z zlb zn = point-z h z zlb zn

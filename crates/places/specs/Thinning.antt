@@ -9,7 +9,7 @@ use Rattle.elementary.specs.Exp.{expOf}
 use Rattle.elementary.specs.Log.{logOf}
 use Rattle.elementary.specs.Pow.{powOf}
 use Rattle.profile.specs.Curve.{cappedOf}
-use Rattle.profile.specs.Profile.{densaOf, aboveOf, densu5Of, densityIn, temperatureIn}
+use Rattle.profile.specs.Profile.{densaOf, densuAbove, densu5Of, densityIn, temperatureIn}
 use Rattle.profile.specs.Point.{onCurve, offCurve, pointOf, densuAt, densu-at}
 use Rattle.places.specs.Place.{placeOn, placeOf}
 use Rattle.profile.specs.declared.curve.Curve.{Curve}
@@ -17,7 +17,6 @@ use Rattle.places.specs.declared.place.Place.{Place}
 use Rattle.places.specs.declared.thinning.Thinning.{Thinning}
 use Rattle.profile.specs.declared.point.Point.{Point}
 use Rattle.profile.specs.declared.unchecked.Shape.{Shape}
-use Rattle.profile.specs.declared.unchecked.Profile.{Profile}
 use Rattle.profile.specs.declared.unchecked.Profile.the-variants.{Temperature, Density}
 
 -- lt and l1 are logarithms
@@ -70,7 +69,7 @@ on-curve h z zlb zg2 tt l dlb xm alpha = sym (in-density (eq xm 0·0) _ _)
 
 off-curve : (h : Shape) (z zlb zg2 tt : Float) (dlb xm alpha : Float)
     → thinnedOf (thinningOf (placeOn h zlb (offCurve z zg2 tt)) xm alpha) dlb ≡ densityIn (densuAt h (offCurve z zg2 tt) dlb xm alpha zlb)
-unfolding thinnedOf thinningOf placeOn offCurve densuAt aboveOf densaOf
+unfolding thinnedOf thinningOf placeOn offCurve densuAt densuAbove densaOf
 off-curve h z zlb zg2 tt dlb xm alpha = sym (in-density (eq xm 0·0) _ _)
 
 -- A density thinned out to a place is densu's
@@ -89,14 +88,14 @@ unfolding placeOn onCurve densuAt eq ofBits
 warm-on h z zlb zg2 tt l = refl
 
 warm-off : (h : Shape) (z zlb zg2 tt : Float) → (placeOn h zlb (offCurve z zg2 tt)) .tz ≡ temperatureIn (densuAt h (offCurve z zg2 tt) 1·0 0·0 0·0 zlb)
-unfolding placeOn offCurve densuAt aboveOf eq ofBits
+unfolding placeOn offCurve densuAt densuAbove eq ofBits
 warm-off h z zlb zg2 tt = refl
 
 -- The temperature at a place is densu's
-pub place-warmth : (h : Shape) (z zlb : Float) (zn : List Float)
+pub place-temperature : (h : Shape) (z zlb : Float) (zn : List Float)
     → (placeOf h z zlb zn) .tz ≡ temperatureIn (densu5Of h z 1·0 0·0 0·0 zlb zn)
 unfolding placeOf
-place-warmth h z zlb zn =
+place-temperature h z zlb zn =
     at-point h z zlb zn
     (λ (p : Point). (placeOn h zlb p) .tz ≡ temperatureIn (densuAt h p 1·0 0·0 0·0 zlb))
     (λ zg2 tt l. warm-on h z zlb zg2 tt l)

@@ -2,7 +2,7 @@
 ghost use mathlib.Core.Path.{_≡_};
 ghost use Rattle.profile.specs.Curve.{layerOf};
 ghost use Rattle.spline.specs.Nodes.{splintOf};
-ghost use Rattle.places.specs.Place.{spineOf, readOf, underOf, overOf, placeOn, placeOf};
+ghost use Rattle.places.specs.Place.{spineOf, placeRead, underOf, overOf, placeOn, placeOf};
 use elementary::logarithm::log;
 use elementary::power::pow;
 use layers::first_five;
@@ -120,7 +120,7 @@ pub fn value(xs: [f64; 5], ys: [f64; 5], y2: [f64; 5], x: f64) -> f64
 
 // The curve read at x.
 pub fn read_at(xs: [f64; 5], ys: [f64; 5], y2: [f64; 5], x: f64) -> Read
-    ensures { λ r. ⌜ r ≡ readOf xs ys y2 x ⌝ }
+    ensures { λ r. ⌜ r ≡ placeRead xs ys y2 x ⌝ }
 {
     let y = splint(&xs, &ys, &y2, 5, x);
     let yi = splini(&xs, &ys, &y2, 5, x);
@@ -272,7 +272,7 @@ pub fn place_of(h: Shape, s: Spine, z: f64, zlb: f64, zn: [f64; 5]) -> Place
 }
 
 // The temperature below za, from the spine.
-pub fn warmth_under(re: f64, s: Spine, z: f64, za: f64, low: f64) -> f64
+pub fn temperature_under(re: f64, s: Spine, z: f64, za: f64, low: f64) -> f64
     ensures { λ r. ⌜ r ≡ underOf re s z za low .tz ⌝ }
 {
     let zz = pick(z > low, z, low);
@@ -285,13 +285,13 @@ pub fn warmth_under(re: f64, s: Spine, z: f64, za: f64, low: f64) -> f64
 }
 
 // The temperature alone of what an altitude gives.
-pub fn warmth_of(h: Shape, s: Spine, z: f64, zlb: f64, zn: [f64; 5]) -> f64
+pub fn temperature_of(h: Shape, s: Spine, z: f64, zlb: f64, zn: [f64; 5]) -> f64
     requires { ⌜ s ≡ spineOf h zlb zn ⌝ }
     ensures { λ r. ⌜ r ≡ placeOf h z zlb zn .tz ⌝ }
 {
     let za = zn[0];
     if z < za {
-        return warmth_under(h.re, s, z, za, zn[4]);
+        return temperature_under(h.re, s, z, za, zn[4]);
     }
     let p = place_alone(h, z, zlb, zn);
     p.tz

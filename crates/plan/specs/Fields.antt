@@ -364,5 +364,5 @@ unfoldable pub setTop3 : Float → Fields → Fields
 setTop3 x f = setTn3 (set (f .«meso_tn3») 0 x) (f .«meso_tgn3») f
 
 -- a step that is made where a test holds
-abbrev pub when : Bool → (Fields → Fields) → Fields → Fields
-when b u f = cond b (u f) f
+abbrev pub setWhen : Bool → (Fields → Fields) → Fields → Fields
+setWhen b u f = cond b (u f) f

@@ -3,8 +3,8 @@ use mathlib.Core.Path.{_≡_, refl, ap, _∙_}
 use mathlib.Core.Bool.{Bool, true, false, cond}
 use mathlib.Core.List.{List}
 use lib.Ieee.{Float}
-use Rattle.plan.specs.Fields.{Fields, when, setGravity, setDd, setDm04, setDm16, setDm28, setDm32, setDm40, setDm01, setDm14, setTn1, setTn2, setTn3, setNodes1, setTop3}
-use Rattle.plan.specs.Plan.{Ask, Plan, ask, keep, done, either, _>>=_, told, kept, kept->>=}
+use Rattle.plan.specs.Fields.{Fields, setWhen, setGravity, setDd, setDm04, setDm16, setDm28, setDm32, setDm40, setDm01, setDm14, setTn1, setTn2, setTn3, setNodes1, setTop3}
+use Rattle.plan.specs.Plan.{Ask, Plan, ask, keep, done, either, _>>=_, told, fieldsAfter, kept->>=}
 
 -- ---- steps
 
@@ -69,7 +69,7 @@ pub top3-leaves : (x : Float) → Leaves (setTop3 x)
 unfolding setTop3 setTn3
 top3-leaves x f = refl
 
-pub when-leaves : (b : Bool) (u : Fields → Fields) → Leaves u → Leaves (when b u)
+pub when-leaves : (b : Bool) (u : Fields → Fields) → Leaves u → Leaves (setWhen b u)
 when-leaves true u h f = h f
 when-leaves false u h f = refl
 
@@ -77,27 +77,27 @@ when-leaves false u h f = refl
 
 -- a plan after which the mark is true where b is, and else as it was
 abbrev pub Marks : {A : Type 0} → Bool → Plan A → Type 0
-Marks b m = (g : Ask → Float) (f : Fields) → (kept g m f) .«dm28_set» ≡ cond b true (f .«dm28_set»)
+Marks b m = (g : Ask → Float) (f : Fields) → (fieldsAfter g m f) .«dm28_set» ≡ cond b true (f .«dm28_set»)
 
 -- a plan that leaves the mark
 abbrev pub Unmarking : {A : Type 0} → Plan A → Type 0
 Unmarking m = Marks false m
 
 pub done-leaves : {A : Type 0} (a : A) → Unmarking (done a)
-unfolding kept
+unfolding fieldsAfter
 done-leaves a g f = refl
 
 pub ask-marks : {A : Type 0} (b : Bool) (q : Ask) (k : Float → Plan A) → ((x : Float) → Marks b (k x)) → Marks b (ask q k)
-unfolding kept
+unfolding fieldsAfter
 ask-marks b q k h g f = h (g q) g f
 
 pub keep-marks : {A : Type 0} (b : Bool) (u : Fields → Fields) (m : Plan A) → Leaves u → Marks b m → Marks b (keep u m)
-unfolding kept
+unfolding fieldsAfter
 keep-marks b u m h i g f = i g (u f) ∙ ap (cond b true) (h f)
 
 -- a step that sets the mark where b holds
-pub when-marks : {A : Type 0} (b : Bool) (u : Fields → Fields) (m : Plan A) → ((f : Fields) → (u f) .«dm28_set» ≡ true) → Unmarking m → Marks b (keep (when b u) m)
-unfolding kept
+pub when-marks : {A : Type 0} (b : Bool) (u : Fields → Fields) (m : Plan A) → ((f : Fields) → (u f) .«dm28_set» ≡ true) → Unmarking m → Marks b (keep (setWhen b u) m)
+unfolding fieldsAfter
 when-marks true u m h i g f = i g (u f) ∙ h f
 when-marks false u m h i g f = i g f
 
@@ -107,7 +107,7 @@ either-leaves false x y h i = i
 
 -- one plan, then another: the mark is set by the first, or by the second
 pub then-leaves : {A B : Type 0} (b : Bool) (m : Plan A) (k : A → Plan B) → Marks b m → ((a : A) → Unmarking (k a)) → Marks b (m >>= k)
-then-leaves b m k h i g f = ap (λ (x : Fields). x .«dm28_set») (kept->>= g m k f) ∙ i (told g m) g (kept g m f) ∙ h g f
+then-leaves b m k h i g f = ap (λ (x : Fields). x .«dm28_set») (kept->>= g m k f) ∙ i (told g m) g (fieldsAfter g m f) ∙ h g f
 
 pub then-marks : {A B : Type 0} (b : Bool) (m : Plan A) (k : A → Plan B) → Unmarking m → ((a : A) → Marks b (k a)) → Marks b (m >>= k)
-then-marks b m k h i g f = ap (λ (x : Fields). x .«dm28_set») (kept->>= g m k f) ∙ i (told g m) g (kept g m f) ∙ ap (cond b true) (h g f)
+then-marks b m k h i g f = ap (λ (x : Fields). x .«dm28_set») (kept->>= g m k f) ∙ i (told g m) g (fieldsAfter g m f) ∙ ap (cond b true) (h g f)

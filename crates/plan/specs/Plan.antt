@@ -11,9 +11,9 @@ use Rattle.setting.specs.declared.State.{State}
 use Rattle.setting.specs.declared.View.{View}
 use Rattle.setting.specs.declared.Valued.{Valued}
 use Rattle.tables.specs.Names.{Wide, Narrow, wide, narrow, PT, PS, PD0, PD1, PD2, PD3, PD4, PD5, PD6, PD7, PD8, PTL0, PTL1, PTL2, PTL3, PMA0, PMA1, PMA2, PMA3, PMA4, PMA5, PMA6, PMA7, PMA8, PMA9}
-use Rattle.plan.specs.declared.Levels.{Levels}
+use Rattle.plan.specs.declared.ExpansionValues.{ExpansionValues}
 use Rattle.plan.specs.Fields.{Fields, fieldsOf, withFields}
-use Rattle.expansion.specs.Expansion.{carriedOf, turnsAfterOf, afterOf, globe7Of, glob7sOf}
+use Rattle.expansion.specs.Expansion.{carriedOf, turnsAfterOf, stateAfter, globe7Of, glob7sOf}
 
 -- 1 + f * globe7
 unfoldable pub onePlusGlobe7Of : View → Float → List Float → State → Valued
@@ -106,13 +106,13 @@ told->>= g (ask q f) k = told->>= g (f (g q)) k
 told->>= g (keep u m) k = told->>= g m k
 
 -- the fields that its steps leave
-unfoldable pub kept : {A : Type 0} → (Ask → Float) → Plan A → Fields → Fields
-kept g (done a) f = f
-kept g (ask q k) f = kept g (k (g q)) f
-kept g (keep u m) f = kept g m (u f)
+unfoldable pub fieldsAfter : {A : Type 0} → (Ask → Float) → Plan A → Fields → Fields
+fieldsAfter g (done a) f = f
+fieldsAfter g (ask q k) f = fieldsAfter g (k (g q)) f
+fieldsAfter g (keep u m) f = fieldsAfter g m (u f)
 
-pub kept->>= : {A B : Type 0} (g : Ask → Float) (m : Plan A) (k : A → Plan B) (f : Fields) → kept g (m >>= k) f ≡ kept g (k (told g m)) (kept g m f)
-unfolding told kept _>>=_
+pub kept->>= : {A B : Type 0} (g : Ask → Float) (m : Plan A) (k : A → Plan B) (f : Fields) → fieldsAfter g (m >>= k) f ≡ fieldsAfter g (k (told g m)) (fieldsAfter g m f)
+unfolding told fieldsAfter _>>=_
 kept->>= g (done a) k f = refl
 kept->>= g (ask q j) k f = kept->>= g (j (g q)) k f
 kept->>= g (keep u m) k f = kept->>= g m k (u f)
@@ -131,18 +131,14 @@ told-keep g u m = refl
 
 -- a plan told its answers, with a State: its result, and the State with the fields that its steps leave
 unfoldable pub stepped : {A : Type 0} → (Ask → Float) → Plan A → State → Ran A
-stepped g m s = ends (told g m) (withFields s (kept g m (fieldsOf s)))
+stepped g m s = ends (told g m) (withFields s (fieldsAfter g m (fieldsOf s)))
 
 pub stepped-done : {A : Type 0} (g : Ask → Float) (a : A) (s : State) → stepped g (done a) s ≡ ends a s
-unfolding stepped told kept
+unfolding stepped told fieldsAfter
 stepped-done g a s = refl
 
-pub stepped-ask : {A : Type 0} (g : Ask → Float) (q : Ask) (k : Float → Plan A) (s : State) → stepped g (ask q k) s ≡ stepped g (k (g q)) s
-unfolding stepped told kept
-stepped-ask g q k s = refl
-
 pub stepped-keep : {A : Type 0} (g : Ask → Float) (u : Fields → Fields) (m : Plan A) (s : State) → stepped g (keep u m) s ≡ stepped g m (withFields s (u (fieldsOf s)))
-unfolding stepped told kept
+unfolding stepped told fieldsAfter
 stepped-keep g u m s = refl
 
 -- a stage whose result and State are known, then the rest
@@ -151,19 +147,19 @@ pub stepped-then : {A B : Type 0} (g : Ask → Float) (m : Plan A) (k : A → Pl
 unfolding stepped
 stepped-then g m k s a t e =
     ap₂ (λ (b : _) (f : Fields). ends b (withFields s f)) (told->>= g m k) (kept->>= g m k (fieldsOf s))
-    ∙ ap (λ (r : Ran _). ends (told g (k (r .result))) (withFields (r .left) (kept g (k (r .result)) (fieldsOf (r .left))))) e
+    ∙ ap (λ (r : Ran _). ends (told g (k (r .result))) (withFields (r .left) (fieldsAfter g (k (r .result)) (fieldsOf (r .left))))) e
 
 -- an answer sees none of the seventeen fields, and leaves them as they were
 pub answer-fields : (v : View) (q : Ask) (s : State) (f : Fields)
     → answer v q (withFields s f) ≡ record { value = (answer v q s) .value; state = withFields ((answer v q s) .state) f }
-unfolding answer onePlusGlobe7Of expGlobe7Of onePlusGlob7sOf oneMinusGlob7sOf globe7Of glob7sOf carriedOf afterOf turnsAfterOf
+unfolding answer onePlusGlobe7Of expGlobe7Of onePlusGlob7sOf oneMinusGlob7sOf globe7Of glob7sOf carriedOf stateAfter turnsAfterOf
 answer-fields v (one-plus-globe7 c p) s f = refl
 answer-fields v (exp-globe7 c p) s f = refl
 answer-fields v (one-plus-glob7s c p) s f = refl
 answer-fields v (one-minus-glob7s c p) s f = refl
 
--- the value of globe7 over a set, among the Levels
-abbrev pub wideIn : Levels → Wide → Float
+-- the value of globe7 over a set, among the expansions' values
+abbrev pub wideIn : ExpansionValues → Wide → Float
 wideIn l PT = l .pt
 wideIn l PS = l .ps
 wideIn l PD0 = l .pd0
@@ -176,8 +172,8 @@ wideIn l PD6 = l .pd6
 wideIn l PD7 = l .pd7
 wideIn l PD8 = l .pd8
 
--- the value of glob7s over a set, among the Levels
-abbrev pub narrowIn : Levels → Narrow → Float
+-- the value of glob7s over a set, among the expansions' values
+abbrev pub narrowIn : ExpansionValues → Narrow → Float
 narrowIn l PTL0 = l .ptl0
 narrowIn l PTL1 = l .ptl1
 narrowIn l PTL2 = l .ptl2
@@ -193,9 +189,9 @@ narrowIn l PMA7 = l .pma7
 narrowIn l PMA8 = l .pma8
 narrowIn l PMA9 = l .pma9
 
--- the answer, from the Levels
-abbrev pub given : Levels → Ask → Float
-given l (one-plus-globe7 f p) = 1·0 ⊕ f ⊗ wideIn l p
-given l (exp-globe7 f p) = expOf (f ⊗ wideIn l p)
-given l (one-plus-glob7s f p) = 1·0 ⊕ f ⊗ narrowIn l p
-given l (one-minus-glob7s f p) = 1·0 ⊖ f ⊗ narrowIn l p
+-- the answer, from the expansions' values
+abbrev pub answerTo : ExpansionValues → Ask → Float
+answerTo l (one-plus-globe7 f p) = 1·0 ⊕ f ⊗ wideIn l p
+answerTo l (exp-globe7 f p) = expOf (f ⊗ wideIn l p)
+answerTo l (one-plus-glob7s f p) = 1·0 ⊕ f ⊗ narrowIn l p
+answerTo l (one-minus-glob7s f p) = 1·0 ⊖ f ⊗ narrowIn l p

@@ -57,8 +57,8 @@ flooredOf re zn tn n tgn alt =
     layerOf re zn tn n tgn z
 
 -- densu's variables where `alt < za` does not hold: z1, t1, zgdif, x and the three arrays are 0
-unfoldable pub unsetOf : Float → Curve
-unsetOf tz =
+unfoldable pub unsetCurve : Float → Curve
+unsetCurve tz =
     record {
       z1 = 0·0;
       t1 = 0·0;

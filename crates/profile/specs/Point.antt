@@ -9,8 +9,8 @@ use Rattle.numbers.specs.Literals.{0·0, 1·0, 2·0, 50·0}
 use Rattle.elementary.specs.Exp.{expOf}
 use Rattle.elementary.specs.Pow.{powOf}
 use Rattle.spline.specs.Nodes.{spliniOf}
-use Rattle.profile.specs.Curve.{flooredOf, unsetOf, exponentOf, cappedOf}
-use Rattle.profile.specs.Profile.{gradientOf, densaOf, aboveOf, belowOf, zg2Of, ttOf, densuOf, densu5Of}
+use Rattle.profile.specs.Curve.{flooredOf, unsetCurve, exponentOf, cappedOf}
+use Rattle.profile.specs.Profile.{gradientOf, densaOf, densuAbove, densuBelow, zg2Of, ttOf, densuOf, densu5Of}
 use Rattle.profile.specs.declared.curve.Curve.{Curve}
 use Rattle.profile.specs.declared.point.Point.{Point}
 use Rattle.profile.specs.declared.unchecked.Shape.{Shape}
@@ -44,12 +44,12 @@ pointOf h z zlb zn =
     let tt = ttOf (h .re) z (h .tinf) (h .tlb) zlb (h .s) za in
     cond (lt z za)
     (onCurve h z zg2 tt (flooredOf (h .re) zn (set (h .tn) 0 tt) 5 (set (h .tgn) 0 (gradientOf (h .re) (h .tinf) tt zlb (h .s) za)) z))
-    (cond (le za z) (offCurve z zg2 tt) (onCurve h z zg2 tt (unsetOf tt)))
+    (cond (le za z) (offCurve z zg2 tt) (onCurve h z zg2 tt (unsetCurve tt)))
 
 -- densu of a gas at such an altitude
 unfoldable pub densuAt : Shape → Point → Float → Float → Float → Float → Profile
 densuAt h p dlb xm alpha zlb =
-    cond (not (p .under)) (aboveOf (h .rgas) (h .gsurf) (h .re) dlb (h .tinf) (h .tlb) xm alpha zlb (h .s) (p .zg2) (p .tt))
+    cond (not (p .under)) (densuAbove (h .rgas) (h .gsurf) (h .re) dlb (h .tinf) (h .tlb) xm alpha zlb (h .s) (p .zg2) (p .tt))
     (cond (eq xm 0·0) (Temperature (p .tz))
     (let densa = densaOf (h .rgas) (h .gsurf) (h .re) dlb (h .tinf) (h .tlb) xm alpha zlb (h .s) (p .zg2) (p .tt) in
     let expl = cond (le (p .tz) 0·0) 50·0 (cappedOf (xm ⊗ p .glb ⊗ p .zgdif ⊘ h .rgas ⊗ p .yi)) in
@@ -62,7 +62,7 @@ split F false false x y w = refl
 
 -- The two parts together are densu
 pub densu-at : (h : Shape) (z dlb xm alpha zlb : Float) (zn : List Float) → densuAt h (pointOf h z zlb zn) dlb xm alpha zlb ≡ densu5Of h z dlb xm alpha zlb zn
-unfolding densuAt pointOf onCurve offCurve densu5Of densuOf belowOf exponentOf
+unfolding densuAt pointOf onCurve offCurve densu5Of densuOf densuBelow exponentOf
 densu-at h z dlb xm alpha zlb zn = split (λ (p : Point). densuAt h p dlb xm alpha zlb) (lt z (zn ‼ 0)) (le (zn ‼ 0) z) _ _ _
 
 same : (b c : Bool) (z : Float) (x y w : Point) → x .z ≡ z → y .z ≡ z → w .z ≡ z → (cond b x (cond c y w)) .z ≡ z

@@ -9,7 +9,7 @@ use Rattle.numbers.specs.Literals.{0·0, 1·0, 2·0, 50·0}
 use Rattle.elementary.specs.Exp.{expOf}
 use Rattle.elementary.specs.Pow.{powOf}
 use Rattle.profile.specs.Gravity.{zetaOf}
-use Rattle.profile.specs.Curve.{layerOf, flooredOf, unsetOf, exponentOf, cappedOf}
+use Rattle.profile.specs.Curve.{layerOf, flooredOf, unsetCurve, exponentOf, cappedOf}
 use Rattle.profile.specs.declared.curve.Curve.{Curve}
 use Rattle.profile.specs.declared.unchecked.Shape.{Shape}
 use Rattle.profile.specs.declared.unchecked.Profile.{Profile}
@@ -32,14 +32,14 @@ densaOf rgas gsurf re dlb tinf tlb xm alpha zlb s2 zg2 tt =
     dlb ⊗ powOf (tlb ⊘ tt) (1·0 ⊕ alpha ⊕ gamma) ⊗ expl
 
 -- densu from `if xm == 0.0` on, where alt is at or above za
-unfoldable pub aboveOf : Float → Float → Float → Float → Float → Float → Float → Float → Float → Float → Float → Float → Profile
-aboveOf rgas gsurf re dlb tinf tlb xm alpha zlb s2 zg2 tt =
+unfoldable pub densuAbove : Float → Float → Float → Float → Float → Float → Float → Float → Float → Float → Float → Float → Profile
+densuAbove rgas gsurf re dlb tinf tlb xm alpha zlb s2 zg2 tt =
     cond (eq xm 0·0) (Temperature tt)
     (Density (densaOf rgas gsurf re dlb tinf tlb xm alpha zlb s2 zg2 tt) tt)
 
 -- densu from `if xm == 0.0` on, where alt is not at or above za
-unfoldable pub belowOf : Float → Float → Float → Float → Float → Float → Float → Float → Float → Float → Float → Float → Curve → ℕ → Profile
-belowOf rgas gsurf re dlb tinf tlb xm alpha zlb s2 zg2 tt l n =
+unfoldable pub densuBelow : Float → Float → Float → Float → Float → Float → Float → Float → Float → Float → Float → Float → Curve → ℕ → Profile
+densuBelow rgas gsurf re dlb tinf tlb xm alpha zlb s2 zg2 tt l n =
     cond (eq xm 0·0) (Temperature (l .tz))
     (let densa = densaOf rgas gsurf re dlb tinf tlb xm alpha zlb s2 zg2 tt in
     let expl = cond (le (l .tz) 0·0) 50·0 (cappedOf (exponentOf rgas gsurf re xm l n)) in
@@ -60,10 +60,10 @@ densuOf rgas gsurf re alt dlb tinf tlb xm alpha zlb s2 mn1 zn1 tn1 tgn1 =
     let tt = ttOf re alt tinf tlb zlb s2 za in
     cond (lt alt za)
     (let dta = gradientOf re tinf tt zlb s2 za in
-    belowOf rgas gsurf re dlb tinf tlb xm alpha zlb s2 zg2 tt (flooredOf re zn1 (set tn1 0 tt) mn1 (set tgn1 0 dta) alt) mn1)
+    densuBelow rgas gsurf re dlb tinf tlb xm alpha zlb s2 zg2 tt (flooredOf re zn1 (set tn1 0 tt) mn1 (set tgn1 0 dta) alt) mn1)
     (cond (le za alt)
-    (aboveOf rgas gsurf re dlb tinf tlb xm alpha zlb s2 zg2 tt)
-    (belowOf rgas gsurf re dlb tinf tlb xm alpha zlb s2 zg2 tt (unsetOf tt) mn1))
+    (densuAbove rgas gsurf re dlb tinf tlb xm alpha zlb s2 zg2 tt)
+    (densuBelow rgas gsurf re dlb tinf tlb xm alpha zlb s2 zg2 tt (unsetCurve tt) mn1))
 
 -- what densu leaves in tn1 and tgn1: element 0 changes, and only where alt is below za
 unfoldable pub tn1Of : Float → Float → Float → Float → Float → Float → List Float → List Float → List Float
@@ -90,18 +90,18 @@ loweredOf rgas gsurf re xm d l n =
     d ⊗ (l .t1 ⊘ l .tz) ⊗ expOf (neg expl))
 
 -- densm's `if xm == 0.0`, which it has three times
-unfoldable pub answerOf : Float → Float → Float → Profile
-answerOf xm d tz = cond (eq xm 0·0) (Temperature tz) (Density d tz)
+unfoldable pub profileAnswer : Float → Float → Float → Profile
+profileAnswer xm d tz = cond (eq xm 0·0) (Temperature tz) (Density d tz)
 
 -- densm
 unfoldable pub densmOf : Float → Float → Float → Float → Float → Float → Float → ℕ → List Float → List Float → List Float → ℕ → List Float → List Float → List Float → Profile
 densmOf rgas gsurf re alt d0 xm tz mn3 zn3 tn3 tgn3 mn2 zn2 tn2 tgn2 =
-    cond (lt (zn2 ‼ 0) alt) (answerOf xm d0 tz)
+    cond (lt (zn2 ‼ 0) alt) (profileAnswer xm d0 tz)
     (let l = flooredOf re zn2 tn2 mn2 tgn2 alt in
     let d1 = loweredOf rgas gsurf re xm d0 l mn2 in
-    cond (lt (zn3 ‼ 0) alt) (answerOf xm d1 (l .tz))
+    cond (lt (zn3 ‼ 0) alt) (profileAnswer xm d1 (l .tz))
     (let k = layerOf re zn3 tn3 mn3 tgn3 alt in
-    answerOf xm (loweredOf rgas gsurf re xm d1 k mn3) (k .tz)))
+    profileAnswer xm (loweredOf rgas gsurf re xm d1 k mn3) (k .tz)))
 
 -- the number that the Rust returns, and the temperature that it writes
 abbrev pub densityIn : Profile → Float

@@ -2,7 +2,7 @@
 ghost use mathlib.Core.Path.{_≡_};
 ghost use Prim.Native.Nat.{_≤_};
 ghost use lib.ListN.{length};
-ghost use Rattle.profile.specs.Curve.{nodeXsOf, nodeYsOf, slopeOf, layerOf, flooredOf, unsetOf, exponentOf, cappedOf};
+ghost use Rattle.profile.specs.Curve.{nodeXsOf, nodeYsOf, slopeOf, layerOf, flooredOf, unsetCurve, exponentOf, cappedOf};
 ghost use Rattle.spline.specs.Nodes.{spliniOf};
 use super::gravity::zeta;
 use elementary::power::pow;
@@ -102,7 +102,7 @@ pub fn floored(re: f64, zn: &[f64], tn: &[f64], n: usize, tgn: &[f64], alt: f64)
 
 // What densu goes on with where no spline was made.
 pub fn unset(tz: f64) -> Curve
-    ensures { λ r. ⌜ r ≡ unsetOf tz ⌝ }
+    ensures { λ r. ⌜ r ≡ unsetCurve tz ⌝ }
 {
     Curve {
         z1: 0.0,

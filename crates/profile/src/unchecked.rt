@@ -2,7 +2,7 @@
 ghost use mathlib.Core.Path.{_≡_};
 ghost use Prim.Native.Nat.{_≤_};
 ghost use lib.ListN.{length};
-ghost use Rattle.profile.specs.Profile.{batesOf, gradientOf, densaOf, aboveOf, belowOf, densuOf, tn1Of, tgn1Of, densu5Of, loweredOf, answerOf, densmOf, densityIn, temperatureIn};
+ghost use Rattle.profile.specs.Profile.{batesOf, gradientOf, densaOf, densuAbove, densuBelow, densuOf, tn1Of, tgn1Of, densu5Of, loweredOf, profileAnswer, densmOf, densityIn, temperatureIn};
 use super::curve::Curve;
 use super::curve::capped;
 use super::curve::exponent;
@@ -88,7 +88,7 @@ pub fn above(
     zg2: f64,
     tt: f64,
 ) -> Profile
-    ensures { λ r. ⌜ r ≡ aboveOf rgas gsurf re dlb tinf tlb xm alpha zlb s2 zg2 tt ⌝ }
+    ensures { λ r. ⌜ r ≡ densuAbove rgas gsurf re dlb tinf tlb xm alpha zlb s2 zg2 tt ⌝ }
 {
     if xm == 0.0 {
         return Profile::Temperature(tt);
@@ -115,7 +115,7 @@ pub fn below(
     n: usize,
 ) -> Profile
     requires { ⌜ (2 ≤ n) × (n ≤ 10) ⌝ }
-    ensures { λ r. ⌜ r ≡ belowOf rgas gsurf re dlb tinf tlb xm alpha zlb s2 zg2 tt l n ⌝ }
+    ensures { λ r. ⌜ r ≡ densuBelow rgas gsurf re dlb tinf tlb xm alpha zlb s2 zg2 tt l n ⌝ }
 {
     if xm == 0.0 {
         return Profile::Temperature(l.tz);
@@ -280,7 +280,7 @@ pub fn lowered(rgas: f64, gsurf: f64, re: f64, xm: f64, d: f64, l: Curve, n: usi
 
 // The temperature where xm is 0, else the density with it.
 pub fn answer(xm: f64, d: f64, tz: f64) -> Profile
-    ensures { λ r. ⌜ r ≡ answerOf xm d tz ⌝ }
+    ensures { λ r. ⌜ r ≡ profileAnswer xm d tz ⌝ }
 {
     if xm == 0.0 {
         return Profile::Temperature(tz);

@@ -15,7 +15,7 @@ use Rattle.species.proofs.Laws.{logged-at}
 use Rattle.region.specs.declared.Turbopauses.{Turbopauses}
 use Rattle.species.specs.Places.{placeAt}
 use Rattle.tables.specs.Tables.{pdlT1}
-use Rattle.region.specs.Region.{turbopausesOf, warmthAt}
+use Rattle.region.specs.Region.{turbopausesOf, temperatureAt}
 
 pub turbopauses-logged : (h : Shape) (zhf : Float) (w : Turbopauses) → w ≡ turbopausesOf h zhf → Logged (w .n2) × Logged (w .he) × Logged (w .o) × Logged (w .h)
 unfolding turbopausesOf
@@ -30,6 +30,6 @@ pub under-logged : (re : Float) (s : Spine) (z za low : Float) (p : Place) → p
 unfolding underOf
 under-logged re s z za low p e l = subst Logged (sym e) (l, refl)
 
-pub warm-over : (h : Shape) (s : Spine) (r : Float) (l : List Float) (w : Place) → w ≡ placeAt h r → l ≡ pdlT1 → lt r (l ‼ 15) ≡ false → w .tz ≡ warmthAt h s r
-unfolding warmthAt
+pub warm-over : (h : Shape) (s : Spine) (r : Float) (l : List Float) (w : Place) → w ≡ placeAt h r → l ≡ pdlT1 → lt r (l ‼ 15) ≡ false → w .tz ≡ temperatureAt h s r
+unfolding temperatureAt
 warm-over h s r l w e0 e1 e2 = ap (λ (p : Place). p .tz) e0 ∙ sym (ap (λ (b : Bool). cond b ((underOf (h .re) s r (pdlT1 ‼ 15) 72·5) .tz) ((placeAt h r) .tz)) (rw e1 at e2))

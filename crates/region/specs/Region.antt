@@ -12,15 +12,14 @@ use Rattle.places.specs.Place.{underOf}
 use Rattle.places.specs.declared.place.Spine.{Spine}
 use Rattle.places.specs.declared.place.Place.{Place}
 use Rattle.places.specs.declared.thinning.Thinning.{Thinning}
-use Rattle.plan.specs.declared.Levels.{Levels}
+use Rattle.plan.specs.declared.ExpansionValues.{ExpansionValues}
 use Rattle.profile.specs.declared.unchecked.Shape.{Shape}
-use Rattle.species.specs.declared.Root.{Root}
 use Rattle.species.specs.Places.{placeAt}
-use Rattle.species.specs.Rooted.{mixingOf, n2RootOf, heliumRootOf, oxygenRootOf, o2RootOf, argonRootOf, hydrogenRootOf, nitrogenRootOf, n2From, heliumFrom, oxygenFrom, o2From, argonFrom, hydrogenFrom, nitrogenFrom, hotFactorOf, hotFrom}
+use Rattle.species.specs.Rooted.{mixingOf, n2RootOf, heliumRootOf, oxygenRootOf, o2RootOf, argonRootOf, hydrogenRootOf, nitrogenRootOf, n2From, heliumFrom, oxygenFrom, o2From, argonFrom, hydrogenFrom, nitrogenFrom, anomalousFactorOf, anomalousOxygenFrom}
 use Rattle.tables.specs.Tables.{pdT0, pdT1, pdT2, pdT4, pdT5, pdT6, pdT7, pdT8, pdmT0, pdmT1, pdmT2, pdmT3, pdmT4, pdmT5, pdmT6, pdmT7, pdlT0, pdlT1}
-use Rattle.upper.specs.declared.Site.{Site}
-use Rattle.upper.specs.declared.Six.{Six}
-use Rattle.upper.specs.Upper.{anomalousOf, rowOf}
+use Rattle.gts7_arithmetic.specs.declared.Site.{Site}
+use Rattle.gts7_arithmetic.specs.declared.SixSpecies.{SixSpecies}
+use Rattle.gts7_arithmetic.specs.Gts7Arithmetic.{anomalousOf, rowOf}
 use mathlib.Core.List.{List}
 use Rattle.region.specs.declared.ThinBases.{ThinBases}
 use Rattle.region.specs.declared.DenseBases.{DenseBases}
@@ -32,7 +31,7 @@ use Rattle.region.specs.declared.Roots.{Roots}
 unfoldable pub baseOf : Float → Float → Float → Float → Float
 baseOf m f level c = m ⊗ expOf (f ⊗ level) ⊗ c
 
-unfoldable pub thinBasesOf : Float → Levels → ThinBases
+unfoldable pub thinBasesOf : Float → ExpansionValues → ThinBases
 thinBasesOf f l =
     record {
       he = baseOf (pdmT0 ‼ 0) f (l .pd0) (pdT0 ‼ 0);
@@ -41,7 +40,7 @@ thinBasesOf f l =
       hot = baseOf (pdmT7 ‼ 0) f (l .pd8) (pdT8 ‼ 0);
     }
 
-unfoldable pub denseBasesOf : Float → Levels → DenseBases
+unfoldable pub denseBasesOf : Float → ExpansionValues → DenseBases
 denseBasesOf f l =
     record {
       n2 = baseOf (pdmT2 ‼ 0) f (l .pd2) (pdT2 ‼ 0);
@@ -50,7 +49,7 @@ denseBasesOf f l =
       ar = baseOf (pdmT4 ‼ 0) f (l .pd5) (pdT5 ‼ 0);
     }
 
-unfoldable pub basesOf : Float → Levels → Bases
+unfoldable pub basesOf : Float → ExpansionValues → Bases
 basesOf f l = record { thin = thinBasesOf f l; dense = denseBasesOf f l }
 
 -- the turbopauses of N2, helium, O (and O2, argon, N) and hydrogen
@@ -71,14 +70,14 @@ rootsFrom rgas gsurf re w flux xmm d =
       n = nitrogenRootOf true (w .o) (d .thin .n) (n2 .b) xmm;
       rate = pdmT3 ‼ 3 ⊗ pdlT1 ‼ 23 ⊗ flux;
       hot = d .thin .hot;
-      factor = hotFactorOf rgas gsurf re (pdmT7 ‼ 5) (pdmT7 ‼ 4) (pdmT7 ‼ 9 ⊗ pdlT0 ‼ 6);
+      factor = anomalousFactorOf rgas gsurf re (pdmT7 ‼ 5) (pdmT7 ‼ 4) (pdmT7 ‼ 9 ⊗ pdlT0 ‼ 6);
     }
 
 -- over a shape
 unfoldable pub rootsOf : Shape → Site → Bases → Roots
 rootsOf h x d = rootsFrom (h .rgas) (h .gsurf) (h .re) (turbopausesOf h (x .zhf)) (x .flux) (x .nine .xmm) d
 
-unfoldable pub sixAt : Float → Mixed → Float → Roots → Place → Thinning → Float → Float → Six
+unfoldable pub sixAt : Float → Mixed → Float → Roots → Place → Thinning → Float → Float → SixSpecies
 sixAt sw15 m z q p t zhm xmm =
     record {
       he = heliumFrom (m .he) z p t (q .he) zhm xmm;
@@ -96,17 +95,17 @@ rowAt c sw0 sw15 z tinf q p k t1 =
     let t = mixingOf (someMixed m) p (c .xmm) in
     let n2 = n2From (m .n2) p t (q .n2) (c .xmm) in
     let y = sixAt sw15 m z q p t (pdmT2 ‼ 3 ⊗ pdlT1 ‼ 5) (c .xmm) in
-    rowOf sw0 tinf (n2 .dens) y (hotFrom z k (q .hot) (q .factor) (pdmT7 ‼ 5) (pdmT7 ‼ 4)) t1
+    rowOf sw0 tinf (n2 .dens) y (anomalousOxygenFrom z k (q .hot) (q .factor) (pdmT7 ‼ 5) (pdmT7 ‼ 4)) t1
 
 -- at or above za
 unfoldable pub rowOver : Parameters → Float → Float → Shape → Roots → Float → List Float
 rowOver c sw0 sw15 h q z =
     rowAt c sw0 sw15 z (h .tinf) q (placeAt h z) (placeAt (anomalousOf h) z) ((placeAt h (sqrtOf (z ⊗ z))) .tz)
 
-unfoldable pub warmthAt : Shape → Spine → Float → Float
-warmthAt h s r = cond (lt r (pdlT1 ‼ 15)) ((underOf (h .re) s r (pdlT1 ‼ 15) 72·5) .tz) ((placeAt h r) .tz)
+unfoldable pub temperatureAt : Shape → Spine → Float → Float
+temperatureAt h s r = cond (lt r (pdlT1 ‼ 15)) ((underOf (h .re) s r (pdlT1 ‼ 15) 72·5) .tz) ((placeAt h r) .tz)
 
 -- below za, from the spines
 unfoldable pub rowUnder : Parameters → Float → Float → Shape → Spine → Spine → Roots → Float → List Float
 rowUnder c sw0 sw15 h s g q z =
-    rowAt c sw0 sw15 z (h .tinf) q (underOf (h .re) s z (pdlT1 ‼ 15) 72·5) (underOf (h .re) g z (pdlT1 ‼ 15) 72·5) (warmthAt h s (sqrtOf (z ⊗ z)))
+    rowAt c sw0 sw15 z (h .tinf) q (underOf (h .re) s z (pdlT1 ‼ 15) 72·5) (underOf (h .re) g z (pdlT1 ‼ 15) 72·5) (temperatureAt h s (sqrtOf (z ⊗ z)))

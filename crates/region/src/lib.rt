@@ -5,27 +5,31 @@ ghost use Rattle.elementary.specs.Log.{logOf};
 ghost use Rattle.parameters.specs.Parameters.{presentOf};
 ghost use Rattle.places.specs.Thinning.{Logged};
 ghost use Rattle.species.specs.Places.{spineAt, placeAt};
-ghost use Rattle.region.specs.Region.{baseOf, thinBasesOf, denseBasesOf, basesOf, turbopausesOf, rootsFrom, rootsOf, sixAt, rowAt, rowOver, warmthAt, rowUnder};
+ghost use Rattle.region.specs.Region.{baseOf, thinBasesOf, denseBasesOf, basesOf, turbopausesOf, rootsFrom, rootsOf, sixAt, rowAt, rowOver, temperatureAt, rowUnder};
 use elementary::exponential::exp;
 use elementary::root::sqrt;
+use gts7_arithmetic::Site;
+use gts7_arithmetic::SixSpecies;
+use gts7_arithmetic::anomalous;
+use gts7_arithmetic::row_from;
 use mixing::limits::Mixed;
 use mixing::limits::mixed_at;
 use mixing::limits::some_mixed;
 use parameters::present;
 use places::place::Place;
 use places::place::Spine;
+use places::place::temperature_under;
 use places::place::under;
-use places::place::warmth_under;
 use places::thinning::Thinning;
-use plan::Levels;
+use plan::ExpansionValues;
 use profile::unchecked::Shape;
 use species::Root;
+use species::anomalous_factor;
+use species::anomalous_oxygen;
 use species::argon;
 use species::argon_root;
 use species::helium;
 use species::helium_root;
-use species::hot;
-use species::hot_factor;
 use species::hydrogen;
 use species::hydrogen_root;
 use species::mixing_at;
@@ -57,10 +61,6 @@ use tables::pdm4;
 use tables::pdm5;
 use tables::pdm6;
 use tables::pdm7;
-use upper::Site;
-use upper::Six;
-use upper::anomalous;
-use upper::row_from;
 
 // The densities at the lower boundary of the four species that reach highest, and of the others.
 pub struct ThinBases {
@@ -112,7 +112,7 @@ pub fn base(m: f64, f: f64, level: f64, c: f64) -> f64
     m * g * c
 }
 
-pub fn thin_bases(f: f64, l: Levels) -> ThinBases
+pub fn thin_bases(f: f64, l: ExpansionValues) -> ThinBases
     ensures { λ r. ⌜ r ≡ thinBasesOf f l ⌝ }
 {
     let c0 = pd0();
@@ -135,7 +135,7 @@ pub fn thin_bases(f: f64, l: Levels) -> ThinBases
     }
 }
 
-pub fn dense_bases(f: f64, l: Levels) -> DenseBases
+pub fn dense_bases(f: f64, l: ExpansionValues) -> DenseBases
     ensures { λ r. ⌜ r ≡ denseBasesOf f l ⌝ }
 {
     let c1 = pd1();
@@ -159,7 +159,7 @@ pub fn dense_bases(f: f64, l: Levels) -> DenseBases
 }
 
 // No region changes these.
-pub fn bases_of(f: f64, l: Levels) -> Bases
+pub fn bases_of(f: f64, l: ExpansionValues) -> Bases
     ensures { λ r. ⌜ r ≡ basesOf f l ⌝ }
 {
     let a = thin_bases(f, l);
@@ -217,7 +217,7 @@ pub fn roots_from(
     let ar = argon_root(true, wo, b.ar, n2.b, xmm);
     let h = hydrogen_root(true, wh, a.h, n2.b, xmm);
     let n = nitrogen_root(true, wo, a.n, n2.b, xmm);
-    let f = hot_factor(rgas, gsurf, re, m7[5], m7[4], m7[9] * k[6]);
+    let f = anomalous_factor(rgas, gsurf, re, m7[5], m7[4], m7[9] * k[6]);
     Roots {
         n2: n2,
         he: he,
@@ -252,7 +252,7 @@ pub fn six_at(
     t: Thinning,
     zhm: f64,
     xmm: f64,
-) -> Six
+) -> SixSpecies
     requires { ⌜ Logged p ⌝ }
     ensures { λ r. ⌜ r ≡ sixAt sw15 m z q p t zhm xmm ⌝ }
 {
@@ -268,7 +268,7 @@ pub fn six_at(
     let ar = argon(m.ar, z, p, t, d, zhm, xmm);
     let h = hydrogen(m.h, z, p, t, e, zhm, xmm);
     let n = nitrogen(m.n, z, p, t, f, zhm, xmm);
-    Six {
+    SixSpecies {
         he: he,
         o: o,
         o2: o2,
@@ -302,7 +302,7 @@ pub fn row_at(
     let a = q.n2;
     let n2 = n2(g.n2, p, t, a, c.xmm);
     let y = six_at(sw15, g, z, q, p, t, m[3] * l[5], c.xmm);
-    let oh = hot(z, k, q.hot, q.factor, m7[5], m7[4]);
+    let oh = anomalous_oxygen(z, k, q.hot, q.factor, m7[5], m7[4]);
     row_from(sw0, tinf, n2.dens, y, oh, t1)
 }
 
@@ -319,12 +319,12 @@ pub fn row_over(sw0: f64, sw15: f64, h: Shape, q: Roots, z: f64) -> [f64; 11]
 }
 
 // The temperature at r, which is z but for its rounding: below za from the spine.
-pub fn warmth_at(h: Shape, s: Spine, r: f64) -> f64
-    ensures { λ t. ⌜ t ≡ warmthAt h s r ⌝ }
+pub fn temperature_at(h: Shape, s: Spine, r: f64) -> f64
+    ensures { λ t. ⌜ t ≡ temperatureAt h s r ⌝ }
 {
     let l = pdl1();
     if r < l[15] {
-        return warmth_under(h.re, s, r, l[15], 72.5);
+        return temperature_under(h.re, s, r, l[15], 72.5);
     }
     let w = place_alone_at(h, r);
     w.tz
@@ -339,6 +339,6 @@ pub fn row_under(sw0: f64, sw15: f64, h: Shape, s: Spine, g: Spine, q: Roots, z:
     let p = under(h.re, s, z, l[15], 72.5);
     let k = under(h.re, g, z, l[15], 72.5);
     let r = sqrt(z * z);
-    let t1 = warmth_at(h, s, r);
+    let t1 = temperature_at(h, s, r);
     row_at(sw0, sw15, z, h.tinf, q, p, k, t1)
 }

@@ -3,7 +3,7 @@
 use mathlib.Core.Path.{_≡_, refl, sym, _∙_, ap, ap₂}
 use mathlib.Core.List.{List}
 use mathlib.Core.Bool.{Bool, true, false, not, _&&_, _||_, cond}
-use Prim.Native.Nat.{ℕ, zero, suc, _<_}
+use Prim.Native.Nat.{ℕ, zero, suc}
 use lib.Dec.{T, eqb, lit<, eqb·suc-zero}
 use lib.Ieee.Fits.{and-l}
 use lib.ListN.{getD, set}
@@ -22,12 +22,12 @@ use Rattle.setting.specs.ApHistory.{isMinusOne, absentOf}
 use Rattle.tables.specs.Names.{wide, narrow}
 use Rattle.legendre.specs.Legendre.{rowsOf}
 use Rattle.activity.specs.Activity.{apdfNextOf, aptNextOf, apdfFromOf, sg0Of, exp1Of}
-use Rattle.parts.specs.Parts.{dayCosinesOf, t8Of, history8Of, daily8Of, t10Of, t11Of, t12Of, history12Of, daily12Of, t8sOf, t10sOf}
-use Rattle.expansion.specs.Expansion.{early7Of, carriedOf, level7Of, turnsAfterOf, afterOf, globe7Of, level7sOf, glob7sFrom, glob7sOf}
+use Rattle.expansion_parts.specs.ExpansionParts.{dayCosinesOf, t8Of, history8Of, daily8Of, t10Of, t11Of, t12Of, history12Of, daily12Of, t8sOf, t10sOf}
+use Rattle.expansion.specs.Expansion.{firstTermsOf, carriedOf, globe7Value, turnsAfterOf, stateAfter, globe7Of, glob7sValue, glob7sFrom, glob7sOf}
 use Rattle.plan.specs.Fields.{Fields, fieldsOf, withFields}
 use Rattle.plan.specs.Plan.{Ask, one-plus-globe7, exp-globe7, one-plus-glob7s, one-minus-glob7s, onePlusGlobe7Of, expGlobe7Of, onePlusGlob7sOf, oneMinusGlob7sOf, Plan, done, ask, keep, answer, run}
 use Rattle.shutoff.specs.Nine.{asks-minus-one}
-use Rattle.shutoff.specs.Fields.{whole, float, inHistory, fields, field}
+use Rattle.shutoff.specs.Fields.{whole, float, inHistory}
 use Rattle.shutoff.specs.Shut.{one, isZero, nineIsZero, nineIsMinusOne, others, AlikeBut}
 use Rattle.shutoff.specs.PlainView.{plainView}
 
@@ -149,7 +149,7 @@ abbrev pub Has : List ℤ → Input → Type 0
 Has w a = T (asks w) → T (not (absentOf (a .history)))
 
 -- what State must share: apdf only where ap counts
-pub record Same (w : List ℤ) (s t : State) : Type 0 where
+pub record SameState (w : List ℤ) (s t : State) : Type 0 where
   pub dfa : s .dfa ≡ t .dfa
   pub plg : s .plg ≡ t .plg
   pub ct : s .ctloc ≡ t .ctloc
@@ -162,11 +162,11 @@ pub record Same (w : List ℤ) (s t : State) : Type 0 where
   pub apt : s .apt ≡ t .apt
 
 -- a State shares all with itself
-pub itself : (w : List ℤ) (s : State) → Same w s s
-itself w s = record { dfa = refl; plg = refl; ct = refl; st = refl; c2t = refl; s2t = refl; c3t = refl; s3t = refl; apdf = λ _. refl; apt = refl }
+pub state-itself : (w : List ℤ) (s : State) → SameState w s s
+state-itself w s = record { dfa = refl; plg = refl; ct = refl; st = refl; c2t = refl; s2t = refl; c3t = refl; s3t = refl; apdf = λ _. refl; apt = refl }
 
 -- whatever a step sets: no expansion reads it
-pub kept-same : (w : List ℤ) (s t : State) (f g : Fields) → Same w s t → Same w (withFields s f) (withFields t g)
+pub kept-same : (w : List ℤ) (s t : State) (f g : Fields) → SameState w s t → SameState w (withFields s f) (withFields t g)
 kept-same w s t f g e =
     record { dfa = e .dfa; plg = e .plg; ct = e .ct; st = e .st; c2t = e .c2t; s2t = e .s2t; c3t = e .c3t; s3t = e .s3t; apdf = e .apdf; apt = e .apt }
 
@@ -227,7 +227,7 @@ module _ (w : List ℤ) (a b : Input) (like : AlikeBut (others w) a b) where
   sec-13 : T (on w 10) → T (on w 13) → a .sec ≡ b .sec
   sec-13 u v = sec≡ (on→one (one w 10) u) (or-r (one w 12) (one w 13) (on→one (one w 13) v))
 
-  module _ (p : List Float) (s t : State) (e : Same w s t) where
+  module _ (p : List Float) (s t : State) (e : SameState w s t) where
     t8≡ : (g : List (List Float)) (cd : Float) → t8Of (plainView w a) p g cd (s .apdf) (s .apt ‼ 0) ≡ t8Of (plainView w b) p g cd (t .apdf) (t .apt ‼ 0)
     unfolding t8Of history8Of daily8Of
     t8≡ g cd =
@@ -256,9 +256,9 @@ module _ (w : List ℤ) (a b : Input) (like : AlikeBut (others w) a b) where
         (λ _. skip (ne (p ‼ 51) 0·0) (λ _. cc (e .apt, glong-13 u v, sec-13 u v)))
         (λ x. cc (e .apdf (ap-13 x u v), glong-13 u v, sec-13 u v)))
 
-    pub level7≡ : level7Of (plainView w a) p (rowsOf (s .plg)) (carriedOf s) ≡ level7Of (plainView w b) p (rowsOf (t .plg)) (carriedOf t)
-    unfolding level7Of early7Of carriedOf
-    level7≡ =
+    pub globe7-value≡ : globe7Value (plainView w a) p (rowsOf (s .plg)) (carriedOf s) ≡ globe7Value (plainView w b) p (rowsOf (t .plg)) (carriedOf t)
+    unfolding globe7Value firstTermsOf carriedOf
+    globe7-value≡ =
         let g = rowsOf (s .plg) in
         let c = (dayCosinesOf (ofInt binary64 (a .doy)) p) .cd14 in
         cc (doy≡, f107≡, f107a≡, e .plg, e .ct, e .st, e .c2t, e .s2t, e .c3t, e .s3t, t8≡ g c, t10≡ g c, t11≡ g c, t12≡ g c)
@@ -274,7 +274,7 @@ module _ (w : List ℤ) (a b : Input) (like : AlikeBut (others w) a b) where
         (λ u v. cc (glong-s u v)) (λ u v. cc (glong-s u v, doy≡))
 
     pub glob7s≡ : glob7sOf (plainView w a) p s ≡ glob7sOf (plainView w b) p t
-    unfolding glob7sOf glob7sFrom level7sOf carriedOf
+    unfolding glob7sOf glob7sFrom glob7sValue carriedOf
     glob7s≡ =
         let g = rowsOf (s .plg) in
         cc (doy≡, e .dfa, e .plg, e .ct, e .st, e .c2t, e .s2t, e .c3t, e .s3t, t8s≡ g, t10s≡ g)
@@ -297,8 +297,8 @@ module _ (w : List ℤ) (a b : Input) (like : AlikeBut (others w) a b) where
   turn f x y q = branch (not ((eq (swAt w 7) 0·0 && eq (swAt w 8) 0·0) && eq (swAt w 14) 0·0)) (λ _. ap f lst≡) (λ _. q)
 
   module _ (has : Has w a) where
-    pub after-same : (p : List Float) (s t : State) → Same w s t → Same w (afterOf (plainView w a) p s) (afterOf (plainView w b) p t)
-    unfolding afterOf turnsAfterOf apdfNextOf aptNextOf
+    pub after-same : (p : List Float) (s t : State) → SameState w s t → SameState w (stateAfter (plainView w a) p s) (stateAfter (plainView w b) p t)
+    unfolding stateAfter turnsAfterOf apdfNextOf aptNextOf
     after-same p s t e =
         record {
           dfa = cc f107a≡;
@@ -316,20 +316,20 @@ module _ (w : List ℤ) (a b : Input) (like : AlikeBut (others w) a b) where
               cc (glat≡, array≡ v (has v) (exp1Of (p ‼ 51) (p ‼ 138) (b .«g_lat»)) (cond (lt (p ‼ 24) 1·0E-4) 1·0E-4 (p ‼ 24)) (p ‼ 25))));
         }
 
-    pub answer≡ : (q : Ask) (s t : State) → Same w s t → ((answer (plainView w a) q s) .value ≡ (answer (plainView w b) q t) .value) × Same w ((answer (plainView w a) q s) .state) ((answer (plainView w b) q t) .state)
+    pub answer≡ : (q : Ask) (s t : State) → SameState w s t → ((answer (plainView w a) q s) .value ≡ (answer (plainView w b) q t) .value) × SameState w ((answer (plainView w a) q s) .state) ((answer (plainView w b) q t) .state)
     unfolding answer globe7Of onePlusGlobe7Of expGlobe7Of onePlusGlob7sOf oneMinusGlob7sOf
     answer≡ (one-plus-globe7 f k) s t e =
         let p = wide k in
         let e′ = after-same p s t e in
-        (cc (level7≡ p (afterOf (plainView w a) p s) (afterOf (plainView w b) p t) e′), e′)
+        (cc (globe7-value≡ p (stateAfter (plainView w a) p s) (stateAfter (plainView w b) p t) e′), e′)
     answer≡ (exp-globe7 f k) s t e =
         let p = wide k in
         let e′ = after-same p s t e in
-        (cc (level7≡ p (afterOf (plainView w a) p s) (afterOf (plainView w b) p t) e′), e′)
+        (cc (globe7-value≡ p (stateAfter (plainView w a) p s) (stateAfter (plainView w b) p t) e′), e′)
     answer≡ (one-plus-glob7s f k) s t e = (cc (glob7s≡ (narrow k) s t e), e)
     answer≡ (one-minus-glob7s f k) s t e = (cc (glob7s≡ (narrow k) s t e), e)
 
-    pub run≡ : {A : Type 0} (m : Plan A) (s t : State) → Same w s t → (run (plainView w a) m s) .result ≡ (run (plainView w b) m t) .result
+    pub run≡ : {A : Type 0} (m : Plan A) (s t : State) → SameState w s t → (run (plainView w a) m s) .result ≡ (run (plainView w b) m t) .result
     unfolding run
     run≡ (done x) s t e = refl
     run≡ (ask q k) s t e =

@@ -19,12 +19,12 @@ use Rattle.setting.specs.declared.Valued.{Valued}
 use Rattle.setting.specs.View.{viewOf}
 use Rattle.setting.specs.ApHistory.{lacksHistoryOf}
 use Rattle.terms.specs.Terms.{t0Of, f1Of, f2Of, t1Of, t3Of, t4Of, t5Of, diurnalOf, semidiurnalOf, terdiurnalOf, longCosOf, longSinOf, utMeanOf, utLongOf}
-use Rattle.parts.specs.Parts.{dayCosinesOf, t6Of, t7Of, t13Of, history8Of, daily8Of, t8Of, t10Of, t11Of, history12Of, daily12Of, t12Of}
+use Rattle.expansion_parts.specs.ExpansionParts.{dayCosinesOf, t6Of, t7Of, t13Of, history8Of, daily8Of, t8Of, t10Of, t11Of, history12Of, daily12Of, t12Of}
 use Rattle.activity.specs.Activity.{sg0Of, aptNextOf}
 use Rattle.legendre.specs.Legendre.{rowsOf}
 use Rattle.expansion.specs.declared.Carried.{Carried}
-use Rattle.expansion.specs.Expansion.{early7Of, carriedOf, level7Of, afterOf, globe7Of}
-use Rattle.calls.specs.Calls.{accepted, refusedAt, globe7CallOf}
+use Rattle.expansion.specs.Expansion.{firstTermsOf, carriedOf, globe7Value, stateAfter, globe7Of}
+use Rattle.expansion_calls.specs.ExpansionCalls.{acceptedCall, refusedAt, globe7CallOf}
 
 -- two sets of 150 numbers that differ only in p[24]: equal at every index but 24
 abbrev pub OnlyIn24 : List Float → List Float → Type 0
@@ -55,14 +55,14 @@ same-square (fin s m e) (fin t n d) h =
 abbrev raised : Float → Float
 raised x = cond (lt x 1·0E-4) 1·0E-4 x
 
-by-test : (b c : Bool) (x y : Float) → T (b || c) → (T c → x ⊗ x ≡ y ⊗ y) → cond b y x ⊗ cond b y x ≡ y ⊗ y
-by-test true c x y t h = refl
-by-test false c x y t h = h t
+by-square : (b c : Bool) (x y : Float) → T (b || c) → (T c → x ⊗ x ≡ y ⊗ y) → cond b y x ⊗ cond b y x ≡ y ⊗ y
+by-square true c x y t h = refl
+by-square false c x y t h = h t
 
 -- g0 reads the square of the raised number alone: one for every p[24] at or below 1.0E-4
 raised-square : (x : Float) → T (le x 1·0E-4) → raised x ⊗ raised x ≡ 1·0E-4 ⊗ 1·0E-4
 unfolding le
-raised-square x t = by-test (lt x 1·0E-4) (eq x 1·0E-4) x 1·0E-4 t (same-square x 1·0E-4)
+raised-square x t = by-square (lt x 1·0E-4) (eq x 1·0E-4) x 1·0E-4 t (same-square x 1·0E-4)
 
 -- ---- globe7
 
@@ -72,13 +72,13 @@ module _ (p q : List Float) (only : OnlyIn24 p q) where
   other k e f = only k (ltb→lt k 150 (subst T (sym e) tt)) (λ g. true≢false (sym (ap (λ (j : ℕ). eqb j 24) g) ∙ f))
 
   module _ (v : View) where
-    level≡ : (g : List (List Float)) (c : Carried) → level7Of v p g c ≡ level7Of v q g c
-    unfolding level7Of early7Of dayCosinesOf t0Of f1Of f2Of t1Of t3Of t4Of t5Of t6Of t7Of t8Of t10Of t11Of t12Of t13Of history8Of daily8Of history12Of daily12Of diurnalOf semidiurnalOf terdiurnalOf longCosOf longSinOf utMeanOf utLongOf
+    level≡ : (g : List (List Float)) (c : Carried) → globe7Value v p g c ≡ globe7Value v q g c
+    unfolding globe7Value firstTermsOf dayCosinesOf t0Of f1Of f2Of t1Of t3Of t4Of t5Of t6Of t7Of t8Of t10Of t11Of t12Of t13Of history8Of daily8Of history12Of daily12Of diurnalOf semidiurnalOf terdiurnalOf longCosOf longSinOf utMeanOf utLongOf
     level≡ g c = simp other
 
     module _ (low : T (le (p ‼ 24) 1·0E-4)) (low′ : T (le (q ‼ 24) 1·0E-4)) where
-      after≡ : (s : State) → afterOf v p s ≡ afterOf v q s
-      unfolding afterOf aptNextOf sg0Of
+      after≡ : (s : State) → stateAfter v p s ≡ stateAfter v q s
+      unfolding stateAfter aptNextOf sg0Of
       after≡ s =
           cc (
             other 43 refl refl,
@@ -95,7 +95,7 @@ module _ (p q : List Float) (only : OnlyIn24 p q) where
 -- and the same State.
 pub globe7-raised : (v : View) (p q : List Float) (s : State) → OnlyIn24 p q → T (le (p ‼ 24) 1·0E-4) → T (le (q ‼ 24) 1·0E-4) → globe7Of v p s ≡ globe7Of v q s
 unfolding globe7Of
-globe7-raised v p q s only low low′ = cc (after≡ p q only v low low′ s, level≡ p q only v (rowsOf ((afterOf v p s) .plg)) (carriedOf (afterOf v p s)))
+globe7-raised v p q s only low low′ = cc (after≡ p q only v low low′ s, level≡ p q only v (rowsOf ((stateAfter v p s) .plg)) (carriedOf (stateAfter v p s)))
 
 -- The same for the call with its refusals: one outcome for two sets of one length.
 pub globe7-call-raised : (w : List ℤ) (n : Input) (p q : List Float) (s : State)
@@ -106,5 +106,5 @@ pub globe7-call-raised : (w : List ℤ) (n : Input) (p q : List Float) (s : Stat
     → globe7CallOf w n p s ≡ globe7CallOf w n q s
 unfolding globe7CallOf
 globe7-call-raised w n p q s e only low low′ =
-    ap₂ (λ (m : ℕ) (a : Valued). cond (not (eqb m 150)) (refusedAt 6 150 s) (cond (lacksHistoryOf w n) (refusedAt 1 10 s) (accepted (a .value) (a .state))))
+    ap₂ (λ (m : ℕ) (a : Valued). cond (not (eqb m 150)) (refusedAt 6 150 s) (cond (lacksHistoryOf w n) (refusedAt 1 10 s) (acceptedCall (a .value) (a .state))))
     e (globe7-raised (viewOf w n) p q s only low low′)

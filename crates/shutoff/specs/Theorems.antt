@@ -1,11 +1,11 @@
 -- Demand 3.
 use mathlib.Core.Path.{_≡_, refl, sym, _∙_, ap, ap₂, subst}
 use mathlib.Core.List.{List}
-use mathlib.Core.Bool.{Bool, true, false, not, _&&_, _||_, cond}
-use Prim.Native.Nat.{ℕ, zero, suc, _<_}
+use mathlib.Core.Bool.{Bool, true, false, not, _&&_, cond}
+use Prim.Native.Nat.{ℕ, zero, suc}
 use native.Mathlib.Decide.{ℕ-discrete}
-use lib.Dec.{T, eqb, lit<}
-use lib.ListN.{length, getD}
+use lib.Dec.{T, eqb}
+use lib.ListN.{length}
 use lib.IntN.{ℤ}
 use lib.Seq.{getD-set-other}
 use lib.Ieee.{Float}
@@ -14,7 +14,6 @@ use Rattle.numbers.specs.Literals.{150·0}
 use Rattle.setting.specs.declared.Input.{Input}
 use Rattle.setting.specs.declared.State.{State}
 use Rattle.setting.specs.declared.View.{View}
-use Rattle.setting.specs.declared.Valued.{Valued}
 use Rattle.setting.specs.declared.History.{History}
 use Rattle.setting.specs.declared.History.the-variants.{Absent, Present}
 use Rattle.setting.specs.State.{freshOf}
@@ -23,12 +22,13 @@ use Rattle.setting.specs.Switches.{given}
 use Rattle.setting.specs.ApHistory.{isMinusOne, asksHistoryOf, absentOf, lacksHistoryOf}
 use Rattle.expansion.specs.Expansion.{globe7Of}
 use Rattle.plan.specs.Plan.{Plan, run}
-use Rattle.upper.specs.declared.Site.{Site}
-use Rattle.upper.specs.Upper.{siteWith}
-use Rattle.lower.specs.declared.Whole.{Whole}
+use Rattle.gts7_arithmetic.specs.declared.Site.{Site}
+use Rattle.gts7_arithmetic.specs.Gts7Arithmetic.{siteWith}
+use Rattle.lower_atmosphere.specs.declared.Gtd7Output.{Gtd7Output}
 use Rattle.acceptance.specs.declared.Answer.{Answer}
 use Rattle.acceptance.specs.declared.Answer.the-variants.{Accepted, Refused}
 use Rattle.acceptance.specs.Acceptance.{unfitOf, outsideOf, foundOf, judgedOf, acceptedOf, recordAnswer, withAltOf}
+use Rattle.acceptance.specs.Refusals.{no-refusal}
 use Rattle.parameters.specs.Parameters.{presentOf}
 use Rattle.parameters.specs.declared.Parameters.{Parameters}
 use Rattle.atmosphere.specs.Atmosphere.{gtd7Plan, elevenAtOf, elevenWith, elevenOf, leftWith, leftOf, answerOf, rowAfter}
@@ -38,16 +38,11 @@ use Rattle.shutoff.specs.PlainView.{plainView, view-is}
 use Rattle.shutoff.specs.Fit.{Fit, fit}
 use Rattle.shutoff.specs.Zeroed.{changed, withDfa}
 use Rattle.shutoff.specs.Zeroed as zeroed
-use Rattle.shutoff.specs.Agree.{asks, asks-nine, Has, itself, run≡, alt≡, doy≡, glat≡, f107a≡}
+use Rattle.shutoff.specs.Agree.{asks-nine, Has, state-itself, run≡, alt≡, doy≡, glat≡, f107a≡}
 
 -- ---- what acceptance says
 
 -- an answer that is accepted comes from no refusal before it
-no-refusal : (c : Bool) (n k : ℕ) (x : Answer) → cond c (Refused n k) x ≡ Accepted → (c ≡ false) × (x ≡ Accepted)
-no-refusal true n k x e = absurd (subst (λ (r : Answer). T (not (acceptedOf r))) e tt)
-no-refusal false n k x e = (refl, e)
-
--- nor from an answer before it that is a refusal
 pub first-accepted : (a b : Answer) → cond (not (acceptedOf a)) a b ≡ Accepted → a ≡ Accepted
 first-accepted Accepted b e = refl
 first-accepted (Refused n k) b e = e
@@ -57,10 +52,10 @@ pub judged-first : (w : List ℤ) (n : Input) (len : ℕ) → answerOf w n len �
 unfolding answerOf recordAnswer
 judged-first w n len e = first-accepted (judgedOf w n) _ ((no-refusal (not (eqb len 11)) 4 11 _ e) .1)
 
-there : (m : Bool) (h : History) → (m && absentOf h) ≡ false → T m → T (not (absentOf h))
-there true Absent e t = subst T e tt
-there true Present e t = tt
-there false h e t = absurd t
+history-there : (m : Bool) (h : History) → (m && absentOf h) ≡ false → T m → T (not (absentOf h))
+history-there true Absent e t = subst T e tt
+history-there true Present e t = tt
+history-there false h e t = absurd t
 
 -- what demand 3 needs of a record: its history where the row asks for it, and its fields within their ranges
 pub record Known (w : List ℤ) (n : Input) : Type 0 where
@@ -69,7 +64,7 @@ pub record Known (w : List ℤ) (n : Input) : Type 0 where
 
 pub has : (w : List ℤ) (n : Input) → lacksHistoryOf w n ≡ false → Has w n
 unfolding lacksHistoryOf asksHistoryOf
-has w n e t = there (isMinusOne (given w 9)) (n .history) e (asks-nine (given w 9) t)
+has w n e t = history-there (isMinusOne (given w 9)) (n .history) e (asks-nine (given w 9) t)
 
 pub known : (w : List ℤ) (n : Input) → judgedOf w n ≡ Accepted → Known w n
 unfolding judgedOf
@@ -98,7 +93,7 @@ alike-at w a b z like k h t = go (ℕ-discrete k 3)
     go (no n) = getD-set-other (fields a) 3 k (float z) missing n ∙ like k h t ∙ sym (getD-set-other (fields b) 3 k (float z) missing n)
 
 -- the plan of a record with nine constants
-abbrev planOf : Parameters → List ℤ → Input → Plan Whole
+abbrev planOf : Parameters → List ℤ → Input → Plan Gtd7Output
 planOf c w n = gtd7Plan ((plainView w n) .sw) (siteWith c ((plainView w n) .sw) (n .«g_lat») ((plainView w n) .doy) (n .f107a)) (n .alt)
 
 -- records that are alike with lst, f107a and f107 in common have the same eleven numbers, if they have their history where the row asks for it
@@ -106,7 +101,7 @@ others-eleven : (c : Parameters) (w : List ℤ) (a b : Input) → AlikeBut (othe
 unfolding elevenWith elevenAtOf
 others-eleven c w a b like h =
     rw (view-is w a, view-is w b)
-    (ap (λ (x : Whole). x .row) (run≡ w a b like h (planOf c w a) freshOf freshOf (itself w freshOf))
+    (ap (λ (x : Gtd7Output). x .row) (run≡ w a b like h (planOf c w a) freshOf freshOf (state-itself w freshOf))
     ∙ rw (alt≡ w a b like, doy≡ w a b like, glat≡ w a b like, f107a≡ w a b like))
 
 -- so have a record and the same with another lst, f107a and f107, where they are alike and within their ranges
@@ -115,7 +110,7 @@ zeroed-eleven : (c : Parameters) (w : List ℤ) (a : Input) (l fa f : Float) →
 unfolding elevenWith elevenAtOf
 zeroed-eleven c w a l fa f like fit-a fit-b =
     rw (view-is w a, view-is w (changed a l fa f))
-    (ap (λ (x : Whole). x .row) ((zeroed.run≡ w a l fa f like fit-a fit-b (planOf c w a) freshOf freshOf (zeroed.itself w)) .0) ∙ rw (zeroed.site≡ w a l fa f like fit-a fit-b c))
+    (ap (λ (x : Gtd7Output). x .row) ((zeroed.run≡ w a l fa f like fit-a fit-b (planOf c w a) freshOf freshOf (zeroed.fresh-itself w)) .0) ∙ rw (zeroed.site≡ w a l fa f like fit-a fit-b c))
 
 -- alike records: from the one to the other by way of the one with the other's lst, f107a and f107
 module _ (w : List ℤ) (a b : Input) (like : Alike w a b) where
@@ -155,9 +150,9 @@ unfolding elevenOf
 eleven≡ w a b like p q = eleven-with≡ presentOf w a b like p q
 
 -- an accepted run writes demand 2's numbers
-pub written : (w : List ℤ) (n : Input) (xs : List Float) → answerOf w n (length xs) ≡ Accepted → rowAfter w n xs ≡ elevenOf w n
+pub row-written : (w : List ℤ) (n : Input) (xs : List Float) → answerOf w n (length xs) ≡ Accepted → rowAfter w n xs ≡ elevenOf w n
 unfolding rowAfter
-written w n xs e = ap (λ (r : Answer). cond (acceptedOf r) (elevenOf w n) xs) e
+row-written w n xs e = ap (λ (r : Answer). cond (acceptedOf r) (elevenOf w n) xs) e
 
 -- Demand 3. For every switch row and any two accepted runs of the one-altitude call on records alike under that row, whatever the two
 -- lent rows held: both write the same eleven numbers, and these are the definition's for the one record and for the other.
@@ -167,8 +162,8 @@ pub demand-3 : (w : List ℤ) (a b : Input) (xs ys : List Float)
     → answerOf w b (length ys) ≡ Accepted
     → (rowAfter w a xs ≡ rowAfter w b ys) × (rowAfter w a xs ≡ elevenOf w a) × (rowAfter w b ys ≡ elevenOf w b)
 demand-3 w a b xs ys like e f =
-    let p = written w a xs e in
-    let q = written w b ys f in
+    let p = row-written w a xs e in
+    let q = row-written w b ys f in
     (p ∙ eleven≡ w a b like (known w a (judged-first w a (length xs) e)) (known w b (judged-first w b (length ys) f)) ∙ sym q, p, q)
 
 -- ---- State
@@ -195,7 +190,7 @@ gtd7-state w a l fa f m n like e d =
     let b = changed a l fa f in
     let fit-a = (known w a (judged-first w a m e)) .fit in
     let fit-b = (known w b (judged-first w b n d)) .fit in
-    let r = zeroed.run≡ w a l fa f like fit-a fit-b (planOf presentOf w a) freshOf freshOf (zeroed.itself w) in
+    let r = zeroed.run≡ w a l fa f like fit-a fit-b (planOf presentOf w a) freshOf freshOf (zeroed.fresh-itself w) in
     let left : Site → State = λ x. (run (plainView w b) (gtd7Plan ((plainView w a) .sw) x (a .alt)) freshOf) .left in
     left-is w b
     ∙ subst (λ (x : Site). left x ≡ withDfa ((run (plainView w a) (planOf presentOf w a) freshOf) .left) ((left x) .dfa)) (zeroed.site≡ w a l fa f like fit-a fit-b presentOf) (r .1 .but)

@@ -22,12 +22,12 @@ use Rattle.tables.specs.Tables.{pdlT0}
 use Rattle.tables.specs.Names.{Wide, Narrow, wide, narrow}
 use Rattle.terms.specs.Terms.{t0Of, f1Of, f2Of, fluxFactorOf, t1Of, localTimePartOf, activityTermOf}
 use Rattle.legendre.specs.Legendre.{flatOf, rowsOf, row0Of, row1Of}
-use Rattle.parts.specs.Parts.{dayCosinesOf, t8Of, history8Of, daily8Of, t10Of, t11Of, t12Of, history12Of, daily12Of, weightedOf, t8sOf, t10sOf}
-use Rattle.expansion.specs.Expansion.{early7Of, carriedOf, level7Of, turnsAfterOf, afterOf, globe7Of, level7sOf, glob7sFrom, glob7sOf}
+use Rattle.expansion_parts.specs.ExpansionParts.{dayCosinesOf, t8Of, history8Of, daily8Of, t10Of, t11Of, t12Of, history12Of, daily12Of, weightedOf, t8sOf, t10sOf}
+use Rattle.expansion.specs.Expansion.{firstTermsOf, carriedOf, globe7Value, turnsAfterOf, stateAfter, globe7Of, glob7sValue, glob7sFrom, glob7sOf}
 use Rattle.plan.specs.Plan.{Ask, one-plus-globe7, exp-globe7, one-plus-glob7s, one-minus-glob7s, onePlusGlobe7Of, expGlobe7Of, onePlusGlob7sOf, oneMinusGlob7sOf, Plan, done, ask, keep, answer, run}
 use Rattle.plan.specs.Fields.{Fields, fieldsOf, withFields}
 use Rattle.parameters.specs.declared.Parameters.{Parameters}
-use Rattle.upper.specs.Upper.{siteWith}
+use Rattle.gts7_arithmetic.specs.Gts7Arithmetic.{siteWith}
 use Rattle.shutoff.specs.Shut.{one, off, nineIsZero, shut, Alike}
 use Rattle.shutoff.specs.PlainView.{plainView}
 use Rattle.shutoff.specs.Agree.{zero-off, float-is}
@@ -173,26 +173,26 @@ sum-plain first sw x y xs ys h e = weighted-plain 14 sw (x ∷ xs) (y ∷ ys) 0 
 
 -- globe7's value does not read dfa of State
 other-dfa : (v : View) (p : List Float) (s : State) (x : Float)
-    → level7Of v p (rowsOf (s .plg)) (carriedOf s) ≡ level7Of v p (rowsOf ((withDfa s x) .plg)) (carriedOf (withDfa s x))
-unfolding level7Of carriedOf
+    → globe7Value v p (rowsOf (s .plg)) (carriedOf s) ≡ globe7Value v p (rowsOf ((withDfa s x) .plg)) (carriedOf (withDfa s x))
+unfolding globe7Value carriedOf
 other-dfa v p s x = refl
 
 -- ---- two records that are alike, and differ in lst, f107a and f107 at most
 
 -- two States that differ in dfa alone, and there only where the fluxes do
-pub record Same (w : List ℤ) (s t : State) : Type 0 where
+pub record SameButDfa (w : List ℤ) (s t : State) : Type 0 where
   pub but : t ≡ withDfa s (t .dfa)
   pub dfa : T (not (off w 1)) → s .dfa ≡ t .dfa
   pub dfa-s : Sized 12 (s .dfa)
   pub dfa-t : Sized 12 (t .dfa)
 
-pub itself : (w : List ℤ) → Same w freshOf freshOf
+pub fresh-itself : (w : List ℤ) → SameButDfa w freshOf freshOf
 unfolding freshOf upTo ofBits
-itself w = record { but = refl; dfa = λ _. refl; dfa-s = computed 12 0·0 tt; dfa-t = computed 12 0·0 tt }
+fresh-itself w = record { but = refl; dfa = λ _. refl; dfa-s = computed 12 0·0 tt; dfa-t = computed 12 0·0 tt }
 
 -- a step sets the same fields to the same numbers in both
-kept : (w : List ℤ) (u : Fields → Fields) (s t : State) → Same w s t → Same w (withFields s (u (fieldsOf s))) (withFields t (u (fieldsOf t)))
-kept w u s t e =
+step-kept : (w : List ℤ) (u : Fields → Fields) (s t : State) → SameButDfa w s t → SameButDfa w (withFields s (u (fieldsOf s))) (withFields t (u (fieldsOf t)))
+step-kept w u s t e =
     record {
       but = ap (λ (r : State). withFields r (u (fieldsOf r))) (e .but);
       dfa = e .dfa;
@@ -234,8 +234,8 @@ module _ (w : List ℤ) (a : Input) (l fa f : Float) (like : Alike w a (changed 
       → cond (not ((eq (swAt w 7) 0·0 && eq (swAt w 8) 0·0) && eq (swAt w 14) 0·0)) x u ≡ cond (not ((eq (swAt w 7) 0·0 && eq (swAt w 8) 0·0) && eq (swAt w 14) 0·0)) y u
   turn x y u k = by-cases (lstOff w) (λ o. rw (still o)) (λ o. cc (k o))
 
-  pub after≡ : (p : List Float) (s : State) (x : Float) → afterOf B p (withDfa s x) ≡ withDfa (afterOf A p s) (B .dfa)
-  unfolding afterOf turnsAfterOf
+  pub after≡ : (p : List Float) (s : State) (x : Float) → stateAfter B p (withDfa s x) ≡ withDfa (stateAfter A p s) (B .dfa)
+  unfolding stateAfter turnsAfterOf
   after≡ p s x =
       cc (
         turn (A .ct) (B .ct) (s .ctloc) (λ o. cc (lst≡ o)),
@@ -353,9 +353,9 @@ module _ (w : List ℤ) (a : Input) (l fa f : Float) (like : Alike w a (changed 
       unfolding t12Of history12Of daily12Of
       t12≡ cd x y = refl
 
-      level7≈ : (s : State) → plain (level7Of A p g (carriedOf s)) ≡ plain (level7Of B p g (carriedOf s))
-      unfolding level7Of early7Of carriedOf
-      level7≈ s =
+      globe7-value≈ : (s : State) → plain (globe7Value A p g (carriedOf s)) ≡ plain (globe7Value B p g (carriedOf s))
+      unfolding globe7Value firstTermsOf carriedOf
+      globe7-value≈ s =
           let c = (dayCosinesOf (A .doy) p) .cd14 in
           sum-plain (p ‼ 30) (A .sw) _ _ _ _ t0≈ (
             t1≈,
@@ -388,7 +388,7 @@ module _ (w : List ℤ) (a : Input) (l fa f : Float) (like : Alike w a (changed 
 
     -- ---- glob7s, which alone reads dfa of State
 
-    glob7s≈ : (t : Narrow) (s t′ : State) → Same w s t′ → plain (glob7sOf A (narrow t) s) ≡ plain (glob7sOf B (narrow t) t′)
+    glob7s≈ : (t : Narrow) (s t′ : State) → SameButDfa w s t′ → plain (glob7sOf A (narrow t) s) ≡ plain (glob7sOf B (narrow t) t′)
     glob7s≈ t s t′ e =
         first (t′ .dfa) (by-cases (off w 1)
         (λ u. main≈ tt tt u (sized-mul (narrow-sized t 21 (lit< tt)) (e .dfa-s)) (sized-mul (narrow-sized t 21 (lit< tt)) (e .dfa-t)))
@@ -397,46 +397,46 @@ module _ (w : List ℤ) (a : Input) (l fa f : Float) (like : Alike w a (changed 
       where
         first : (x : Float) → plain (absOf (swAt w 1) ⊗ (narrow t ‼ 21 ⊗ s .dfa)) ≡ plain (absOf (swAt w 1) ⊗ (narrow t ‼ 21 ⊗ x))
             → plain (glob7sOf A (narrow t) s) ≡ plain (glob7sOf B (narrow t) (withDfa s x))
-        first x k = unfold glob7sOf glob7sFrom level7sOf carriedOf t8sOf t10sOf in
+        first x k = unfold glob7sOf glob7sFrom glob7sValue carriedOf t8sOf t10sOf in
             branch-plain (ne (cond (eq (narrow t ‼ 99) 0·0) 2·0 (narrow t ‼ 99)) 2·0) _ _ _ _ refl
             (sum-plain 0·0 (A .sw) _ _ _ _ k (refl, (refl, (refl, (refl, (refl, (refl, (refl, (refl, (refl, (refl, (refl, (refl, (refl, tt))))))))))))))
 
-    after-same : (p : List Float) (s t : State) → Same w s t → Same w (afterOf A p s) (afterOf B p t)
-    unfolding afterOf
-    after-same p s t e = record { but = ap (afterOf B p) (e .but) ∙ after≡ p s (t .dfa); dfa = λ u. cc (f107a≡ u); dfa-s = dfa-a; dfa-t = dfa-b }
+    after-same : (p : List Float) (s t : State) → SameButDfa w s t → SameButDfa w (stateAfter A p s) (stateAfter B p t)
+    unfolding stateAfter
+    after-same p s t e = record { but = ap (stateAfter B p) (e .but) ∙ after≡ p s (t .dfa); dfa = λ u. cc (f107a≡ u); dfa-s = dfa-a; dfa-t = dfa-b }
 
-    good : (p : List Float) (s : State) → Good (rowsOf ((afterOf A p s) .plg))
-    unfolding afterOf rowsOf row0Of row1Of flatOf
+    good : (p : List Float) (s : State) → Good (rowsOf ((stateAfter A p s) .plg))
+    unfolding stateAfter rowsOf row0Of row1Of flatOf
     good p s = let q = latitude-good (a .«g_lat») (s .plg) (fit-a .glat) in record { g02 = q .g02; g11 = q .g11; g13 = q .g13; g15 = q .g15 }
 
-    pub globe7≈ : (t : Wide) (s t′ : State) → Same w s t′
-        → (plain ((globe7Of A (wide t) s) .value) ≡ plain ((globe7Of B (wide t) t′) .value)) × Same w ((globe7Of A (wide t) s) .state) ((globe7Of B (wide t) t′) .state)
+    pub globe7≈ : (t : Wide) (s t′ : State) → SameButDfa w s t′
+        → (plain ((globe7Of A (wide t) s) .value) ≡ plain ((globe7Of B (wide t) t′) .value)) × SameButDfa w ((globe7Of A (wide t) s) .state) ((globe7Of B (wide t) t′) .state)
     unfolding globe7Of
     globe7≈ t s t′ e =
         let p = wide t in
         let e′ = after-same p s t′ e in (
-          level7≈ t (rowsOf ((afterOf A p s) .plg)) (good p s) (afterOf A p s) ∙ ap plain (other-dfa B p (afterOf A p s) ((afterOf B p t′) .dfa))
-              ∙ ap (λ (z : State). plain (level7Of B p (rowsOf (z .plg)) (carriedOf z))) (sym (e′ .but)),
+          globe7-value≈ t (rowsOf ((stateAfter A p s) .plg)) (good p s) (stateAfter A p s) ∙ ap plain (other-dfa B p (stateAfter A p s) ((stateAfter B p t′) .dfa))
+              ∙ ap (λ (z : State). plain (globe7Value B p (rowsOf (z .plg)) (carriedOf z))) (sym (e′ .but)),
           e′,
         )
 
     -- ---- plans
 
-    answer≡ : (q : Ask) (s t : State) → Same w s t → ((answer A q s) .value ≡ (answer B q t) .value) × Same w ((answer A q s) .state) ((answer B q t) .state)
+    answer≡ : (q : Ask) (s t : State) → SameButDfa w s t → ((answer A q s) .value ≡ (answer B q t) .value) × SameButDfa w ((answer A q s) .state) ((answer B q t) .state)
     unfolding answer onePlusGlobe7Of expGlobe7Of onePlusGlob7sOf oneMinusGlob7sOf
     answer≡ (one-plus-globe7 x k) s t e = let r = globe7≈ k s t e in (one-plus _ _ (plain-times x _ _ (r .0)), r .1)
     answer≡ (exp-globe7 x k) s t e = let r = globe7≈ k s t e in (exp-plain _ _ (plain-times x _ _ (r .0)), r .1)
     answer≡ (one-plus-glob7s x k) s t e = (one-plus _ _ (plain-times x _ _ (glob7s≈ k s t e)), e)
     answer≡ (one-minus-glob7s x k) s t e = (one-minus _ _ (plain-times x _ _ (glob7s≈ k s t e)), e)
 
-    pub run≡ : {X : Type 0} (m : Plan X) (s t : State) → Same w s t → ((run A m s) .result ≡ (run B m t) .result) × Same w ((run A m s) .left) ((run B m t) .left)
+    pub run≡ : {X : Type 0} (m : Plan X) (s t : State) → SameButDfa w s t → ((run A m s) .result ≡ (run B m t) .result) × SameButDfa w ((run A m s) .left) ((run B m t) .left)
     unfolding run
     run≡ (done x) s t e = (refl, e)
     run≡ (ask q k) s t e =
         let r = answer≡ q s t e in
-        subst (λ (v : Float). ((run A (k ((answer A q s) .value)) ((answer A q s) .state)) .result ≡ (run B (k v) ((answer B q t) .state)) .result) × Same w ((run A (k ((answer A q s) .value)) ((answer A q s) .state)) .left) ((run B (k v) ((answer B q t) .state)) .left)) (r .0)
+        subst (λ (v : Float). ((run A (k ((answer A q s) .value)) ((answer A q s) .state)) .result ≡ (run B (k v) ((answer B q t) .state)) .result) × SameButDfa w ((run A (k ((answer A q s) .value)) ((answer A q s) .state)) .left) ((run B (k v) ((answer B q t) .state)) .left)) (r .0)
         (run≡ (k ((answer A q s) .value)) ((answer A q s) .state) ((answer B q t) .state) (r .1))
-    run≡ (keep u m) s t e = run≡ m _ _ (kept w u s t e)
+    run≡ (keep u m) s t e = run≡ m _ _ (step-kept w u s t e)
 
     -- the factor of the flux in O and O2
     pub site≡ : (c : Parameters) → siteWith c (A .sw) (a .«g_lat») (A .doy) (a .f107a) ≡ siteWith c (A .sw) (a .«g_lat») (A .doy) fa

@@ -7,7 +7,7 @@ use Rattle.numbers.specs.Arithmetic.{_‼_}
 use Rattle.numbers.specs.Literals.{72·5, 90·0, 100·0, 110·0}
 use Rattle.tables.specs.Tables.{ptmT, pdlT1}
 use Rattle.places.specs.Place.{spineOf, placeOf}
-use Rattle.places.specs.Thinning.{Logged, logged, place-warmth}
+use Rattle.places.specs.Thinning.{Logged, logged, place-temperature}
 use Rattle.places.specs.declared.place.Spine.{Spine}
 use Rattle.places.specs.declared.place.Place.{Place}
 use Rattle.places.specs.declared.thinning.Thinning.{Thinning}
@@ -43,4 +43,4 @@ unfolding temperatureOf
 temperature-law h z r m l e0 e1 e2 =
     e0 ∙ ap (λ (x : List Float). (placeOf h z (x ‼ 5) ((l ‼ 15) ∷ 110·0 ∷ 100·0 ∷ 90·0 ∷ 72·5 ∷ [])) .tz) e1
     ∙ ap (λ (x : List Float). (placeOf h z (ptmT ‼ 5) ((x ‼ 15) ∷ 110·0 ∷ 100·0 ∷ 90·0 ∷ 72·5 ∷ [])) .tz) e2
-    ∙ place-warmth h z (ptmT ‼ 5) nodes
+    ∙ place-temperature h z (ptmT ‼ 5) nodes

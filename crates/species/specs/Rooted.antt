@@ -1,7 +1,6 @@
 -- Each species of gts7 at a place, from its Root, with the laws that these are the model's species. A reader who believes Species.antt need not read it.
-use mathlib.Core.Path.{_≡_, refl, sym, ap, _∙_}
+use mathlib.Core.Path.{_≡_, refl, ap, _∙_}
 use mathlib.Core.Bool.{Bool, true, false, cond, not}
-use mathlib.Core.List.{List}
 use lib.Ieee.{Float, neg, ne}
 use Rattle.numbers.specs.Arithmetic.{_⊖_, _⊗_, _⊘_, _‼_}
 use Rattle.numbers.specs.Literals.{0·0, 0·17, 0·38, 1·0, 4·0, 14·0, 16·0, 28·0, 32·0, 40·0}
@@ -18,7 +17,7 @@ use Rattle.tables.specs.Tables.{ptmT, pdlT0, pdlT1, pdmT0, pdmT1, pdmT2, pdmT3,
 use Rattle.species.specs.declared.Blend.{Blend}
 use Rattle.species.specs.declared.Mixture.{Mixture}
 use Rattle.species.specs.declared.Root.{Root}
-use Rattle.species.specs.Species.{nodes, densityOf, mixedOf, n2Of, heliumOf, oxygenOf, o2MixedOf, o2Of, argonOf, hydrogenOf, nitrogenOf, hotOf}
+use Rattle.species.specs.Species.{nodes, densityOf, mixedOf, n2Of, heliumOf, oxygenOf, o2MixedOf, o2Of, argonOf, hydrogenOf, nitrogenOf, anomalousOxygenOf}
 use Rattle.species.specs.Places.{placeAt, Turbopause, Mixes}
 
 -- a gas at a place, from its density at the lower boundary
@@ -33,8 +32,8 @@ mixingOf on p xmm = cond on (thinningOf p xmm 0·0) (record { none = true; under
 unfoldable pub turbopauseDensityOf : Bool → Place → Float → Float → Float → Float
 turbopauseDensityOf on w db xm alpha = cond on (gasOf w db xm alpha) 0·0
 
-unfoldable pub rootOf : Bool → Place → Float → Float → Float → Float → Root
-rootOf on w db xm alpha num =
+unfoldable pub gasRoot : Bool → Place → Float → Float → Float → Float → Root
+gasRoot on w db xm alpha num =
     cond on (record { db = db; b = gasOf w db xm alpha; r = logOf (num ⊘ gasOf w db xm alpha) }) (record { db = db; b = 0·0; r = 0·0 })
 
 -- each species' root at its turbopause, on where it is asked for; b28 is N2's mixed density there, xmm the mass of mixed air
@@ -42,23 +41,23 @@ unfoldable pub n2RootOf : Place → Float → Float → Root
 n2RootOf w db xmm = record { db = db; b = gasOf w db (28·0 ⊖ xmm) (0·0 ⊖ 1·0); r = 0·0 }
 
 unfoldable pub heliumRootOf : Bool → Place → Float → Float → Float → Root
-heliumRootOf on w db b28 xmm = rootOf on w db (4·0 ⊖ xmm) (neg 0·38 ⊖ 1·0) (b28 ⊗ pdmT0 ‼ 1)
+heliumRootOf on w db b28 xmm = gasRoot on w db (4·0 ⊖ xmm) (neg 0·38 ⊖ 1·0) (b28 ⊗ pdmT0 ‼ 1)
 
 unfoldable pub oxygenRootOf : Bool → Place → Float → Float → Float → Root
 oxygenRootOf on w db flux xmm =
     record { db = db; b = turbopauseDensityOf on w db (16·0 ⊖ xmm) (0·0 ⊖ 1·0); r = pdmT1 ‼ 1 ⊗ pdlT1 ‼ 16 ⊗ flux }
 
 unfoldable pub o2RootOf : Bool → Place → Float → Float → Float → Root
-o2RootOf on w db b28 xmm = rootOf on w db (32·0 ⊖ xmm) (0·0 ⊖ 1·0) (b28 ⊗ pdmT3 ‼ 1)
+o2RootOf on w db b28 xmm = gasRoot on w db (32·0 ⊖ xmm) (0·0 ⊖ 1·0) (b28 ⊗ pdmT3 ‼ 1)
 
 unfoldable pub argonRootOf : Bool → Place → Float → Float → Float → Root
-argonRootOf on w db b28 xmm = rootOf on w db (40·0 ⊖ xmm) (0·17 ⊖ 1·0) (b28 ⊗ pdmT4 ‼ 1)
+argonRootOf on w db b28 xmm = gasRoot on w db (40·0 ⊖ xmm) (0·17 ⊖ 1·0) (b28 ⊗ pdmT4 ‼ 1)
 
 unfoldable pub hydrogenRootOf : Bool → Place → Float → Float → Float → Root
-hydrogenRootOf on w db b28 xmm = rootOf on w db (1·0 ⊖ xmm) (neg 0·38 ⊖ 1·0) (b28 ⊗ pdmT5 ‼ 1 ⊗ sqrtOf (pdlT1 ‼ 17 ⊗ pdlT1 ‼ 17))
+hydrogenRootOf on w db b28 xmm = gasRoot on w db (1·0 ⊖ xmm) (neg 0·38 ⊖ 1·0) (b28 ⊗ pdmT5 ‼ 1 ⊗ sqrtOf (pdlT1 ‼ 17 ⊗ pdlT1 ‼ 17))
 
 unfoldable pub nitrogenRootOf : Bool → Place → Float → Float → Float → Root
-nitrogenRootOf on w db b28 xmm = rootOf on w db (14·0 ⊖ xmm) (0·0 ⊖ 1·0) (b28 ⊗ pdmT6 ‼ 1 ⊗ sqrtOf (pdlT0 ‼ 2 ⊗ pdlT0 ‼ 2))
+nitrogenRootOf on w db b28 xmm = gasRoot on w db (14·0 ⊖ xmm) (0·0 ⊖ 1·0) (b28 ⊗ pdmT6 ‼ 1 ⊗ sqrtOf (pdlT0 ‼ 2 ⊗ pdlT0 ‼ 2))
 
 -- a species above and below its turbopause, blended
 unfoldable pub blendedOf : Place → Thinning → Root → Float → Float → Float → Float → Mixture
@@ -137,11 +136,11 @@ o2From sw15 on z p t q rate zhm xmm =
     let c = ccor2Of z rate (m ‼ 7 ⊗ pdlT1 ‼ 22) (m ‼ 6 ⊗ pdlT1 ‼ 21) (m ‼ 7 ⊗ pdlT0 ‼ 22) in
     record { dens = x .dens ⊗ c; dm = x .dm })
 
-unfoldable pub hotFactorOf : Float → Float → Float → Float → Float → Float → Float
-hotFactorOf rgas gsurf re zsht zmho tho = neg zsht ⊘ scalhOf rgas gsurf re zmho 16·0 tho
+unfoldable pub anomalousFactorOf : Float → Float → Float → Float → Float → Float → Float
+anomalousFactorOf rgas gsurf re zsht zmho tho = neg zsht ⊘ scalhOf rgas gsurf re zmho 16·0 tho
 
-unfoldable pub hotFrom : Float → Place → Float → Float → Float → Float → Float
-hotFrom z p db factor zsht zmho =
+unfoldable pub anomalousOxygenFrom : Float → Place → Float → Float → Float → Float → Float
+anomalousOxygenFrom z p db factor zsht zmho =
     let a = expOf (neg (z ⊖ zmho) ⊘ zsht) in
     gasOf p db 16·0 0·0 ⊗ expOf (factor ⊗ (a ⊖ 1·0))
 
@@ -158,17 +157,17 @@ pub record Rooted (on : Bool) (h : Shape) (zh db xm alpha r : Float) (q : Root) 
   pub rate : on ≡ true → q .r ≡ r
 
 -- a root that was worked out where it is asked for
-root-db : (on : Bool) (w : Place) (db xm alpha num : Float) → (rootOf on w db xm alpha num) .db ≡ db
-unfolding rootOf
+root-db : (on : Bool) (w : Place) (db xm alpha num : Float) → (gasRoot on w db xm alpha num) .db ≡ db
+unfolding gasRoot
 root-db true w db xm alpha num = refl
 root-db false w db xm alpha num = refl
 
 root-there : (on : Bool) (w : Place) (db xm alpha num : Float) → on ≡ true
-    → rootOf on w db xm alpha num ≡ record { db = db; b = gasOf w db xm alpha; r = logOf (num ⊘ gasOf w db xm alpha) }
-unfolding rootOf
+    → gasRoot on w db xm alpha num ≡ record { db = db; b = gasOf w db xm alpha; r = logOf (num ⊘ gasOf w db xm alpha) }
+unfolding gasRoot
 root-there on w db xm alpha num o = rw o
 
-pub root-is : (on : Bool) (h : Shape) (zh : Float) (w : Place) (db xm alpha num : Float) (q : Root) → q ≡ rootOf on w db xm alpha num → Turbopause h on zh w
+pub root-is : (on : Bool) (h : Shape) (zh : Float) (w : Place) (db xm alpha num : Float) (q : Root) → q ≡ gasRoot on w db xm alpha num → Turbopause h on zh w
     → Rooted on h zh db xm alpha (logOf (num ⊘ densityOf h zh db xm alpha)) q
 root-is on h zh w db xm alpha num q e at =
     record {
@@ -302,7 +301,7 @@ module _ (h : Shape) (on : Bool) (z : Float) (p : Place) (t : Thinning) (q : Roo
   unfolding o2From o2Of
   o2-is sw15 b28 db zhm xmm flux rate thins rooted e = rw (o2-mixed-is b28 db zhm xmm thins rooted, e)
 
-pub hot-is : (h : Shape) (z : Float) (p : Place) → p ≡ placeAt h z → (db factor zsht zmho tho : Float) → factor ≡ hotFactorOf (h .rgas) (h .gsurf) (h .re) zsht zmho tho
-    → hotFrom z p db factor zsht zmho ≡ hotOf h z db zsht zmho tho
-unfolding hotFrom hotFactorOf hotOf
-hot-is h z p at db factor zsht zmho tho e = rw (gas-is h z p at db 16·0 0·0, e)
+pub anomalous-is : (h : Shape) (z : Float) (p : Place) → p ≡ placeAt h z → (db factor zsht zmho tho : Float) → factor ≡ anomalousFactorOf (h .rgas) (h .gsurf) (h .re) zsht zmho tho
+    → anomalousOxygenFrom z p db factor zsht zmho ≡ anomalousOxygenOf h z db zsht zmho tho
+unfolding anomalousOxygenFrom anomalousFactorOf anomalousOxygenOf
+anomalous-is h z p at db factor zsht zmho tho e = rw (gas-is h z p at db 16·0 0·0, e)

@@ -1,5 +1,4 @@
 -- Each species of gts7 with the answer of its expansion given, as the Rust writes it.
-use mathlib.Core.Path.{_≡_}
 use mathlib.Core.Bool.{Bool, cond, not}
 use mathlib.Core.List.{List, [], _∷_}
 use lib.Ieee.{Float, neg, ne}
@@ -126,8 +125,8 @@ o2Of h sw15 on z b28 db zhm xmm flux =
     record { dens = x .dens ⊗ c; dm = x .dm })
 
 -- anomalous oxygen; tho is its temperature
-unfoldable pub hotOf : Shape → Float → Float → Float → Float → Float → Float
-hotOf h z db zsht zmho tho =
+unfoldable pub anomalousOxygenOf : Shape → Float → Float → Float → Float → Float → Float
+anomalousOxygenOf h z db zsht zmho tho =
     let dd = densityOf h z db 16·0 0·0 in
     let zsho = scalhOf (h .rgas) (h .gsurf) (h .re) zmho 16·0 tho in
     let a = expOf (neg (z ⊖ zmho) ⊘ zsht) in

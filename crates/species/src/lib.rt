@@ -4,7 +4,7 @@ ghost use mathlib.Core.Bool.{true};
 ghost use Rattle.places.specs.Thinning.{Logged};
 ghost use Rattle.species.specs.Places.{spineAt, placeAt, Turbopause, Mixes};
 ghost use Rattle.species.specs.Species.{densityOf, temperatureOf};
-ghost use Rattle.species.specs.Rooted.{gasOf, mixingOf, turbopauseDensityOf, rootOf, n2RootOf, heliumRootOf, oxygenRootOf, o2RootOf, argonRootOf, hydrogenRootOf, nitrogenRootOf, blendedOf, n2From, heliumFrom, oxygenFrom, o2MixedFrom, o2From, argonFrom, hydrogenFrom, nitrogenFrom, hotFactorOf, hotFrom};
+ghost use Rattle.species.specs.Rooted.{gasOf, mixingOf, turbopauseDensityOf, gasRoot, n2RootOf, heliumRootOf, oxygenRootOf, o2RootOf, argonRootOf, hydrogenRootOf, nitrogenRootOf, blendedOf, n2From, heliumFrom, oxygenFrom, o2MixedFrom, o2From, argonFrom, hydrogenFrom, nitrogenFrom, anomalousFactorOf, anomalousOxygenFrom};
 use elementary::exponential::exp;
 use elementary::logarithm::log;
 use elementary::root::sqrt;
@@ -16,7 +16,7 @@ use places::place::Spine;
 use places::place::place_alone;
 use places::place::place_of;
 use places::place::spine_of;
-use places::place::warmth_of;
+use places::place::temperature_of;
 use places::thinning::Thinning;
 use places::thinning::thin;
 use places::thinning::thinned;
@@ -144,7 +144,7 @@ pub fn temperature(h: Shape, s: Spine, z: f64) -> f64
 {
     let m = ptm();
     let l = pdl1();
-    warmth_of(h, s, z, m[5], [l[15], 110.0, 100.0, 90.0, 72.5])
+    temperature_of(h, s, z, m[5], [l[15], 110.0, 100.0, 90.0, 72.5])
 }
 
 // The mixed density at the turbopause w, where it is asked for; xm and alpha are those of the gas less those of mixed air.
@@ -161,7 +161,7 @@ pub fn turbopause_density(on: bool, w: Place, db: f64, xm: f64, alpha: f64) -> f
 // The root of a species that ccor brings to its share of N2: num is N2's mixed density times that share.
 pub fn root_of(on: bool, w: Place, db: f64, xm: f64, alpha: f64, num: f64) -> Root
     requires { ⌜ (on ≡ true → Logged w) ⌝ }
-    ensures { λ r. ⌜ r ≡ rootOf on w db xm alpha num ⌝ }
+    ensures { λ r. ⌜ r ≡ gasRoot on w db xm alpha num ⌝ }
 {
     if on {
         let b = turbopause_density(true, w, db, xm, alpha);
@@ -418,17 +418,17 @@ pub fn o2(
 }
 
 // The factor of anomalous oxygen's exponent, whatever the altitude; tho is its temperature.
-pub fn hot_factor(rgas: f64, gsurf: f64, re: f64, zsht: f64, zmho: f64, tho: f64) -> f64
-    ensures { λ r. ⌜ r ≡ hotFactorOf rgas gsurf re zsht zmho tho ⌝ }
+pub fn anomalous_factor(rgas: f64, gsurf: f64, re: f64, zsht: f64, zmho: f64, tho: f64) -> f64
+    ensures { λ r. ⌜ r ≡ anomalousFactorOf rgas gsurf re zsht zmho tho ⌝ }
 {
     let zsho = scalh(rgas, gsurf, re, zmho, 16.0, tho);
     -zsht / zsho
 }
 
 // Anomalous oxygen at a place of its own shape, from its density db at the lower boundary and that factor.
-pub fn hot(z: f64, p: Place, db: f64, factor: f64, zsht: f64, zmho: f64) -> f64
+pub fn anomalous_oxygen(z: f64, p: Place, db: f64, factor: f64, zsht: f64, zmho: f64) -> f64
     requires { ⌜ Logged p ⌝ }
-    ensures { λ r. ⌜ r ≡ hotFrom z p db factor zsht zmho ⌝ }
+    ensures { λ r. ⌜ r ≡ anomalousOxygenFrom z p db factor zsht zmho ⌝ }
 {
     let dd = gas(p, db, 16.0, 0.0);
     let a = exp(-(z - zmho) / zsht);

@@ -1,5 +1,5 @@
 -- The second derivatives put together from the sweeps.
-use mathlib.Core.Path.{_≡_, refl, sym, ap, _∙_}
+use mathlib.Core.Path.{_≡_}
 use mathlib.Core.List.{List}
 use mathlib.Core.Bool.{cond}
 use Prim.Native.Nat.{ℕ, _-_}
@@ -7,13 +7,13 @@ use lib.ListN.{set, replicate}
 use lib.Ieee.{Float, lt, neg}
 use Rattle.numbers.specs.Arithmetic.{_‼_}
 use Rattle.numbers.specs.Literals.{0·0, 0·5, 0·99E30}
-use Rattle.spline.specs.Sweep.{forwardOf, back, endOf, firstUOf, lastUOf, splineOf}
+use Rattle.spline.specs.Sweep.{forwardOf, back, sweepEnd, firstUOf, lastUOf, splineOf}
 use Rattle.spline.specs.declared.sweep.Pair.{Pair}
 
 pub second-law : (x y : List Float) (n : ℕ) (yp1 ypn : Float)
     (z : List Float) (e qn un : Float) (f : Pair) (b a : Float)
     → z ≡ back (n - 1) (set (f .y2) (n - 1) e) (f .u)
-    → e ≡ endOf un qn (f .u ‼ (n - 2)) (f .y2 ‼ (n - 2))
+    → e ≡ sweepEnd un qn (f .u ‼ (n - 2)) (f .y2 ‼ (n - 2))
     → qn ≡ cond (lt 0·99E30 ypn) 0·0 0·5
     → un ≡ lastUOf x y n ypn
     → (f .y2, f .u) ≡ forwardOf x y n (set (replicate 10 0·0) 0 a) (set (replicate 10 0·0) 0 b)

@@ -57,8 +57,8 @@ lastUOf x y n ypn =
     (3·0 ⊘ (x ‼ (n - 1) ⊖ x ‼ (n - 2)) ⊗ (ypn ⊖ (y ‼ (n - 1) ⊖ y ‼ (n - 2)) ⊘ (x ‼ (n - 1) ⊖ x ‼ (n - 2))))
 
 -- spline's y2[n - 1]
-unfoldable pub endOf : Float → Float → Float → Float → Float
-endOf un qn u y = (un ⊖ qn ⊗ u) ⊘ (qn ⊗ y ⊕ 1·0)
+unfoldable pub sweepEnd : Float → Float → Float → Float → Float
+sweepEnd un qn u y = (un ⊖ qn ⊗ u) ⊘ (qn ⊗ y ⊕ 1·0)
 
 -- spline: the first n numbers are what it writes
 unfoldable pub splineOf : List Float → List Float → ℕ → Float → Float → List Float
@@ -68,5 +68,5 @@ splineOf x y n yp1 ypn =
     let f = forwardOf x y n y2 u in
     let un = lastUOf x y n ypn in
     let qn = cond (lt 0·99E30 ypn) 0·0 0·5 in
-    let last = endOf un qn ((f .1) ‼ (n - 2)) ((f .0) ‼ (n - 2)) in
+    let last = sweepEnd un qn ((f .1) ‼ (n - 2)) ((f .0) ‼ (n - 2)) in
     back (n - 1) (set (f .0) (n - 1) last) (f .1)

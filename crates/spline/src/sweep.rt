@@ -2,7 +2,7 @@
 ghost use mathlib.Core.Path.{_≡_};
 ghost use Prim.Native.Nat.{_+_, _≤_, _<_};
 ghost use lib.ListN.{length};
-ghost use Rattle.spline.specs.Sweep.{stepY, stepU, forwardOf, firstUOf, lastUOf, endOf, back, splineOf};
+ghost use Rattle.spline.specs.Sweep.{stepY, stepU, forwardOf, firstUOf, lastUOf, sweepEnd, back, splineOf};
 use numbers::pick;
 
 // The next second derivative of the forward sweep.
@@ -86,7 +86,7 @@ fn last_u(x: &[f64], y: &[f64], n: usize, ypn: f64) -> f64
 
 // The second derivative at the last node.
 fn end_of(un: f64, qn: f64, u: f64, y: f64) -> f64
-    ensures { λ r. ⌜ r ≡ endOf un qn u y ⌝ }
+    ensures { λ r. ⌜ r ≡ sweepEnd un qn u y ⌝ }
 {
     (un - qn * u) / (qn * y + 1.0)
 }

@@ -11,7 +11,7 @@ use borrow.Author.Tests.{ltb-false}
 use Rattle.numbers.specs.Arithmetic.{_‼_}
 use Rattle.spline_calls.specs.Outcome.{Outcome, gives, refused, counted, after}
 use Rattle.spline.specs.Sweep.{splineOf}
-use Rattle.spline_calls.specs.Calls.{splineCall, over}
+use Rattle.spline_calls.specs.Calls.{splineCall, threeLong}
 
 -- neither test holds where `a || b` does not
 pub neither : (a b : Bool) → (a || b) ≡ false → (a ≡ false) × (b ≡ false)
@@ -56,7 +56,7 @@ pub written : (x y : List Float) (n : ℕ) (yp1 ypn : Float) (o v w : List Float
     → v ≡ splineOf x y n yp1 ypn
     → w ≡ take n v ++ drop n o
     → (gives w ≡ splineCall x y n yp1 ypn o) × (w ≡ after (splineCall x y n yp1 ypn o) o)
-unfolding splineCall over counted after
+unfolding splineCall threeLong counted after
 written x y n yp1 ypn o v w e0 e1 e2 e3 =
     let e : w ≡ take n (splineOf x y n yp1 ypn) ++ drop n o = rw e2 at e3 in
     (simp (e0, e1, e), simp (e0, e1, e))

@@ -9,9 +9,9 @@ use lib.ListN.{length, set, replicate, take, drop, length-set}
 use lib.Ieee.{Float, neg, lt}
 use Rattle.numbers.specs.Arithmetic.{_‼_}
 use Rattle.numbers.specs.Literals.{0·0, 0·5, 0·99E30}
-use Rattle.spline.specs.Sweep.{sweep, forwardOf, back, firstUOf, lastUOf, endOf, splineOf}
+use Rattle.spline.specs.Sweep.{sweep, forwardOf, back, firstUOf, lastUOf, sweepEnd, splineOf}
 use Rattle.spline_calls.specs.Outcome.{counted, after}
-use Rattle.spline_calls.specs.Calls.{splineCall, over}
+use Rattle.spline_calls.specs.Calls.{splineCall, threeLong}
 use Rattle.spline_calls.proofs.Accept.{counted-in, long-enough, past}
 
 -- the sweeps keep the length of what they write
@@ -38,7 +38,7 @@ length-spline x y n yp1 ypn =
     let y2 = set (replicate 10 0·0) 0 (cond (lt 0·99E30 yp1) 0·0 (neg 0·5)) in
     let u = set (replicate 10 0·0) 0 (firstUOf x y yp1) in
     let f = forwardOf x y n y2 u in
-    let v = endOf (lastUOf x y n ypn) (cond (lt 0·99E30 ypn) 0·0 0·5) ((f .1) ‼ (n - 2)) ((f .0) ‼ (n - 2)) in
+    let v = sweepEnd (lastUOf x y n ypn) (cond (lt 0·99E30 ypn) 0·0 0·5) ((f .1) ‼ (n - 2)) ((f .0) ‼ (n - 2)) in
     length-end (n - 1) (n - 1) (f .0) (f .1) v (length-forward x y n y2 u)
 
 -- from n on a list with its first n numbers overwritten is as it was
@@ -51,7 +51,7 @@ kept (suc n) (a ∷ v) (b ∷ o) h k = kept n v o (omega arith) (omega arith)
 -- spline writes nothing of the lent slice behind the first n numbers, whatever it is handed.
 pub spline-rest : (x y : List Float) (n : ℕ) (yp1 ypn : Float) (y2 : List Float)
     → drop n (after (splineCall x y n yp1 ypn y2) y2) ≡ drop n y2
-unfolding splineCall over counted after
+unfolding splineCall threeLong counted after
 spline-rest x y n yp1 ypn y2 =
     past (ltb n 2 || ltb 10 n) 5 10 _ y2 (λ (ys : List Float). drop n ys ≡ drop n y2) refl
     (λ e. past (ltb (length x) n || ltb (length y) n || ltb (length y2) n) 4 n _ y2 (λ (ys : List Float). drop n ys ≡ drop n y2) refl

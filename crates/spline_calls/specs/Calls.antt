@@ -26,17 +26,17 @@ writeOutcome (write.NodeCount place) ys = refused 5 place
 writeOutcome (write.SliceLength place) ys = refused 4 place
 
 -- n nodes asked of three slices: refusal 5, then 4 with the length needed
-unfoldable pub over : {A : Type 0} → ℕ → List Float → List Float → List Float → Outcome A → Outcome A
-over n a b c rest = counted n 10 (cond (ltb (length a) n || ltb (length b) n || ltb (length c) n) (refused 4 n) rest)
+unfoldable pub threeLong : {A : Type 0} → ℕ → List Float → List Float → List Float → Outcome A → Outcome A
+threeLong n a b c rest = counted n 10 (cond (ltb (length a) n || ltb (length b) n || ltb (length c) n) (refused 4 n) rest)
 
 -- splini
 unfoldable pub spliniCall : List Float → List Float → List Float → ℕ → Float → Outcome Float
-spliniCall xa ya y2a n x = over n xa ya y2a (gives (spliniOf xa ya y2a n x))
+spliniCall xa ya y2a n x = threeLong n xa ya y2a (gives (spliniOf xa ya y2a n x))
 
 -- splint
 unfoldable pub splintCall : List Float → List Float → List Float → ℕ → Float → Outcome Float
-splintCall xa ya y2a n x = over n xa ya y2a (gives (splintOf xa ya y2a n x))
+splintCall xa ya y2a n x = threeLong n xa ya y2a (gives (splintOf xa ya y2a n x))
 
 -- spline: the first n numbers of y2 are overwritten
 unfoldable pub splineCall : List Float → List Float → ℕ → Float → Float → List Float → Outcome (List Float)
-splineCall x y n yp1 ypn y2 = over n x y y2 (gives (take n (splineOf x y n yp1 ypn) ++ drop n y2))
+splineCall x y n yp1 ypn y2 = threeLong n x y y2 (gives (take n (splineOf x y n yp1 ypn) ++ drop n y2))

@@ -1,17 +1,16 @@
 -- Roots by squares compared. Assumes nothing.
 use mathlib.Core.Path.{_≡_, refl, sym, ap, _∙_, subst}
-use mathlib.Core.Logic.{_⊎_, inl, inr}
+use mathlib.Core.Logic.{inl, inr}
 use Prim.Native.Nat.{ℕ, zero, suc, _+_, _-_, _*_, _/_, _%_, _^_, _<_, _≤_, zero-le}
 use native.Mathlib.Omega.{arith}
 use native.Mathlib.Nat.{eq-or-lt-of-le, le-div-iff-mul-le, div-lt-iff-lt-mul, lt-of-le-of-lt, le-trans, mul-le-mul, pow-succ', zero-add, not-suc-le-zero}
 use lib.Pow.{pow-pos}
-use lib.Dec.{T, ltb→lt}
 use mathlib.Core.Bool.{Bool, true, false, cond, not, _&&_}
 use borrow.Author.Tests.{lt-ltb, le-ltb, ne-eqb, leb-true, leb-false}
 use lib.Dec.{eqb, leb, leb→le, lit≤}
 use Rattle.fixed_point.proofs.Product.{below-mul}
 use lib.Ieee.{binary64, nanBits}
-use Rattle.square_root.specs.Root.{Over, Nearest, digitsOf, nearestOf}
+use Rattle.square_root.specs.Root.{Nearest, rootDigits, nearestOf}
 
 -- the largest r that the tests can meet is not too small
 pub stays : (a r q : ℕ) → r < 2 ^ 53 → q ≡ (2 * r + 1) * (2 * r + 1) / 2 ^ 54 → q < a → a + 2 ≤ 2 ^ 54 → r + 1 < 2 ^ 53
@@ -91,7 +90,7 @@ high-side a R c h k = le-trans k (squares (2 * R + 1) (2 * c - 1) (step R c h))
     step R c h = omega arith
 
 module _ (a R : ℕ) (over : a * 2 ^ 54 ≤ (2 * R + 1) * (2 * R + 1)) (under : (2 * R - 1) * (2 * R - 1) < a * 2 ^ 54) where
-  digits-find : (n r : ℕ) → r ≤ R → R < r + 2 ^ n → digitsOf a n r ≡ R
+  digits-find : (n r : ℕ) → r ≤ R → R < r + 2 ^ n → rootDigits a n r ≡ R
   digits-find zero r l h = one (2 ^ 0) r refl l h
     where
       one : (w r : ℕ) → w ≡ 1 → r ≤ R → R < r + w → r ≡ R
@@ -101,13 +100,13 @@ module _ (a R : ℕ) (over : a * 2 ^ 54 ≤ (2 * R + 1) * (2 * R + 1)) (under : 
       half : (r w v : ℕ) → v ≡ 2 * w → R < r + v → R < r + w + w
       half r w v e h = omega arith
 
-      go : (r + 2 ^ n ≤ R → digitsOf a n (r + 2 ^ n) ≡ R) → (R < r + 2 ^ n → digitsOf a n r ≡ R) → (b : Bool) → leb (r + 2 ^ n) R ≡ b → digitsOf a (suc n) r ≡ R
+      go : (r + 2 ^ n ≤ R → rootDigits a n (r + 2 ^ n) ≡ R) → (R < r + 2 ^ n → rootDigits a n r ≡ R) → (b : Bool) → leb (r + 2 ^ n) R ≡ b → rootDigits a (suc n) r ≡ R
       go f g true e =
           let k = leb-true (r + 2 ^ n) R e in
-          ap (λ (b : Bool). digitsOf a n (cond b (r + 2 ^ n) r)) (lt-ltb ((2 * (r + 2 ^ n) - 1) * (2 * (r + 2 ^ n) - 1)) (a * 2 ^ 54) (low-side a R (r + 2 ^ n) k under)) ∙ f k
+          ap (λ (b : Bool). rootDigits a n (cond b (r + 2 ^ n) r)) (lt-ltb ((2 * (r + 2 ^ n) - 1) * (2 * (r + 2 ^ n) - 1)) (a * 2 ^ 54) (low-side a R (r + 2 ^ n) k under)) ∙ f k
       go f g false e =
           let k = leb-false (r + 2 ^ n) R e in
-          ap (λ (b : Bool). digitsOf a n (cond b (r + 2 ^ n) r)) (le-ltb ((2 * (r + 2 ^ n) - 1) * (2 * (r + 2 ^ n) - 1)) (a * 2 ^ 54) (high-side a R (r + 2 ^ n) k over)) ∙ g k
+          ap (λ (b : Bool). rootDigits a n (cond b (r + 2 ^ n) r)) (le-ltb ((2 * (r + 2 ^ n) - 1) * (2 * (r + 2 ^ n) - 1)) (a * 2 ^ 54) (high-side a R (r + 2 ^ n) k over)) ∙ g k
 
 -- the nearest root is the one that the definition's digits give
 pub nearest-is : (a R : ℕ) → Nearest a R → R ≡ nearestOf a

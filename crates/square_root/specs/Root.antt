@@ -1,7 +1,7 @@
 -- The nearest root by squares compared: r is the root of a * 2 ^ 52 where 4 * a * 2 ^ 52 lies between the squares of 2 r - 1 and 2 r + 1.
 -- Both squares are odd, so that neither end is met and no tie arises.
 use Prim.Native.Nat.{ℕ, zero, suc, _+_, _-_, _*_, _/_, _%_, _^_, _<_, _≤_}
-use mathlib.Core.Bool.{Bool, true, false, cond}
+use mathlib.Core.Bool.{false, cond}
 use lib.Dec.{ltb}
 use lib.Ieee.{Float, nan, inf, binary64, ofBits, toBits, mul, lt, eq, isNan}
 use Rattle.fixed_point.specs.Float.{nought, tiny, lift}
@@ -15,12 +15,12 @@ pub record Nearest (a r : ℕ) : Type 0 where
   pub small : (1 ≤ r) × (r < 2 ^ 53)
 
 -- The same r by its binary digits, from the highest: the largest number below r + 2 ^ n whose half step down has a square below a * 2 ^ 54
-abbrev pub digitsOf : ℕ → ℕ → ℕ → ℕ
-digitsOf a zero r = r
-digitsOf a (suc n) r = digitsOf a n (cond (ltb ((2 * (r + 2 ^ n) - 1) * (2 * (r + 2 ^ n) - 1)) (a * 2 ^ 54)) (r + 2 ^ n) r)
+abbrev pub rootDigits : ℕ → ℕ → ℕ → ℕ
+rootDigits a zero r = r
+rootDigits a (suc n) r = rootDigits a n (cond (ltb ((2 * (r + 2 ^ n) - 1) * (2 * (r + 2 ^ n) - 1)) (a * 2 ^ 54)) (r + 2 ^ n) r)
 
 unfoldable pub nearestOf : ℕ → ℕ
-nearestOf a = digitsOf a 53 0
+nearestOf a = rootDigits a 53 0
 
 -- For a field e of the exponent and the digits t, x is a * 2 ^ (an even number): the digits with the leading one, once or twice
 abbrev pub radicandOf : ℕ → ℕ → ℕ

@@ -1,23 +1,23 @@
 // A function for each stage of gts7 that asks one expansion, proved against its plan.
 ghost use mathlib.Core.Path.{_≡_};
-ghost use Rattle.plan.specs.Plan.{told, given};
+ghost use Rattle.plan.specs.Plan.{told, answerTo};
 ghost use Rattle.numbers.specs.Arithmetic.{_⊗_, _‼_};
 ghost use Rattle.species.specs.Places.{placeAt, Turbopause, Mixes};
 ghost use Rattle.tables.specs.Tables.{pdmT0, pdmT1, pdmT2, pdmT3, pdmT4, pdmT5, pdmT6};
-ghost use Rattle.stages.specs.Stages.{tinfPlan, gradientPlan, tlbPlan, n2Plan, heliumPlan, oxygenPlan, o2Plan, argonPlan, hydrogenPlan, nitrogenPlan, hotPlan};
+ghost use Rattle.stages.specs.Stages.{tinfPlan, gradientPlan, tlbPlan, n2Plan, heliumPlan, oxygenPlan, o2Plan, argonPlan, hydrogenPlan, nitrogenPlan, anomalousPlan};
 use elementary::exponential::exp;
 use places::place::Place;
 use places::thinning::Thinning;
-use plan::Levels;
+use plan::ExpansionValues;
 use profile::unchecked::Shape;
 use species::Blend;
 use species::Mixture;
+use species::anomalous_factor;
+use species::anomalous_oxygen;
 use species::argon;
 use species::argon_root;
 use species::helium;
 use species::helium_root;
-use species::hot;
-use species::hot_factor;
 use species::hydrogen;
 use species::hydrogen_root;
 use species::n2;
@@ -53,8 +53,8 @@ use tables::pt;
 use tables::ptm;
 
 // Exospheric temperature; its variation counts above za.
-pub fn tinf_stage(sw: [f64; 24], z: f64, l: Levels) -> f64
-    ensures { λ r. ⌜ r ≡ told (given l) (tinfPlan sw z) ⌝ }
+pub fn tinf_stage(sw: [f64; 24], z: f64, l: ExpansionValues) -> f64
+    ensures { λ r. ⌜ r ≡ told (answerTo l) (tinfPlan sw z) ⌝ }
 {
     let p = pt();
     let m = ptm();
@@ -66,8 +66,8 @@ pub fn tinf_stage(sw: [f64; 24], z: f64, l: Levels) -> f64
 }
 
 // g0 of gts7, the gradient at the lower boundary; its variation counts above zn1[4].
-pub fn gradient_stage(sw: [f64; 24], z: f64, l: Levels) -> f64
-    ensures { λ r. ⌜ r ≡ told (given l) (gradientPlan sw z) ⌝ }
+pub fn gradient_stage(sw: [f64; 24], z: f64, l: ExpansionValues) -> f64
+    ensures { λ r. ⌜ r ≡ told (answerTo l) (gradientPlan sw z) ⌝ }
 {
     let p = ps();
     let m = ptm();
@@ -78,8 +78,8 @@ pub fn gradient_stage(sw: [f64; 24], z: f64, l: Levels) -> f64
 }
 
 // tlb, the temperature at the lower boundary.
-pub fn tlb_stage(sw: [f64; 24], l: Levels) -> f64
-    ensures { λ r. ⌜ r ≡ told (given l) (tlbPlan sw) ⌝ }
+pub fn tlb_stage(sw: [f64; 24], l: ExpansionValues) -> f64
+    ensures { λ r. ⌜ r ≡ told (answerTo l) (tlbPlan sw) ⌝ }
 {
     let p = pd3();
     let m = ptm();
@@ -96,10 +96,10 @@ pub fn n2_stage(
     t: Thinning,
     zhf: f64,
     xmm: f64,
-    l: Levels,
+    l: ExpansionValues,
 ) -> Blend
     requires { ⌜ (p ≡ placeAt h z) × (w ≡ placeAt h (pdmT2 ‼ 2 ⊗ zhf)) × Mixes on p xmm t ⌝ }
-    ensures { λ r. ⌜ r ≡ told (given l) (n2Plan sw h on z zhf xmm) ⌝ }
+    ensures { λ r. ⌜ r ≡ told (answerTo l) (n2Plan sw h on z zhf xmm) ⌝ }
 {
     let c = pd2();
     let m = pdm2();
@@ -114,16 +114,16 @@ pub fn n2_stage(
 }
 
 // Anomalous oxygen.
-pub fn hot_stage(sw: [f64; 24], h: Shape, z: f64, l: Levels) -> f64
-    ensures { λ r. ⌜ r ≡ told (given l) (hotPlan sw h z) ⌝ }
+pub fn anomalous_stage(sw: [f64; 24], h: Shape, z: f64, l: ExpansionValues) -> f64
+    ensures { λ r. ⌜ r ≡ told (answerTo l) (anomalousPlan sw h z) ⌝ }
 {
     let c = pd8();
     let m = pdm7();
     let d = pdl0();
     let g = exp(sw[21] * l.pd8);
     let p = place_alone_at(h, z);
-    let f = hot_factor(h.rgas, h.gsurf, h.re, m[5], m[4], m[9] * d[6]);
-    hot(z, p, m[0] * g * c[0], f, m[5], m[4])
+    let f = anomalous_factor(h.rgas, h.gsurf, h.re, m[5], m[4], m[9] * d[6]);
+    anomalous_oxygen(z, p, m[0] * g * c[0], f, m[5], m[4])
 }
 
 pub fn helium_stage(
@@ -137,10 +137,10 @@ pub fn helium_stage(
     b28: f64,
     zhm: f64,
     xmm: f64,
-    l: Levels,
+    l: ExpansionValues,
 ) -> Mixture
     requires { ⌜ (p ≡ placeAt h z) × Turbopause h on (pdmT0 ‼ 2) w × Mixes on p xmm t ⌝ }
-    ensures { λ r. ⌜ r ≡ told (given l) (heliumPlan sw h on z b28 zhm xmm) ⌝ }
+    ensures { λ r. ⌜ r ≡ told (answerTo l) (heliumPlan sw h on z b28 zhm xmm) ⌝ }
 {
     let c = pd0();
     let m = pdm0();
@@ -160,10 +160,10 @@ pub fn oxygen_stage(
     zhm: f64,
     xmm: f64,
     flux: f64,
-    l: Levels,
+    l: ExpansionValues,
 ) -> Mixture
     requires { ⌜ (p ≡ placeAt h z) × Turbopause h on (pdmT1 ‼ 2) w × Mixes on p xmm t ⌝ }
-    ensures { λ r. ⌜ r ≡ told (given l) (oxygenPlan sw h on z zhm xmm flux) ⌝ }
+    ensures { λ r. ⌜ r ≡ told (answerTo l) (oxygenPlan sw h on z zhm xmm flux) ⌝ }
 {
     let c = pd1();
     let m = pdm1();
@@ -184,10 +184,10 @@ pub fn o2_stage(
     zhm: f64,
     xmm: f64,
     flux: f64,
-    l: Levels,
+    l: ExpansionValues,
 ) -> Mixture
     requires { ⌜ (p ≡ placeAt h z) × Turbopause h on (pdmT3 ‼ 2) w × Mixes on p xmm t ⌝ }
-    ensures { λ r. ⌜ r ≡ told (given l) (o2Plan sw h on z b28 zhm xmm flux) ⌝ }
+    ensures { λ r. ⌜ r ≡ told (answerTo l) (o2Plan sw h on z b28 zhm xmm flux) ⌝ }
 {
     let c = pd4();
     let m = pdm3();
@@ -208,10 +208,10 @@ pub fn argon_stage(
     b28: f64,
     zhm: f64,
     xmm: f64,
-    l: Levels,
+    l: ExpansionValues,
 ) -> Mixture
     requires { ⌜ (p ≡ placeAt h z) × Turbopause h on (pdmT4 ‼ 2) w × Mixes on p xmm t ⌝ }
-    ensures { λ r. ⌜ r ≡ told (given l) (argonPlan sw h on z b28 zhm xmm) ⌝ }
+    ensures { λ r. ⌜ r ≡ told (answerTo l) (argonPlan sw h on z b28 zhm xmm) ⌝ }
 {
     let c = pd5();
     let m = pdm4();
@@ -231,10 +231,10 @@ pub fn hydrogen_stage(
     b28: f64,
     zhm: f64,
     xmm: f64,
-    l: Levels,
+    l: ExpansionValues,
 ) -> Mixture
     requires { ⌜ (p ≡ placeAt h z) × Turbopause h on (pdmT5 ‼ 2) w × Mixes on p xmm t ⌝ }
-    ensures { λ r. ⌜ r ≡ told (given l) (hydrogenPlan sw h on z b28 zhm xmm) ⌝ }
+    ensures { λ r. ⌜ r ≡ told (answerTo l) (hydrogenPlan sw h on z b28 zhm xmm) ⌝ }
 {
     let c = pd6();
     let m = pdm5();
@@ -254,10 +254,10 @@ pub fn nitrogen_stage(
     b28: f64,
     zhm: f64,
     xmm: f64,
-    l: Levels,
+    l: ExpansionValues,
 ) -> Mixture
     requires { ⌜ (p ≡ placeAt h z) × Turbopause h on (pdmT6 ‼ 2) w × Mixes on p xmm t ⌝ }
-    ensures { λ r. ⌜ r ≡ told (given l) (nitrogenPlan sw h on z b28 zhm xmm) ⌝ }
+    ensures { λ r. ⌜ r ≡ told (answerTo l) (nitrogenPlan sw h on z b28 zhm xmm) ⌝ }
 {
     let c = pd7();
     let m = pdm6();

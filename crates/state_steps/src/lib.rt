@@ -1,15 +1,15 @@
 // The steps by which gts7 and gtd7 set fields of State, and gts7's species with them: State goes in by value and comes back by value.
 ghost use mathlib.Core.Path.{_≡_};
 ghost use Rattle.numbers.specs.Arithmetic.{_⊗_, _‼_};
-ghost use Rattle.plan.specs.Plan.{ends, given, stepped};
+ghost use Rattle.plan.specs.Plan.{ends, answerTo, stepped};
 ghost use Rattle.species.specs.Places.{placeAt, Turbopause, Mixes};
 ghost use Rattle.tables.specs.Tables.{pdmT0, pdmT1, pdmT2, pdmT3, pdmT4, pdmT5, pdmT6};
-ghost use Rattle.plan.specs.Fields.{fieldsOf, withFields, when, setGravity, setDd, setDm04, setDm16, setDm28, setDm32, setDm40, setDm01, setDm14, setNodes1, setTn2, setTn3, setTop3};
-ghost use Rattle.stages.specs.Stages.{densuSets, n2Plan, heliumPlan, oxygenPlan, o2Plan, argonPlan, hydrogenPlan, nitrogenPlan, hotPlan};
+ghost use Rattle.plan.specs.Fields.{fieldsOf, withFields, setWhen, setGravity, setDd, setDm04, setDm16, setDm28, setDm32, setDm40, setDm01, setDm14, setNodes1, setTn2, setTn3, setTop3};
+ghost use Rattle.stages.specs.Stages.{densuSets, n2Plan, heliumPlan, oxygenPlan, o2Plan, argonPlan, hydrogenPlan, nitrogenPlan, anomalousPlan};
 use numbers::pick;
 use places::place::Place;
 use places::thinning::Thinning;
-use plan::Levels;
+use plan::ExpansionValues;
 use profile::gravity::zeta;
 use profile::unchecked::Shape;
 use profile::unchecked::bates;
@@ -18,9 +18,9 @@ use setting::State;
 use setting::Valued;
 use species::Blend;
 use species::Mixture;
+use stages::anomalous_stage;
 use stages::argon_stage;
 use stages::helium_stage;
-use stages::hot_stage;
 use stages::hydrogen_stage;
 use stages::n2_stage;
 use stages::nitrogen_stage;
@@ -57,7 +57,7 @@ pub fn set_dd(s: State, x: f64) -> State
 
 // N2, where it is mixed, with the mark that its density was set.
 pub fn set_dm28(s: State, on: bool, x: f64) -> State
-    ensures { λ r. ⌜ r ≡ withFields s (when on (setDm28 x) (fieldsOf s)) ⌝ }
+    ensures { λ r. ⌜ r ≡ withFields s (setWhen on (setDm28 x) (fieldsOf s)) ⌝ }
 {
     if on {
         let mut out = s;
@@ -70,7 +70,7 @@ pub fn set_dm28(s: State, on: bool, x: f64) -> State
 
 // Helium, where it is mixed.
 pub fn set_dm04(s: State, on: bool, x: f64) -> State
-    ensures { λ r. ⌜ r ≡ withFields s (when on (setDm04 x) (fieldsOf s)) ⌝ }
+    ensures { λ r. ⌜ r ≡ withFields s (setWhen on (setDm04 x) (fieldsOf s)) ⌝ }
 {
     if on {
         let mut out = s;
@@ -82,7 +82,7 @@ pub fn set_dm04(s: State, on: bool, x: f64) -> State
 
 // Atomic oxygen, where it is mixed.
 pub fn set_dm16(s: State, on: bool, x: f64) -> State
-    ensures { λ r. ⌜ r ≡ withFields s (when on (setDm16 x) (fieldsOf s)) ⌝ }
+    ensures { λ r. ⌜ r ≡ withFields s (setWhen on (setDm16 x) (fieldsOf s)) ⌝ }
 {
     if on {
         let mut out = s;
@@ -94,7 +94,7 @@ pub fn set_dm16(s: State, on: bool, x: f64) -> State
 
 // Molecular oxygen, where it is mixed.
 pub fn set_dm32(s: State, on: bool, x: f64) -> State
-    ensures { λ r. ⌜ r ≡ withFields s (when on (setDm32 x) (fieldsOf s)) ⌝ }
+    ensures { λ r. ⌜ r ≡ withFields s (setWhen on (setDm32 x) (fieldsOf s)) ⌝ }
 {
     if on {
         let mut out = s;
@@ -106,7 +106,7 @@ pub fn set_dm32(s: State, on: bool, x: f64) -> State
 
 // Argon, where it is mixed.
 pub fn set_dm40(s: State, on: bool, x: f64) -> State
-    ensures { λ r. ⌜ r ≡ withFields s (when on (setDm40 x) (fieldsOf s)) ⌝ }
+    ensures { λ r. ⌜ r ≡ withFields s (setWhen on (setDm40 x) (fieldsOf s)) ⌝ }
 {
     if on {
         let mut out = s;
@@ -118,7 +118,7 @@ pub fn set_dm40(s: State, on: bool, x: f64) -> State
 
 // Hydrogen, where it is mixed.
 pub fn set_dm01(s: State, on: bool, x: f64) -> State
-    ensures { λ r. ⌜ r ≡ withFields s (when on (setDm01 x) (fieldsOf s)) ⌝ }
+    ensures { λ r. ⌜ r ≡ withFields s (setWhen on (setDm01 x) (fieldsOf s)) ⌝ }
 {
     if on {
         let mut out = s;
@@ -130,7 +130,7 @@ pub fn set_dm01(s: State, on: bool, x: f64) -> State
 
 // Atomic nitrogen, where it is mixed.
 pub fn set_dm14(s: State, on: bool, x: f64) -> State
-    ensures { λ r. ⌜ r ≡ withFields s (when on (setDm14 x) (fieldsOf s)) ⌝ }
+    ensures { λ r. ⌜ r ≡ withFields s (setWhen on (setDm14 x) (fieldsOf s)) ⌝ }
 {
     if on {
         let mut out = s;
@@ -214,7 +214,7 @@ pub fn densu_sets(s: State, h: Shape, z: f64) -> State
 
 // The same where a test holds.
 pub fn densu_where(s: State, on: bool, h: Shape, z: f64) -> State
-    ensures { λ r. ⌜ r ≡ withFields s (when on (densuSets h z) (fieldsOf s)) ⌝ }
+    ensures { λ r. ⌜ r ≡ withFields s (setWhen on (densuSets h z) (fieldsOf s)) ⌝ }
 {
     if on {
         return densu_sets(s, h, z);
@@ -224,7 +224,7 @@ pub fn densu_where(s: State, on: bool, h: Shape, z: f64) -> State
 
 // What a species' calls of densu set: at z, and where it is mixed at its turbopause zh and at z again.
 pub fn species_sets(s: State, on: bool, h: Shape, z: f64, zh: f64) -> State
-    ensures { λ r. ⌜ r ≡ withFields s (when on (λ f. densuSets h z (densuSets h zh f)) (densuSets h z (fieldsOf s))) ⌝ }
+    ensures { λ r. ⌜ r ≡ withFields s (setWhen on (λ f. densuSets h z (densuSets h zh f)) (densuSets h z (fieldsOf s))) ⌝ }
 {
     let a = densu_sets(s, h, z);
     let b = densu_where(a, on, h, zh);
@@ -253,11 +253,11 @@ pub fn n2_step(
     t: Thinning,
     zhf: f64,
     xmm: f64,
-    l: Levels,
+    l: ExpansionValues,
     s: State,
 ) -> BlendLeft
     requires { ⌜ (p ≡ placeAt h z) × (w ≡ placeAt h (pdmT2 ‼ 2 ⊗ zhf)) × Mixes on p xmm t ⌝ }
-    ensures { λ r. ⌜ stepped (given l) (n2Plan sw h on z zhf xmm) s ≡ ends (r .value) (r .state) ⌝ }
+    ensures { λ r. ⌜ stepped (answerTo l) (n2Plan sw h on z zhf xmm) s ≡ ends (r .value) (r .state) ⌝ }
 {
     let m = pdm2();
     let b = n2_stage(sw, h, on, z, p, w, t, zhf, xmm, l);
@@ -272,10 +272,10 @@ pub fn n2_step(
 }
 
 // Anomalous oxygen.
-pub fn hot_step(sw: [f64; 24], h: Shape, z: f64, l: Levels, s: State) -> Valued
-    ensures { λ r. ⌜ stepped (given l) (hotPlan sw h z) s ≡ ends (r .value) (r .state) ⌝ }
+pub fn anomalous_step(sw: [f64; 24], h: Shape, z: f64, l: ExpansionValues, s: State) -> Valued
+    ensures { λ r. ⌜ stepped (answerTo l) (anomalousPlan sw h z) s ≡ ends (r .value) (r .state) ⌝ }
 {
-    let o = hot_stage(sw, h, z, l);
+    let o = anomalous_stage(sw, h, z, l);
     let s1 = densu_sets(s, h, z);
     Valued {
         value: o,
@@ -294,11 +294,11 @@ pub fn helium_step(
     b28: f64,
     zhm: f64,
     xmm: f64,
-    l: Levels,
+    l: ExpansionValues,
     s: State,
 ) -> MixtureLeft
     requires { ⌜ (p ≡ placeAt h z) × Turbopause h on (pdmT0 ‼ 2) w × Mixes on p xmm t ⌝ }
-    ensures { λ r. ⌜ stepped (given l) (heliumPlan sw h on z b28 zhm xmm) s ≡ ends (r .value) (r .state) ⌝ }
+    ensures { λ r. ⌜ stepped (answerTo l) (heliumPlan sw h on z b28 zhm xmm) s ≡ ends (r .value) (r .state) ⌝ }
 {
     let m = pdm0();
     let x = helium_stage(sw, h, on, z, p, w, t, b28, zhm, xmm, l);
@@ -321,11 +321,11 @@ pub fn oxygen_step(
     zhm: f64,
     xmm: f64,
     flux: f64,
-    l: Levels,
+    l: ExpansionValues,
     s: State,
 ) -> MixtureLeft
     requires { ⌜ (p ≡ placeAt h z) × Turbopause h on (pdmT1 ‼ 2) w × Mixes on p xmm t ⌝ }
-    ensures { λ r. ⌜ stepped (given l) (oxygenPlan sw h on z zhm xmm flux) s ≡ ends (r .value) (r .state) ⌝ }
+    ensures { λ r. ⌜ stepped (answerTo l) (oxygenPlan sw h on z zhm xmm flux) s ≡ ends (r .value) (r .state) ⌝ }
 {
     let m = pdm1();
     let x = oxygen_stage(sw, h, on, z, p, w, t, zhm, xmm, flux, l);
@@ -349,11 +349,11 @@ pub fn o2_step(
     zhm: f64,
     xmm: f64,
     flux: f64,
-    l: Levels,
+    l: ExpansionValues,
     s: State,
 ) -> MixtureLeft
     requires { ⌜ (p ≡ placeAt h z) × Turbopause h on (pdmT3 ‼ 2) w × Mixes on p xmm t ⌝ }
-    ensures { λ r. ⌜ stepped (given l) (o2Plan sw h on z b28 zhm xmm flux) s ≡ ends (r .value) (r .state) ⌝ }
+    ensures { λ r. ⌜ stepped (answerTo l) (o2Plan sw h on z b28 zhm xmm flux) s ≡ ends (r .value) (r .state) ⌝ }
 {
     let m = pdm3();
     let x = o2_stage(sw, h, on, z, p, w, t, b28, zhm, xmm, flux, l);
@@ -376,11 +376,11 @@ pub fn argon_step(
     b28: f64,
     zhm: f64,
     xmm: f64,
-    l: Levels,
+    l: ExpansionValues,
     s: State,
 ) -> MixtureLeft
     requires { ⌜ (p ≡ placeAt h z) × Turbopause h on (pdmT4 ‼ 2) w × Mixes on p xmm t ⌝ }
-    ensures { λ r. ⌜ stepped (given l) (argonPlan sw h on z b28 zhm xmm) s ≡ ends (r .value) (r .state) ⌝ }
+    ensures { λ r. ⌜ stepped (answerTo l) (argonPlan sw h on z b28 zhm xmm) s ≡ ends (r .value) (r .state) ⌝ }
 {
     let m = pdm4();
     let x = argon_stage(sw, h, on, z, p, w, t, b28, zhm, xmm, l);
@@ -403,11 +403,11 @@ pub fn hydrogen_step(
     b28: f64,
     zhm: f64,
     xmm: f64,
-    l: Levels,
+    l: ExpansionValues,
     s: State,
 ) -> MixtureLeft
     requires { ⌜ (p ≡ placeAt h z) × Turbopause h on (pdmT5 ‼ 2) w × Mixes on p xmm t ⌝ }
-    ensures { λ r. ⌜ stepped (given l) (hydrogenPlan sw h on z b28 zhm xmm) s ≡ ends (r .value) (r .state) ⌝ }
+    ensures { λ r. ⌜ stepped (answerTo l) (hydrogenPlan sw h on z b28 zhm xmm) s ≡ ends (r .value) (r .state) ⌝ }
 {
     let m = pdm5();
     let x = hydrogen_stage(sw, h, on, z, p, w, t, b28, zhm, xmm, l);
@@ -430,11 +430,11 @@ pub fn nitrogen_step(
     b28: f64,
     zhm: f64,
     xmm: f64,
-    l: Levels,
+    l: ExpansionValues,
     s: State,
 ) -> MixtureLeft
     requires { ⌜ (p ≡ placeAt h z) × Turbopause h on (pdmT6 ‼ 2) w × Mixes on p xmm t ⌝ }
-    ensures { λ r. ⌜ stepped (given l) (nitrogenPlan sw h on z b28 zhm xmm) s ≡ ends (r .value) (r .state) ⌝ }
+    ensures { λ r. ⌜ stepped (answerTo l) (nitrogenPlan sw h on z b28 zhm xmm) s ≡ ends (r .value) (r .state) ⌝ }
 {
     let m = pdm6();
     let x = nitrogen_stage(sw, h, on, z, p, w, t, b28, zhm, xmm, l);

@@ -21,73 +21,73 @@ use Rattle.setting.specs.View.{viewOf}
 use Rattle.acceptance.specs.declared.Answer.{Answer}
 use Rattle.acceptance.specs.declared.Answer.the-variants.{Refused}
 use Rattle.acceptance.specs.Acceptance.{judgedOf, acceptedOf, withAltOf}
-use Rattle.levels.specs.declared.Need.{Need}
-use Rattle.levels.specs.Levels.{levelsOf}
-use Rattle.plan.specs.declared.Levels.{Levels}
-use Rattle.upper.specs.declared.Site.{Site}
-use Rattle.station_levels.specs.StationLevels.{levelsNumbers, levelsIn, siteUnder}
+use Rattle.expansion_values.specs.declared.Need.{Need}
+use Rattle.expansion_values.specs.ExpansionValues.{expansionValuesOf}
+use Rattle.plan.specs.declared.ExpansionValues.{ExpansionValues}
+use Rattle.gts7_arithmetic.specs.declared.Site.{Site}
+use Rattle.station_values.specs.StationValues.{expansionNumbers, expansionValuesIn, siteUnder}
 use Rattle.stored_parts.specs.declared.Parts.{Parts}
 use Rattle.stored_parts.specs.Parts.{allParts}
 use Rattle.stored.specs.Stored.{needOf, part, storedOf, rowStored}
 use Rattle.drag_sum.specs.DragSum.{draggedOf}
-use Rattle.station_record.specs.Record.{wholeOf, recordNumbers, recordIn, unitsIn, mixingIn, Change, changeOf, stationAnswer, altitudeAnswer, changeAnswer, switchesAnswer, rowTaken}
-use Rattle.station.specs.Station.{heldOf, refilledOf, numbersOf, wholeAfter, numbersAfter, altitudeRow, altitudeDrag, replacedOf, changedNumbers, renewedOf, switchedWhole, switchedNumbers}
-use Rattle.station.specs.Renewed.{fourteen, refilled-is}
+use Rattle.station_record.specs.Record.{stationWhole, recordNumbers, recordIn, unitsIn, mixingIn, Change, changeOf, stationAnswer, altitudeAnswer, changeAnswer, switchesAnswer, rowTaken}
+use Rattle.station.specs.Station.{heldOf, refilledOf, stationNumbers, wholeAfter, stationNumbersAfter, altitudeRow, altitudeDrag, replacedOf, changedNumbers, renewedOf, switchedWhole, switchedNumbers}
+use Rattle.station.specs.Renewed.{record-fourteen, refilled-is}
 
 -- the first 234 of a list and what is stored in them
-pub refill-law : (w : List ℤ) (n : Input) (xs s : List Float) (f : Flags) (x : Site) (l : Levels) (p : Parts)
+pub refill-law : (w : List ℤ) (n : Input) (xs s : List Float) (f : Flags) (x : Site) (l : ExpansionValues) (p : Parts)
     → s ≡ take 14 (take 234 xs) ++ storedOf p (f .sw) x l
-    → l ≡ levelsIn (part 234 25 xs)
+    → l ≡ expansionValuesIn (part 234 25 xs)
     → p ≡ allParts
     → x ≡ siteUnder (f .sw) n
     → f ≡ flagsOf w
     → putMid 0 234 xs s ≡ refilledOf w n xs
 unfolding refilledOf heldOf flagsOf
 refill-law w n xs s f x l p e0 e1 e2 e3 e4 =
-    let made : storedOf p (f .sw) x l ≡ storedOf allParts (swOf w) (siteUnder (swOf w) n) (levelsIn (part 234 25 xs)) = rw (e1, e2, e3, e4) in
+    let made : storedOf p (f .sw) x l ≡ storedOf allParts (swOf w) (siteUnder (swOf w) n) (expansionValuesIn (part 234 25 xs)) = rw (e1, e2, e3, e4) in
     rw (e0, made, take-take 14 234 xs (lit≤ tt)) (append-assoc (take 14 xs) _ (drop 234 xs))
 
 -- the record's numbers and the expansions' values in their places
-pub fill-law : (w : List ℤ) (n : Input) (xs zs r s t k : List Float) (l : Levels) (a : Need) (p : Parts) (v : View)
+pub fill-law : (w : List ℤ) (n : Input) (xs zs r s t k : List Float) (l : ExpansionValues) (a : Need) (p : Parts) (v : View)
     → length xs ≡ 259
     → zs ≡ refilledOf w n (putMid 0 14 (putMid 234 25 xs t) s)
     → s ≡ r
     → r ≡ recordNumbers n
     → t ≡ k
-    → k ≡ levelsNumbers l
-    → l ≡ levelsOf v a
+    → k ≡ expansionNumbers l
+    → l ≡ expansionValuesOf v a
     → a ≡ needOf p
     → p ≡ allParts
     → v ≡ viewOf w n
-    → zs ≡ numbersOf w n
-unfolding numbersOf
+    → zs ≡ stationNumbers w n
+unfolding stationNumbers
 fill-law w n xs zs r s t k l a p v len e0 e1 e2 e3 e4 e5 e6 e7 e8 =
-    let held : l ≡ levelsOf (viewOf w n) (needOf allParts) = rw (e5, e6, e7, e8) in
-    let K : List Float = levelsNumbers (levelsOf (viewOf w n) (needOf allParts)) in
+    let held : l ≡ expansionValuesOf (viewOf w n) (needOf allParts) = rw (e5, e6, e7, e8) in
+    let K : List Float = expansionNumbers (expansionValuesOf (viewOf w n) (needOf allParts)) in
     let ys : List Float = putMid 234 25 xs K in
     let written : putMid 0 14 (putMid 234 25 xs t) s ≡ recordNumbers n ++ drop 14 ys = rw (e1, e2, e3, e4, held) in
     let nothing : drop 25 (drop 234 xs) ≡ [] = drop-drop 25 234 xs ∙ ap (λ (i : ℕ). drop i xs) (sym len) ∙ drop-length xs in
     let behind : drop 234 (recordNumbers n ++ drop 14 ys) ≡ K =
-    sym (drop-drop 220 14 (recordNumbers n ++ drop 14 ys)) ∙ ap (drop 220) (drop-at (recordNumbers n) (drop 14 ys) 14 (fourteen n)) ∙ drop-drop 220 14 ys
+    sym (drop-drop 220 14 (recordNumbers n ++ drop 14 ys)) ∙ ap (drop 220) (drop-at (recordNumbers n) (drop 14 ys) 14 (record-fourteen n)) ∙ drop-drop 220 14 ys
     ∙ drop-at (take 234 xs) _ 234 (length-take-le 234 xs (omega (arith, len))) ∙ ap (λ (u : List Float). K ++ u) nothing ∙ append-nil K in
-    e0 ∙ ap (refilledOf w n) written ∙ refilled-is w n _ _ (take-at (recordNumbers n) (drop 14 ys) 14 (fourteen n)) behind
+    e0 ∙ ap (refilledOf w n) written ∙ refilled-is w n _ _ (take-at (recordNumbers n) (drop 14 ys) 14 (record-fourteen n)) behind
 
 -- ---- preparing
 
 module _ (w : List ℤ) (n : Input) (ys : List ℤ) (xs : List Float) where
   abbrev Outcome : Answer → List ℤ → List Float → Type 0
-  Outcome a ys' xs' = (a ≡ stationAnswer w n (length ys) (length xs)) × (ys' ≡ wholeAfter w n ys (length xs)) × (xs' ≡ numbersAfter w n (length ys) xs)
+  Outcome a ys' xs' = (a ≡ stationAnswer w n (length ys) (length xs)) × (ys' ≡ wholeAfter w n ys (length xs)) × (xs' ≡ stationNumbersAfter w n (length ys) xs)
 
   pub refused : (a : Answer) → a ≡ stationAnswer w n (length ys) (length xs) → acceptedOf a ≡ false → Outcome a ys xs
-  unfolding wholeAfter numbersAfter
+  unfolding wholeAfter stationNumbersAfter
   refused a e f = (e, simp (← e) (simp f), simp (← e) (simp f))
 
   pub taken : (a : Answer) (m : Input) (v : Bool) (ys' : List ℤ) (xs' : List Float)
-      → a ≡ stationAnswer w n (length ys) (length xs) → v ≡ acceptedOf a → v ≡ true → m ≡ withAltOf n 0·0 → ys' ≡ wholeOf w m → xs' ≡ numbersOf w m → Outcome a ys' xs'
-  unfolding wholeAfter numbersAfter
+      → a ≡ stationAnswer w n (length ys) (length xs) → v ≡ acceptedOf a → v ≡ true → m ≡ withAltOf n 0·0 → ys' ≡ stationWhole w m → xs' ≡ stationNumbers w m → Outcome a ys' xs'
+  unfolding wholeAfter stationNumbersAfter
   taken a m v ys' xs' e i t h j k =
       let o : acceptedOf (stationAnswer w n (length ys) (length xs)) ≡ true = ap acceptedOf (sym e) ∙ sym i ∙ t in
-      (e, rw o (j ∙ ap (wholeOf w) h), rw o (k ∙ ap (numbersOf w) h))
+      (e, rw o (j ∙ ap (stationWhole w) h), rw o (k ∙ ap (stationNumbers w) h))
 
 -- ---- changes
 
@@ -95,7 +95,7 @@ pub not-changed : (w : List ℤ) (n : Input) (xs : List Float) (a : Answer) (v :
 unfolding replacedOf
 not-changed w n xs a v e f t = (e, simp (← e, ← f) (simp t))
 
-pub is-changed : (w : List ℤ) (n : Input) (xs ys : List Float) (a : Answer) (v : Bool) → a ≡ judgedOf w n → v ≡ acceptedOf a → v ≡ true → ys ≡ numbersOf w n → (a ≡ judgedOf w n) × (ys ≡ replacedOf w n xs)
+pub is-changed : (w : List ℤ) (n : Input) (xs ys : List Float) (a : Answer) (v : Bool) → a ≡ judgedOf w n → v ≡ acceptedOf a → v ≡ true → ys ≡ stationNumbers w n → (a ≡ judgedOf w n) × (ys ≡ replacedOf w n xs)
 unfolding replacedOf
 is-changed w n xs ys a v e f t g =
     let o : acceptedOf (judgedOf w n) ≡ true = ap acceptedOf (sym e) ∙ sym f ∙ t in
@@ -157,7 +157,7 @@ pub renewed : (old w : List ℤ) (n : Input) (xs zs : List Float) (b : Bool) →
 unfolding renewedOf
 renewed old w n xs zs b e t h = rw (sym e ∙ t) h
 
-pub made-anew : (old w : List ℤ) (n : Input) (xs zs : List Float) (b : Bool) → b ≡ sameExpansions old w → b ≡ false → zs ≡ numbersOf w n → zs ≡ renewedOf old w n xs
+pub made-anew : (old w : List ℤ) (n : Input) (xs zs : List Float) (b : Bool) → b ≡ sameExpansions old w → b ≡ false → zs ≡ stationNumbers w n → zs ≡ renewedOf old w n xs
 unfolding renewedOf
 made-anew old w n xs zs b e t h = rw (sym e ∙ t) h
 
@@ -195,5 +195,5 @@ module _ (w whole : List ℤ) (xs : List Float) where
     unfolding rowTaken switchedWhole switchedNumbers
     switches-taken old zs t eo ez =
         let o : acceptedOf (judgedOf w n) ≡ true = ap acceptedOf (sym ea) ∙ sym ev ∙ t in
-        let k : ys ≡ wholeOf w n = rw o at ey in
-        (ea ∙ sym met, rw (met, o) (k ∙ ap (wholeOf w) en), rw (met, o) (rw (eo, en) at ez))
+        let k : ys ≡ stationWhole w n = rw o at ey in
+        (ea ∙ sym met, rw (met, o) (k ∙ ap (stationWhole w) en), rw (met, o) (rw (eo, en) at ez))

@@ -15,18 +15,18 @@ use Rattle.shutoff.specs.Theorems.{alike-at}
 use Rattle.drag_sum.specs.DragSum.{draggedOf}
 use Rattle.drag.specs.Drag.{dragOf, dragAfter}
 use Rattle.drag.specs.Theorems.{demand-3-drag}
-use Rattle.station_record.specs.Record.{wholeOf, altitudeAnswer}
-use Rattle.station.specs.Station.{numbersOf, altitudeRow, altitudeDrag}
-use Rattle.station.specs.Theorems.{Held, Call, heldAfter, stationAfter, kept, altitude-told}
+use Rattle.station_record.specs.Record.{stationWhole, altitudeAnswer}
+use Rattle.station.specs.Station.{stationNumbers, altitudeRow, altitudeDrag}
+use Rattle.station.specs.Theorems.{Held, Call, heldAfter, stationAfter, kept-station, altitude-told}
 
 -- where the row is written, the sum sees what is written
 seen : (b : Bool) (f : List Float → List Float) (x r : List Float) → cond b (f x) r ≡ cond b (f (cond b x r)) r
 seen true f x r = refl
 seen false f x r = refl
 
-main-0 : (w : List ℤ) (n : Input) → onOff (isOne (getD (wholeOf w n) 3 (pos 0))) ≡ swAt w 0
-unfolding wholeOf
-main-0 w n = refl
+entry-0 : (w : List ℤ) (n : Input) → onOff (isOne (getD (stationWhole w n) 3 (pos 0))) ≡ swAt w 0
+unfolding stationWhole
+entry-0 w n = refl
 
 -- gtd7d of a station is its gtd7 with d[5] summed again
 pub summed : (whole : List ℤ) (xs : List Float) (z : Float) (row : List Float)
@@ -37,20 +37,20 @@ summed whole xs z row = seen (acceptedOf (altitudeAnswer (length row) whole (len
 
 -- An altitude of a station that holds a record: gtd7d's row with that altitude; the answer is `altitude-told`'s
 pub drag-told : (w : List ℤ) (n : Input) (z : Float) (row : List Float) → Held w n
-    → altitudeDrag (wholeOf w n) (numbersOf w n) z row ≡ dragAfter w (withAltOf n z) row
+    → altitudeDrag (stationWhole w n) (stationNumbers w n) z row ≡ dragAfter w (withAltOf n z) row
 unfolding dragAfter dragOf rowAfter
 drag-told w n z row h =
     let t = altitude-told w n z row h in
-    summed (wholeOf w n) (numbersOf w n) z row
-    ∙ rw (t .0, t .1, main-0 w n)
+    summed (stationWhole w n) (stationNumbers w n) z row
+    ∙ rw (t .0, t .1, entry-0 w n)
     (sym (seen (acceptedOf (answerOf w (withAltOf n z) (length row))) (draggedOf (swAt w 0)) (elevenOf w (withAltOf n z)) row))
 
 -- the same after any calls: the record and the row as they then are
 pub drag-kept : (w : List ℤ) (n : Input) (cs : List Call) (z : Float) (row : List Float) → Held w n
-    → altitudeDrag ((stationAfter (wholeOf w n) (numbersOf w n) cs) .0) ((stationAfter (wholeOf w n) (numbersOf w n) cs) .1) z row
+    → altitudeDrag ((stationAfter (stationWhole w n) (stationNumbers w n) cs) .0) ((stationAfter (stationWhole w n) (stationNumbers w n) cs) .1) z row
     ≡ dragAfter ((heldAfter w n cs) .0) (withAltOf ((heldAfter w n cs) .1) z) row
 drag-kept w n cs z row h =
-    let r = kept w n cs h in
+    let r = kept-station w n cs h in
     rw (r .0) (drag-told ((heldAfter w n cs) .0) ((heldAfter w n cs) .1) z row (r .1))
 
 -- Demand 3 for gtd7d of stations, as `demand-3-station` has it for gtd7.
@@ -58,11 +58,11 @@ pub demand-3-station-drag : (w : List ℤ) (a b : Input) (z : Float) (xs ys : Li
     → Alike w a b
     → Held w a
     → Held w b
-    → altitudeAnswer (length xs) (wholeOf w a) (length (numbersOf w a)) z ≡ Accepted
-    → altitudeAnswer (length ys) (wholeOf w b) (length (numbersOf w b)) z ≡ Accepted
-    → (altitudeDrag (wholeOf w a) (numbersOf w a) z xs ≡ altitudeDrag (wholeOf w b) (numbersOf w b) z ys)
-    × (altitudeDrag (wholeOf w a) (numbersOf w a) z xs ≡ dragOf w (withAltOf a z))
-    × (altitudeDrag (wholeOf w b) (numbersOf w b) z ys ≡ dragOf w (withAltOf b z))
+    → altitudeAnswer (length xs) (stationWhole w a) (length (stationNumbers w a)) z ≡ Accepted
+    → altitudeAnswer (length ys) (stationWhole w b) (length (stationNumbers w b)) z ≡ Accepted
+    → (altitudeDrag (stationWhole w a) (stationNumbers w a) z xs ≡ altitudeDrag (stationWhole w b) (stationNumbers w b) z ys)
+    × (altitudeDrag (stationWhole w a) (stationNumbers w a) z xs ≡ dragOf w (withAltOf a z))
+    × (altitudeDrag (stationWhole w b) (stationNumbers w b) z ys ≡ dragOf w (withAltOf b z))
 demand-3-station-drag w a b z xs ys like ha hb ea eb =
     let p = drag-told w a z xs ha in
     let q = drag-told w b z ys hb in

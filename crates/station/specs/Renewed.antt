@@ -12,79 +12,79 @@ use Rattle.setting.specs.Switches.{given, swOf, swcOf}
 use Rattle.setting.specs.View.{viewOf}
 use Rattle.switch_rows.specs.Rows.{sameExpansions}
 use Rattle.switch_rows.specs.Same.{same-rows, outer-entries}
-use Rattle.levels.specs.Levels.{levelsOf}
-use Rattle.plan.specs.declared.Levels.{Levels}
-use Rattle.station_levels.specs.StationLevels.{levelsNumbers, levelsIn, levels-back}
-use Rattle.station_levels.specs.Independent.{levels-agree}
+use Rattle.expansion_values.specs.ExpansionValues.{expansionValuesOf}
+use Rattle.plan.specs.declared.ExpansionValues.{ExpansionValues}
+use Rattle.station_values.specs.StationValues.{expansionNumbers, expansion-values-back}
+use Rattle.station_values.specs.Independent.{expansion-values-agree}
 use Rattle.stored_parts.specs.Parts.{allParts}
 use Rattle.stored.specs.Stored.{needOf}
 use Rattle.stored.specs.Rows.{grown, all-length}
 use Rattle.station_record.specs.Record.{recordNumbers}
-use Rattle.station.specs.Station.{heldOf, numbersOf, refilledOf, renewedOf}
+use Rattle.station.specs.Station.{heldOf, stationNumbers, refilledOf, renewedOf}
 
-abbrev pub levelsHeld : List ℤ → Input → Levels
-levelsHeld w n = levelsOf (viewOf w n) (needOf allParts)
+abbrev pub expansionValuesHeld : List ℤ → Input → ExpansionValues
+expansionValuesHeld w n = expansionValuesOf (viewOf w n) (needOf allParts)
 
-pub fourteen : (n : Input) → length (recordNumbers n) ≡ 14
+pub record-fourteen : (n : Input) → length (recordNumbers n) ≡ 14
 unfolding recordNumbers
-fourteen n = refl
+record-fourteen n = refl
 
-pub twenty-five : (l : Levels) → length (levelsNumbers l) ≡ 25
-unfolding levelsNumbers
+pub twenty-five : (l : ExpansionValues) → length (expansionNumbers l) ≡ 25
+unfolding expansionNumbers
 twenty-five l = refl
 
-front : (w : List ℤ) (n : Input) (l : Levels) → length (recordNumbers n ++ heldOf w n l) ≡ 234
+front : (w : List ℤ) (n : Input) (l : ExpansionValues) → length (recordNumbers n ++ heldOf w n l) ≡ 234
 unfolding heldOf
-front w n l = all-length allParts _ _ l (recordNumbers n) (fourteen n)
+front w n l = all-length allParts _ _ l (recordNumbers n) (record-fourteen n)
 
-numbers-split : (w : List ℤ) (n : Input) → numbersOf w n ≡ (recordNumbers n ++ heldOf w n (levelsHeld w n)) ++ levelsNumbers (levelsHeld w n)
-unfolding numbersOf
-numbers-split w n = sym (append-assoc (recordNumbers n) (heldOf w n (levelsHeld w n)) (levelsNumbers (levelsHeld w n)))
+numbers-split : (w : List ℤ) (n : Input) → stationNumbers w n ≡ (recordNumbers n ++ heldOf w n (expansionValuesHeld w n)) ++ expansionNumbers (expansionValuesHeld w n)
+unfolding stationNumbers
+numbers-split w n = sym (append-assoc (recordNumbers n) (heldOf w n (expansionValuesHeld w n)) (expansionNumbers (expansionValuesHeld w n)))
 
-pub numbers-long : (w : List ℤ) (n : Input) → length (numbersOf w n) ≡ 259
+pub numbers-long : (w : List ℤ) (n : Input) → length (stationNumbers w n) ≡ 259
 numbers-long w n =
-    ap length (numbers-split w n) ∙ grown (recordNumbers n ++ heldOf w n (levelsHeld w n)) (levelsNumbers (levelsHeld w n)) 234 25 (front w n (levelsHeld w n)) (twenty-five (levelsHeld w n))
+    ap length (numbers-split w n) ∙ grown (recordNumbers n ++ heldOf w n (expansionValuesHeld w n)) (expansionNumbers (expansionValuesHeld w n)) 234 25 (front w n (expansionValuesHeld w n)) (twenty-five (expansionValuesHeld w n))
 
-pub numbers-front : (w : List ℤ) (n : Input) → take 234 (numbersOf w n) ≡ recordNumbers n ++ heldOf w n (levelsHeld w n)
-numbers-front w n = ap (take 234) (numbers-split w n) ∙ take-at (recordNumbers n ++ heldOf w n (levelsHeld w n)) (levelsNumbers (levelsHeld w n)) 234 (front w n (levelsHeld w n))
+pub numbers-front : (w : List ℤ) (n : Input) → take 234 (stationNumbers w n) ≡ recordNumbers n ++ heldOf w n (expansionValuesHeld w n)
+numbers-front w n = ap (take 234) (numbers-split w n) ∙ take-at (recordNumbers n ++ heldOf w n (expansionValuesHeld w n)) (expansionNumbers (expansionValuesHeld w n)) 234 (front w n (expansionValuesHeld w n))
 
-numbers-behind : (w : List ℤ) (n : Input) → drop 234 (numbersOf w n) ≡ levelsNumbers (levelsHeld w n)
-numbers-behind w n = ap (drop 234) (numbers-split w n) ∙ drop-at (recordNumbers n ++ heldOf w n (levelsHeld w n)) (levelsNumbers (levelsHeld w n)) 234 (front w n (levelsHeld w n))
+numbers-behind : (w : List ℤ) (n : Input) → drop 234 (stationNumbers w n) ≡ expansionNumbers (expansionValuesHeld w n)
+numbers-behind w n = ap (drop 234) (numbers-split w n) ∙ drop-at (recordNumbers n ++ heldOf w n (expansionValuesHeld w n)) (expansionNumbers (expansionValuesHeld w n)) 234 (front w n (expansionValuesHeld w n))
 
-numbers-first : (w : List ℤ) (n : Input) → take 14 (numbersOf w n) ≡ recordNumbers n
-unfolding numbersOf
-numbers-first w n = take-at (recordNumbers n) _ 14 (fourteen n)
+numbers-first : (w : List ℤ) (n : Input) → take 14 (stationNumbers w n) ≡ recordNumbers n
+unfolding stationNumbers
+numbers-first w n = take-at (recordNumbers n) _ 14 (record-fourteen n)
 
-all-25 : (l : Levels) → take 25 (levelsNumbers l) ≡ levelsNumbers l
-all-25 l = ap (λ (k : ℕ). take k (levelsNumbers l)) (sym (twenty-five l)) ∙ take-length (levelsNumbers l)
+all-25 : (l : ExpansionValues) → take 25 (expansionNumbers l) ≡ expansionNumbers l
+all-25 l = ap (λ (k : ℕ). take k (expansionNumbers l)) (sym (twenty-five l)) ∙ take-length (expansionNumbers l)
 
 -- numbers that begin with a record's and end with the expansions' values
-pub refilled-is : (w : List ℤ) (n : Input) (xs : List Float) (l : Levels) → take 14 xs ≡ recordNumbers n → drop 234 xs ≡ levelsNumbers l
-    → refilledOf w n xs ≡ recordNumbers n ++ (heldOf w n l ++ levelsNumbers l)
+pub refilled-is : (w : List ℤ) (n : Input) (xs : List Float) (l : ExpansionValues) → take 14 xs ≡ recordNumbers n → drop 234 xs ≡ expansionNumbers l
+    → refilledOf w n xs ≡ recordNumbers n ++ (heldOf w n l ++ expansionNumbers l)
 unfolding refilledOf
-refilled-is w n xs l e f = rw (e, f, all-25 l, levels-back l)
+refilled-is w n xs l e f = rw (e, f, all-25 l, expansion-values-back l)
 
 -- The expansions' values are the same under rows whose entries 1 to 14 have the same effects
-pub same-levels : (w u : List ℤ) (n : Input) → sameExpansions w u ≡ true → levelsHeld w n ≡ levelsHeld u n
+pub same-expansion-values : (w u : List ℤ) (n : Input) → sameExpansions w u ≡ true → expansionValuesHeld w n ≡ expansionValuesHeld u n
 unfolding viewOf
-same-levels w u n e =
+same-expansion-values w u n e =
     let s = same-rows w u e in
-    levels-agree (viewOf w n) (swOf u) (swcOf u) (needOf allParts) (λ k q. (s k q) .0) (λ k q. (s k q) .1)
+    expansion-values-agree (viewOf w n) (swOf u) (swcOf u) (needOf allParts) (λ k q. (s k q) .0) (λ k q. (s k q) .1)
 
-refilled-told : (w u : List ℤ) (n : Input) → sameExpansions w u ≡ true → refilledOf u n (numbersOf w n) ≡ numbersOf u n
-unfolding numbersOf
+refilled-told : (w u : List ℤ) (n : Input) → sameExpansions w u ≡ true → refilledOf u n (stationNumbers w n) ≡ stationNumbers u n
+unfolding stationNumbers
 refilled-told w u n e =
-    refilled-is u n (numbersOf w n) (levelsHeld w n) (numbers-first w n) (numbers-behind w n)
-    ∙ ap (λ (l : Levels). recordNumbers n ++ (heldOf u n l ++ levelsNumbers l)) (same-levels w u n e)
+    refilled-is u n (stationNumbers w n) (expansionValuesHeld w n) (numbers-first w n) (numbers-behind w n)
+    ∙ ap (λ (l : ExpansionValues). recordNumbers n ++ (heldOf u n l ++ expansionNumbers l)) (same-expansion-values w u n e)
 
-one-of : (b : Bool) (x y : List Float) → (b ≡ true → x ≡ y) → cond b x y ≡ y
-one-of true x y h = h refl
-one-of false x y h = refl
+either-same : (b : Bool) (x y : List Float) → (b ≡ true → x ≡ y) → cond b x y ≡ y
+either-same true x y h = h refl
+either-same false x y h = refl
 
 -- The numbers of the row u in the place of the row w are those that preparing with u gives
-pub renewed-told : (w u : List ℤ) (n : Input) → renewedOf w u n (numbersOf w n) ≡ numbersOf u n
+pub renewed-told : (w u : List ℤ) (n : Input) → renewedOf w u n (stationNumbers w n) ≡ stationNumbers u n
 unfolding renewedOf
-renewed-told w u n = one-of (sameExpansions w u) _ _ (λ e. refilled-told w u n e)
+renewed-told w u n = either-same (sameExpansions w u) _ _ (λ e. refilled-told w u n e)
 
 -- A row that differs in entries 0 and 15 to 23 alone is carried over with no expansion worked out again, whatever the station holds
 pub outer-row : (w u : List ℤ) (n : Input) (xs : List Float) → ((k : ℕ) → k < 14 → given w (1 + k) ≡ given u (1 + k)) → renewedOf w u n xs ≡ refilledOf u n xs

@@ -11,30 +11,30 @@ use Rattle.setting.specs.Switches.{swOf}
 use Rattle.setting.specs.View.{viewOf}
 use Rattle.switch_rows.specs.Rows.{sameExpansions}
 use Rattle.acceptance.specs.Acceptance.{judgedOf, acceptedOf, withAltOf}
-use Rattle.levels.specs.Levels.{levelsOf}
-use Rattle.plan.specs.declared.Levels.{Levels}
-use Rattle.station_levels.specs.StationLevels.{levelsNumbers, levelsIn, siteUnder}
+use Rattle.expansion_values.specs.ExpansionValues.{expansionValuesOf}
+use Rattle.plan.specs.declared.ExpansionValues.{ExpansionValues}
+use Rattle.station_values.specs.StationValues.{expansionNumbers, expansionValuesIn, siteUnder}
 use Rattle.stored_parts.specs.Parts.{allParts}
 use Rattle.stored.specs.Stored.{needOf, part, storedOf, rowStored}
 use Rattle.drag_sum.specs.DragSum.{draggedOf}
-use Rattle.station_record.specs.Record.{wholeOf, recordNumbers, recordIn, unitsIn, mixingIn, Change, changeOf, stationAnswer, altitudeAnswer, changeAnswer, switchesAnswer}
+use Rattle.station_record.specs.Record.{stationWhole, recordNumbers, recordIn, unitsIn, mixingIn, Change, changeOf, stationAnswer, altitudeAnswer, changeAnswer, switchesAnswer}
 
 -- what no altitude changes, out of the expansions' values
-unfoldable pub heldOf : List ℤ → Input → Levels → List Float
+unfoldable pub heldOf : List ℤ → Input → ExpansionValues → List Float
 heldOf w n l = storedOf allParts (swOf w) (siteUnder (swOf w) n) l
 
 -- the record's numbers, behind them what no altitude changes, behind that the expansions' values
-unfoldable pub numbersOf : List ℤ → Input → List Float
-numbersOf w n =
-    let l = levelsOf (viewOf w n) (needOf allParts) in
-    recordNumbers n ++ (heldOf w n l ++ levelsNumbers l)
+unfoldable pub stationNumbers : List ℤ → Input → List Float
+stationNumbers w n =
+    let l = expansionValuesOf (viewOf w n) (needOf allParts) in
+    recordNumbers n ++ (heldOf w n l ++ expansionNumbers l)
 
 -- the slices afterwards: refused, as they were
 unfoldable pub wholeAfter : List ℤ → Input → List ℤ → ℕ → List ℤ
-wholeAfter w n ys count = cond (acceptedOf (stationAnswer w n (length ys) count)) (wholeOf w (withAltOf n 0·0)) ys
+wholeAfter w n ys count = cond (acceptedOf (stationAnswer w n (length ys) count)) (stationWhole w (withAltOf n 0·0)) ys
 
-unfoldable pub numbersAfter : List ℤ → Input → ℕ → List Float → List Float
-numbersAfter w n ints xs = cond (acceptedOf (stationAnswer w n ints (length xs))) (numbersOf w (withAltOf n 0·0)) xs
+unfoldable pub stationNumbersAfter : List ℤ → Input → ℕ → List Float → List Float
+stationNumbersAfter w n ints xs = cond (acceptedOf (stationAnswer w n ints (length xs))) (stationNumbers w (withAltOf n 0·0)) xs
 
 -- the lent row afterwards
 unfoldable pub altitudeRow : List ℤ → List Float → Float → List Float → List Float
@@ -50,25 +50,25 @@ altitudeDrag whole xs alt row =
 
 -- a record in the place of the station's, where it is accepted
 unfoldable pub replacedOf : List ℤ → Input → List Float → List Float
-replacedOf w n xs = cond (acceptedOf (judgedOf w n)) (numbersOf w n) xs
+replacedOf w n xs = cond (acceptedOf (judgedOf w n)) (stationNumbers w n) xs
 
 -- the numbers afterwards: refused, as they were; the whole numbers stay
 unfoldable pub changedNumbers : Change → List ℤ → List Float → List Float
-changedNumbers c whole xs = cond (acceptedOf (changeAnswer c whole xs)) (numbersOf (drop 3 whole) (changeOf c (recordIn whole xs))) xs
+changedNumbers c whole xs = cond (acceptedOf (changeAnswer c whole xs)) (stationNumbers (drop 3 whole) (changeOf c (recordIn whole xs))) xs
 
 -- ---- a new switch row (W-213)
 
 -- what no altitude changes, made anew out of the expansions' values that the numbers hold
 unfoldable pub refilledOf : List ℤ → Input → List Float → List Float
-refilledOf w n xs = take 14 xs ++ (heldOf w n (levelsIn (part 234 25 xs)) ++ drop 234 xs)
+refilledOf w n xs = take 14 xs ++ (heldOf w n (expansionValuesIn (part 234 25 xs)) ++ drop 234 xs)
 
 -- the numbers under the row w in the place of the row old: where the entries 1 to 14 have the same effects, no expansion is worked out again
 unfoldable pub renewedOf : List ℤ → List ℤ → Input → List Float → List Float
-renewedOf old w n xs = cond (sameExpansions old w) (refilledOf w n xs) (numbersOf w n)
+renewedOf old w n xs = cond (sameExpansions old w) (refilledOf w n xs) (stationNumbers w n)
 
 -- the slices afterwards: refused, as they were
 unfoldable pub switchedWhole : List ℤ → List ℤ → List Float → List ℤ
-switchedWhole w whole xs = cond (acceptedOf (switchesAnswer w whole xs)) (wholeOf w (recordIn whole xs)) whole
+switchedWhole w whole xs = cond (acceptedOf (switchesAnswer w whole xs)) (stationWhole w (recordIn whole xs)) whole
 
 unfoldable pub switchedNumbers : List ℤ → List ℤ → List Float → List Float
 switchedNumbers w whole xs = cond (acceptedOf (switchesAnswer w whole xs)) (renewedOf (drop 3 whole) w (recordIn whole xs) xs) xs

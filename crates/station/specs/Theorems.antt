@@ -23,17 +23,18 @@ use Rattle.setting.specs.View.{viewOf}
 use Rattle.acceptance.specs.declared.Answer.{Answer}
 use Rattle.acceptance.specs.declared.Answer.the-variants.{Accepted, Refused}
 use Rattle.acceptance.specs.Acceptance.{withinOf, dayWithin, lowest, arrayUnfitOf, unfitOf, arrayOutsideOf, outsideOf, foundOf, judgedOf, acceptedOf, unmixedOf, recordAnswer, withAltOf}
+use Rattle.acceptance.specs.Refusals.{no-refusal}
 use Rattle.atmosphere.specs.Atmosphere.{elevenOf, answerOf, rowAfter}
 use Rattle.stored_parts.specs.Parts.{allParts, partsAt}
 use Rattle.stored.specs.Stored.{rowStored}
 use Rattle.stored_parts.specs.Held.{all-hold}
 use Rattle.stored.specs.Eleven.{stored-eleven}
 use Rattle.shutoff.specs.Shut.{Alike}
-use Rattle.shutoff.specs.Theorems.{judged-first, known, written, alike-at, eleven≡}
-use Rattle.station_record.specs.Record.{markOf, historyIn, wholeOf, recordNumbers, recordIn, stationAnswer, altitudeAnswer, withSecOf, withLstOf, withLongOf, withFluxesOf, Change, toSec, toLst, toLong, toFluxes, changeOf, changeAnswer, switchesAnswer}
-use Rattle.station_levels.specs.StationLevels.{siteUnder}
-use Rattle.station.specs.Station.{heldOf, numbersOf, wholeAfter, numbersAfter, altitudeRow, changedNumbers, switchedWhole, switchedNumbers}
-use Rattle.station.specs.Renewed.{fourteen, numbers-long, numbers-front, renewed-told}
+use Rattle.shutoff.specs.Theorems.{judged-first, known, row-written, alike-at, eleven≡}
+use Rattle.station_record.specs.Record.{markOf, historyIn, stationWhole, recordNumbers, recordIn, stationAnswer, altitudeAnswer, withSecOf, withLstOf, withLongOf, withFluxesOf, Change, toSec, toLst, toLong, toFluxes, changeOf, changeAnswer, switchesAnswer}
+use Rattle.station_values.specs.StationValues.{siteUnder}
+use Rattle.station.specs.Station.{heldOf, stationNumbers, wholeAfter, stationNumbersAfter, altitudeRow, changedNumbers, switchedWhole, switchedNumbers}
+use Rattle.station.specs.Renewed.{record-fourteen, numbers-long, numbers-front, renewed-told}
 
 -- ---- stations that were given: prepared, then any number of changes and new rows, refused ones among them
 
@@ -64,7 +65,7 @@ stationAfter whole xs (c ∷ cs) = stationAfter ((callOn c whole xs) .0) ((callO
 
 -- the two slices that preparing leaves
 abbrev pub stationOf : List ℤ → Input → List ℤ × List Float
-stationOf w n = (wholeOf w n, numbersOf w n)
+stationOf w n = (stationWhole w n, stationNumbers w n)
 
 -- a record that a station holds under a row: at altitude 0, with its seven values, accepted
 pub record Held (w : List ℤ) (n : Input) : Type 0 where
@@ -93,21 +94,21 @@ unfolding historyIn markOf
 mark-back Absent = refl
 mark-back Present = refl
 
-record-back : (w : List ℤ) (n : Input) → Held w n → recordIn (wholeOf w n) (numbersOf w n) ≡ n
-unfolding recordIn wholeOf numbersOf recordNumbers withAltOf
+record-back : (w : List ℤ) (n : Input) → Held w n → recordIn (stationWhole w n) (stationNumbers w n) ≡ n
+unfolding recordIn stationWhole stationNumbers recordNumbers withAltOf
 record-back w n h =
     ap₂ (λ (m : History) (a : List Float). record { year = n .year; doy = n .doy; sec = n .sec; alt = 0·0; «g_lat» = n .«g_lat»; «g_long» = n .«g_long»; lst = n .lst; f107a = n .f107a; f107 = n .f107; ap = n .ap; history = m; «ap_array» = a })
     (mark-back (n .history)) (seven-plain (n .«ap_array») (h .seven))
     ∙ h .zero
 
-whole-long : (w : List ℤ) (n : Input) → length w ≡ 24 → length (wholeOf w n) ≡ 27
-unfolding wholeOf
+whole-long : (w : List ℤ) (n : Input) → length w ≡ 24 → length (stationWhole w n) ≡ 27
+unfolding stationWhole
 whole-long w n e = ap (λ (k : ℕ). suc (suc (suc k))) e
 
 -- ---- a change
 
-whole-kept : (w : List ℤ) (n : Input) (c : Change) → wholeOf w (changeOf c n) ≡ wholeOf w n
-unfolding wholeOf withSecOf withLstOf withLongOf withFluxesOf
+whole-kept : (w : List ℤ) (n : Input) (c : Change) → stationWhole w (changeOf c n) ≡ stationWhole w n
+unfolding stationWhole withSecOf withLstOf withLongOf withFluxesOf
 whole-kept w n (toSec y) = refl
 whole-kept w n (toLst y) = refl
 whole-kept w n (toLong y) = refl
@@ -142,30 +143,26 @@ changed-held w n c true e h =
     }
 changed-held w n c false e h = h
 
-whole-one : (w : List ℤ) (n : Input) (c : Change) (b : Bool) → wholeOf w (cond b (changeOf c n) n) ≡ wholeOf w n
+whole-one : (w : List ℤ) (n : Input) (c : Change) (b : Bool) → stationWhole w (cond b (changeOf c n) n) ≡ stationWhole w n
 whole-one w n c true = whole-kept w n c
 whole-one w n c false = refl
 
-chosen : (w : List ℤ) (b : Bool) (m n : Input) → cond b (numbersOf w m) (numbersOf w n) ≡ numbersOf w (cond b m n)
-chosen w true m n = refl
-chosen w false m n = refl
+chosen-numbers : (w : List ℤ) (b : Bool) (m n : Input) → cond b (stationNumbers w m) (stationNumbers w n) ≡ stationNumbers w (cond b m n)
+chosen-numbers w true m n = refl
+chosen-numbers w false m n = refl
 
-dropped : (w : List ℤ) (n : Input) → drop 3 (wholeOf w n) ≡ w
-unfolding wholeOf
+dropped : (w : List ℤ) (n : Input) → drop 3 (stationWhole w n) ≡ w
+unfolding stationWhole
 dropped w n = refl
 
 change-told : (w : List ℤ) (n : Input) (c : Change) → Held w n
-    → changedNumbers c (wholeOf w n) (numbersOf w n) ≡ numbersOf w (cond (acceptedOf (judgedOf w (changeOf c n))) (changeOf c n) n)
+    → changedNumbers c (stationWhole w n) (stationNumbers w n) ≡ stationNumbers w (cond (acceptedOf (judgedOf w (changeOf c n))) (changeOf c n) n)
 unfolding changedNumbers changeAnswer
 change-told w n c h =
     rw (dropped w n, record-back w n h, eq-eqb _ _ (whole-long w n (h .row)), eq-eqb _ _ (numbers-long w n))
-    (chosen w (acceptedOf (judgedOf w (changeOf c n))) (changeOf c n) n)
+    (chosen-numbers w (acceptedOf (judgedOf w (changeOf c n))) (changeOf c n) n)
 
 -- ---- a new row
-
-no-refusal : (c : Bool) (n k : ℕ) (x : Answer) → cond c (Refused n k) x ≡ Accepted → (c ≡ false) × (x ≡ Accepted)
-no-refusal true n k x e = absurd (false≢true (ap acceptedOf e))
-no-refusal false n k x e = (refl, e)
 
 -- A held record is refused under another row for an absent history alone
 pub judged-under : (w u : List ℤ) (n : Input) → Held w n → judgedOf u n ≡ cond (lacksHistoryOf u n) (Refused 1 10) Accepted
@@ -176,12 +173,12 @@ judged-under w u n h =
     let c = no-refusal (foundOf (outsideOf n)) 3 _ _ (b .1) in
     rw (a .0, c .0)
 
-switches-met : (w u : List ℤ) (n : Input) → Held w n → switchesAnswer u (wholeOf w n) (numbersOf w n) ≡ judgedOf u n
+switches-met : (w u : List ℤ) (n : Input) → Held w n → switchesAnswer u (stationWhole w n) (stationNumbers w n) ≡ judgedOf u n
 unfolding switchesAnswer
 switches-met w u n h = rw (record-back w n h, eq-eqb _ _ (whole-long w n (h .row)), eq-eqb _ _ (numbers-long w n))
 
 -- The answer to a new row: 1 at place 10 where it asks for an absent history, else accepted
-pub switches-told : (w u : List ℤ) (n : Input) → Held w n → switchesAnswer u (wholeOf w n) (numbersOf w n) ≡ cond (lacksHistoryOf u n) (Refused 1 10) Accepted
+pub switches-told : (w u : List ℤ) (n : Input) → Held w n → switchesAnswer u (stationWhole w n) (stationNumbers w n) ≡ cond (lacksHistoryOf u n) (Refused 1 10) Accepted
 switches-told w u n h = switches-met w u n h ∙ judged-under w u n h
 
 -- Refused, a station is as it was, whatever it held
@@ -189,19 +186,19 @@ pub switches-refused : (u whole : List ℤ) (xs : List Float) → acceptedOf (sw
 unfolding switchedWhole switchedNumbers
 switches-refused u whole xs e = (rw e, rw e)
 
-row-chosen : (b : Bool) (w u : List ℤ) (n : Input) → cond b (wholeOf u n) (wholeOf w n) ≡ wholeOf (cond b u w) n
+row-chosen : (b : Bool) (w u : List ℤ) (n : Input) → cond b (stationWhole u n) (stationWhole w n) ≡ stationWhole (cond b u w) n
 row-chosen true w u n = refl
 row-chosen false w u n = refl
 
-numbers-chosen : (b : Bool) (w u : List ℤ) (n : Input) → cond b (numbersOf u n) (numbersOf w n) ≡ numbersOf (cond b u w) n
+numbers-chosen : (b : Bool) (w u : List ℤ) (n : Input) → cond b (stationNumbers u n) (stationNumbers w n) ≡ stationNumbers (cond b u w) n
 numbers-chosen true w u n = refl
 numbers-chosen false w u n = refl
 
-whole-switched : (w u : List ℤ) (n : Input) → Held w n → switchedWhole u (wholeOf w n) (numbersOf w n) ≡ wholeOf (cond (acceptedOf (judgedOf u n)) u w) n
+whole-switched : (w u : List ℤ) (n : Input) → Held w n → switchedWhole u (stationWhole w n) (stationNumbers w n) ≡ stationWhole (cond (acceptedOf (judgedOf u n)) u w) n
 unfolding switchedWhole
 whole-switched w u n h = rw (switches-met w u n h, record-back w n h) (row-chosen (acceptedOf (judgedOf u n)) w u n)
 
-numbers-switched : (w u : List ℤ) (n : Input) → Held w n → switchedNumbers u (wholeOf w n) (numbersOf w n) ≡ numbersOf (cond (acceptedOf (judgedOf u n)) u w) n
+numbers-switched : (w u : List ℤ) (n : Input) → Held w n → switchedNumbers u (stationWhole w n) (stationNumbers w n) ≡ stationNumbers (cond (acceptedOf (judgedOf u n)) u w) n
 unfolding switchedNumbers
 numbers-switched w u n h =
     rw (switches-met w u n h, record-back w n h, dropped w n, renewed-told w u n) (numbers-chosen (acceptedOf (judgedOf u n)) w u n)
@@ -212,7 +209,7 @@ switched-held w u n false len e h = h
 
 -- ---- any calls
 
-call-told : (c : Call) (w : List ℤ) (n : Input) → Held w n → callOn c (wholeOf w n) (numbersOf w n) ≡ stationOf ((callOf c w n) .0) ((callOf c w n) .1)
+call-told : (c : Call) (w : List ℤ) (n : Input) → Held w n → callOn c (stationWhole w n) (stationNumbers w n) ≡ stationOf ((callOf c w n) .0) ((callOf c w n) .1)
 unfolding callOn callOf
 call-told (change c) w n h = ap₂ (λ (ys : List ℤ) (xs : List Float). (ys, xs)) (sym (whole-one w n c (acceptedOf (judgedOf w (changeOf c n))))) (change-told w n c h)
 call-told (switches u e) w n h = ap₂ (λ (ys : List ℤ) (xs : List Float). (ys, xs)) (whole-switched w u n h) (numbers-switched w u n h)
@@ -224,21 +221,21 @@ call-held (switches u e) w n h = switched-held w u n (acceptedOf (judgedOf u n))
 
 -- Kept stations: after any calls the station is the one that preparing the record as it then is with the row as it then is would give, and that
 -- record is held under that row
-pub kept : (w : List ℤ) (n : Input) (cs : List Call) → Held w n
-    → (stationAfter (wholeOf w n) (numbersOf w n) cs ≡ stationOf ((heldAfter w n cs) .0) ((heldAfter w n cs) .1)) × Held ((heldAfter w n cs) .0) ((heldAfter w n cs) .1)
+pub kept-station : (w : List ℤ) (n : Input) (cs : List Call) → Held w n
+    → (stationAfter (stationWhole w n) (stationNumbers w n) cs ≡ stationOf ((heldAfter w n cs) .0) ((heldAfter w n cs) .1)) × Held ((heldAfter w n cs) .0) ((heldAfter w n cs) .1)
 unfolding stationAfter heldAfter
-kept w n [] h = (refl, h)
-kept w n (c ∷ cs) h =
-    let r = kept ((callOf c w n) .0) ((callOf c w n) .1) cs (call-held c w n h) in
+kept-station w n [] h = (refl, h)
+kept-station w n (c ∷ cs) h =
+    let r = kept-station ((callOf c w n) .0) ((callOf c w n) .1) cs (call-held c w n h) in
     (ap (λ (s : List ℤ × List Float). stationAfter (s .0) (s .1) cs) (call-told c w n h) ∙ r .0, r .1)
 
 -- so it equals the one that preparing that record with that row anew gives, whatever memory is lent
 pub as-prepared : (w : List ℤ) (n : Input) (cs : List Call) (ys : List ℤ) (xs : List Float) → Held w n → length ys ≡ 27 → length xs ≡ 259
-    → stationAfter (wholeOf w n) (numbersOf w n) cs
-    ≡ (wholeAfter ((heldAfter w n cs) .0) ((heldAfter w n cs) .1) ys (length xs), numbersAfter ((heldAfter w n cs) .0) ((heldAfter w n cs) .1) (length ys) xs)
-unfolding wholeAfter numbersAfter stationAnswer
+    → stationAfter (stationWhole w n) (stationNumbers w n) cs
+    ≡ (wholeAfter ((heldAfter w n cs) .0) ((heldAfter w n cs) .1) ys (length xs), stationNumbersAfter ((heldAfter w n cs) .0) ((heldAfter w n cs) .1) (length ys) xs)
+unfolding wholeAfter stationNumbersAfter stationAnswer
 as-prepared w n cs ys xs h e f =
-    let r = kept w n cs h in
+    let r = kept-station w n cs h in
     let t : acceptedOf (judgedOf ((heldAfter w n cs) .0) ((heldAfter w n cs) .1)) ≡ true = ap acceptedOf (r .1 .taken) in
     rw (eq-eqb _ _ e, eq-eqb _ _ f, r .1 .zero, t) (r .0)
 
@@ -292,12 +289,12 @@ judged-at w n z h =
     chain (not (finiteOf z)) (not (withinOf 0·0 2500·0 z)) (unfitOf (withAltOf n z)) (outsideOf (withAltOf n z)) (lowest 4 us au) (lowest 4 os ao) (lacksHistoryOf w (withAltOf n z)) (u .0) (u .1) (b .0) (o .0) (o .1)
 
 -- switches 0 and 15
-main-0 : (w : List ℤ) (n : Input) → onOff (isOne (getD (wholeOf w n) 3 (pos 0))) ≡ (viewOf w n) .sw ‼ 0
-unfolding wholeOf viewOf swOf filled
+main-0 : (w : List ℤ) (n : Input) → onOff (isOne (getD (stationWhole w n) 3 (pos 0))) ≡ (viewOf w n) .sw ‼ 0
+unfolding stationWhole viewOf swOf filled
 main-0 w n = refl
 
-main-15 : (w : List ℤ) (n : Input) → onOff (isOne (getD (wholeOf w n) 18 (pos 0))) ≡ (viewOf w n) .sw ‼ 15
-unfolding wholeOf viewOf swOf filled
+main-15 : (w : List ℤ) (n : Input) → onOff (isOne (getD (stationWhole w n) 18 (pos 0))) ≡ (viewOf w n) .sw ‼ 15
+unfolding stationWhole viewOf swOf filled
 main-15 w n = refl
 
 both-passed : (a b : Bool) → (a && b) ≡ true → b ≡ true
@@ -310,10 +307,10 @@ within-top z e = both-passed (le 0·0 z) (le z 2500·0) e
 
 -- the row that the station gives is demand 2's, at every altitude in range
 row-told : (w : List ℤ) (n : Input) (z : Float) → withinOf 0·0 2500·0 z ≡ true
-    → rowStored (onOff (isOne (getD (wholeOf w n) 3 (pos 0)))) (onOff (isOne (getD (wholeOf w n) 18 (pos 0)))) (take 234 (numbersOf w n)) z ≡ elevenOf w (withAltOf n z)
+    → rowStored (onOff (isOne (getD (stationWhole w n) 3 (pos 0)))) (onOff (isOne (getD (stationWhole w n) 18 (pos 0)))) (take 234 (stationNumbers w n)) z ≡ elevenOf w (withAltOf n z)
 unfolding heldOf siteUnder viewOf
 row-told w n z e =
-    rw (main-0 w n, main-15 w n, numbers-front w n) (stored-eleven w n allParts (recordNumbers n) z (fourteen n) (within-top z e) (all-hold (partsAt z)))
+    rw (main-0 w n, main-15 w n, numbers-front w n) (stored-eleven w n allParts (recordNumbers n) z (record-fourteen n) (within-top z e) (all-hold (partsAt z)))
 
 passed : (b : Bool) (n k : ℕ) (a : Answer) → acceptedOf (cond (not b) (Refused n k) a) ≡ true → (b ≡ true) × (acceptedOf a ≡ true)
 passed true n k a h = (refl, h)
@@ -340,41 +337,41 @@ ten-behind true b c = refl
 ten-behind false true c = refl
 ten-behind false false c = refl
 
-fifteen : (w : List ℤ) (n : Input) → getD (wholeOf w n) 18 (pos 0) ≡ given w 15
-unfolding wholeOf
+fifteen : (w : List ℤ) (n : Input) → getD (stationWhole w n) 18 (pos 0) ≡ given w 15
+unfolding stationWhole
 fifteen w n = refl
 
-at-altitude : (n : Input) (z : Float) → (withAltOf n z) .alt ≡ z
+own-altitude : (n : Input) (z : Float) → (withAltOf n z) .alt ≡ z
 unfolding withAltOf
-at-altitude n z = refl
+own-altitude n z = refl
 
 answer-told : (w : List ℤ) (n : Input) (z : Float) (len : ℕ) → Held w n
-    → altitudeAnswer len (wholeOf w n) (length (numbersOf w n)) z ≡ answerOf w (withAltOf n z) len
+    → altitudeAnswer len (stationWhole w n) (length (stationNumbers w n)) z ≡ answerOf w (withAltOf n z) len
 unfolding altitudeAnswer answerOf recordAnswer
 answer-told w n z len h =
-    rw (eq-eqb _ _ (whole-long w n (h .row)), eq-eqb _ _ (numbers-long w n), judged-at w n z h, fifteen w n, at-altitude n z)
+    rw (eq-eqb _ _ (whole-long w n (h .row)), eq-eqb _ _ (numbers-long w n), judged-at w n z h, fifteen w n, own-altitude n z)
     (ap (cond (not (eqb len 11)) (Refused 4 11)) (sym (ten-behind (not (finiteOf z)) (not (withinOf 0·0 2500·0 z)) (unmixedOf (isOne (given w 15)) z))))
 
 -- An altitude of a station that holds a record: answer and row are the one-altitude call's with that altitude
 pub altitude-told : (w : List ℤ) (n : Input) (z : Float) (row : List Float) → Held w n
-    → (altitudeAnswer (length row) (wholeOf w n) (length (numbersOf w n)) z ≡ answerOf w (withAltOf n z) (length row))
-    × (altitudeRow (wholeOf w n) (numbersOf w n) z row ≡ rowAfter w (withAltOf n z) row)
+    → (altitudeAnswer (length row) (stationWhole w n) (length (stationNumbers w n)) z ≡ answerOf w (withAltOf n z) (length row))
+    × (altitudeRow (stationWhole w n) (stationNumbers w n) z row ≡ rowAfter w (withAltOf n z) row)
 unfolding altitudeRow rowAfter
 altitude-told w n z row h =
     let e = answer-told w n z (length row) h in (
       e,
-      same-row (acceptedOf (altitudeAnswer (length row) (wholeOf w n) (length (numbersOf w n)) z)) _ _ row (λ t. row-told w n z (in-range _ _ _ z t))
+      same-row (acceptedOf (altitudeAnswer (length row) (stationWhole w n) (length (stationNumbers w n)) z)) _ _ row (λ t. row-told w n z (in-range _ _ _ z t))
           ∙ ap (λ (a : Answer). cond (acceptedOf a) (elevenOf w (withAltOf n z)) row) e,
     )
 
 -- the same after any calls: the record and the row as they then are
 pub altitude-kept : (w : List ℤ) (n : Input) (cs : List Call) (z : Float) (row : List Float) → Held w n
-    → (altitudeAnswer (length row) ((stationAfter (wholeOf w n) (numbersOf w n) cs) .0) (length ((stationAfter (wholeOf w n) (numbersOf w n) cs) .1)) z
+    → (altitudeAnswer (length row) ((stationAfter (stationWhole w n) (stationNumbers w n) cs) .0) (length ((stationAfter (stationWhole w n) (stationNumbers w n) cs) .1)) z
     ≡ answerOf ((heldAfter w n cs) .0) (withAltOf ((heldAfter w n cs) .1) z) (length row))
-    × (altitudeRow ((stationAfter (wholeOf w n) (numbersOf w n) cs) .0) ((stationAfter (wholeOf w n) (numbersOf w n) cs) .1) z row
+    × (altitudeRow ((stationAfter (stationWhole w n) (stationNumbers w n) cs) .0) ((stationAfter (stationWhole w n) (stationNumbers w n) cs) .1) z row
     ≡ rowAfter ((heldAfter w n cs) .0) (withAltOf ((heldAfter w n cs) .1) z) row)
 altitude-kept w n cs z row h =
-    let r = kept w n cs h in
+    let r = kept-station w n cs h in
     rw (r .0) (altitude-told ((heldAfter w n cs) .0) ((heldAfter w n cs) .1) z row (r .1))
 
 -- what preparing accepts is held
@@ -388,16 +385,16 @@ pub demand-3-station : (w : List ℤ) (a b : Input) (z : Float) (xs ys : List Fl
     → Alike w a b
     → Held w a
     → Held w b
-    → altitudeAnswer (length xs) (wholeOf w a) (length (numbersOf w a)) z ≡ Accepted
-    → altitudeAnswer (length ys) (wholeOf w b) (length (numbersOf w b)) z ≡ Accepted
-    → (altitudeRow (wholeOf w a) (numbersOf w a) z xs ≡ altitudeRow (wholeOf w b) (numbersOf w b) z ys)
-    × (altitudeRow (wholeOf w a) (numbersOf w a) z xs ≡ elevenOf w (withAltOf a z))
-    × (altitudeRow (wholeOf w b) (numbersOf w b) z ys ≡ elevenOf w (withAltOf b z))
+    → altitudeAnswer (length xs) (stationWhole w a) (length (stationNumbers w a)) z ≡ Accepted
+    → altitudeAnswer (length ys) (stationWhole w b) (length (stationNumbers w b)) z ≡ Accepted
+    → (altitudeRow (stationWhole w a) (stationNumbers w a) z xs ≡ altitudeRow (stationWhole w b) (stationNumbers w b) z ys)
+    × (altitudeRow (stationWhole w a) (stationNumbers w a) z xs ≡ elevenOf w (withAltOf a z))
+    × (altitudeRow (stationWhole w b) (stationNumbers w b) z ys ≡ elevenOf w (withAltOf b z))
 demand-3-station w a b z xs ys like ha hb ea eb =
     let p = altitude-told w a z xs ha in
     let q = altitude-told w b z ys hb in
     let ta = sym (p .0) ∙ ea in
     let tb = sym (q .0) ∙ eb in
-    let ra = p .1 ∙ written w (withAltOf a z) xs ta in
-    let rb = q .1 ∙ written w (withAltOf b z) ys tb in
+    let ra = p .1 ∙ row-written w (withAltOf a z) xs ta in
+    let rb = q .1 ∙ row-written w (withAltOf b z) ys tb in
     (ra ∙ eleven≡ w (withAltOf a z) (withAltOf b z) (alike-at w a b z like) (known w (withAltOf a z) (judged-first w (withAltOf a z) (length xs) ta)) (known w (withAltOf b z) (judged-first w (withAltOf b z) (length ys) tb)) ∙ sym rb, ra, rb)

@@ -3,19 +3,16 @@ ghost use mathlib.Core.Path.{_≡_};
 ghost use lib.ListN.{length};
 ghost use Rattle.acceptance.specs.Acceptance.{judgedOf};
 ghost use Rattle.station_record.specs.Record.{toSec, toLst, toLong, toFluxes, stationAnswer, altitudeAnswer, changeAnswer, switchesAnswer};
-ghost use Rattle.station.specs.Station.{refilledOf, numbersOf, wholeAfter, numbersAfter, altitudeRow, altitudeDrag, replacedOf, changedNumbers, renewedOf, switchedWhole, switchedNumbers};
+ghost use Rattle.station.specs.Station.{refilledOf, stationNumbers, wholeAfter, stationNumbersAfter, altitudeRow, altitudeDrag, replacedOf, changedNumbers, renewedOf, switchedWhole, switchedNumbers};
 use acceptance::Answer;
 use acceptance::accepted;
 use acceptance::judge;
 use acceptance::with_alt;
 use drag_sum::drag_on;
-use levels::levels_of;
+use expansion_values::expansion_values_of;
 use setting::Input;
 use setting::switches::tselec;
 use setting::views::view_of;
-use station_levels::levels_in;
-use station_levels::levels_numbers;
-use station_levels::site_under;
 use station_record::altitude_answer;
 use station_record::mixing_in;
 use station_record::put_whole;
@@ -29,6 +26,9 @@ use station_record::to_g_long;
 use station_record::to_lst;
 use station_record::to_sec;
 use station_record::units_in;
+use station_values::expansion_numbers;
+use station_values::expansion_values_in;
+use station_values::site_under;
 use stored::need_of;
 use stored::put;
 use stored::row_on;
@@ -46,7 +46,7 @@ pub fn refill(w: [i32; 24], n: Input, numbers: &mut [f64])
     let f = tselec(w);
     let sw = f.sw;
     let x = site_under(sw, n);
-    let l = levels_in(&numbers[234..259]);
+    let l = expansion_values_in(&numbers[234..259]);
     let p = all_parts();
     store(p, sw, x, l, &mut numbers[0..234]);
 }
@@ -54,13 +54,13 @@ pub fn refill(w: [i32; 24], n: Input, numbers: &mut [f64])
 // What a record and a switch row give, into the numbers of a station.
 pub fn fill(w: [i32; 24], n: Input, numbers: &mut [f64])
     requires { ⌜ length (now numbers) ≡ 259 ⌝ }
-    ensures { λ _. ⌜ now (numbers .exit) ≡ numbersOf w n ⌝ }
+    ensures { λ _. ⌜ now (numbers .exit) ≡ stationNumbers w n ⌝ }
 {
     let v = view_of(w, n);
     let p = all_parts();
     let a = need_of(p);
-    let l = levels_of(v, a);
-    let k = levels_numbers(l);
+    let l = expansion_values_of(v, a);
+    let k = expansion_numbers(l);
     put(&mut numbers[234..259], &k);
     let r = record_numbers(n);
     put(&mut numbers[0..14], &r);
@@ -73,7 +73,7 @@ pub fn fill(w: [i32; 24], n: Input, numbers: &mut [f64])
 pub fn prepare(w: [i32; 24], n: Input, whole: &mut [i32], numbers: &mut [f64]) -> Answer
     ensures { λ r. ⌜ (r ≡ stationAnswer w n (length (now (whole .entry))) (length (now (numbers .entry))))
         × (now (whole .exit) ≡ wholeAfter w n (now (whole .entry)) (length (now (numbers .entry))))
-        × (now (numbers .exit) ≡ numbersAfter w n (length (now (whole .entry))) (now (numbers .entry))) ⌝ }
+        × (now (numbers .exit) ≡ stationNumbersAfter w n (length (now (whole .entry))) (now (numbers .entry))) ⌝ }
 {
     let a = station_answer(w, n, whole.len(), numbers.len());
     if !accepted(a) {

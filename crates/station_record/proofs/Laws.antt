@@ -14,7 +14,7 @@ use Rattle.setting.specs.declared.Input.{Input}
 use Rattle.acceptance.specs.declared.Answer.{Answer}
 use Rattle.acceptance.specs.declared.Answer.the-variants.{Refused}
 use Rattle.acceptance.specs.Acceptance.{judgedOf, acceptedOf}
-use Rattle.station_record.specs.Record.{wholeOf, stationAnswer, altitudeAnswer, rowTaken}
+use Rattle.station_record.specs.Record.{stationWhole, stationAnswer, altitudeAnswer, rowTaken}
 
 -- behind the first three of a list
 pub past-three : (a b c : ℤ) (w : List ℤ) (i : ℕ) → (i ≡ 0 → ⊥) → (i ≡ 1 → ⊥) → (i ≡ 2 → ⊥) → getD w (i - 3) (pos 0) ≡ getD (a ∷ b ∷ c ∷ w) i (pos 0)
@@ -61,6 +61,6 @@ module _ (w : List ℤ) (n : Input) (ys : List ℤ) (a : Answer) (v : Bool) (e :
   unfolding rowTaken
   row-refused t = (e, simp (verdict false t))
 
-  pub row-taken : (zs : List ℤ) → v ≡ true → zs ≡ wholeOf w n → (a ≡ judgedOf w n) × (zs ≡ rowTaken w n ys)
+  pub row-taken : (zs : List ℤ) → v ≡ true → zs ≡ stationWhole w n → (a ≡ judgedOf w n) × (zs ≡ rowTaken w n ys)
   unfolding rowTaken
   row-taken zs t g = (e, simp (verdict true t) g)

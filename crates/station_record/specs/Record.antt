@@ -28,8 +28,8 @@ unfoldable pub historyIn : ℤ → History
 historyIn m = cond (isOne m) Present Absent
 
 -- year, doy, the mark of the history, the switches
-unfoldable pub wholeOf : List ℤ → Input → List ℤ
-wholeOf w n = n .year ∷ n .doy ∷ markOf (n .history) ∷ w
+unfoldable pub stationWhole : List ℤ → Input → List ℤ
+stationWhole w n = n .year ∷ n .doy ∷ markOf (n .history) ∷ w
 
 -- the record's numbers but its altitude
 unfoldable pub recordNumbers : Input → List Float
@@ -125,4 +125,4 @@ switchesAnswer w whole xs =
 
 -- the whole numbers with the row w, where the record is accepted under it
 unfoldable pub rowTaken : List ℤ → Input → List ℤ → List ℤ
-rowTaken w n whole = cond (acceptedOf (judgedOf w n)) (wholeOf w n) whole
+rowTaken w n whole = cond (acceptedOf (judgedOf w n)) (stationWhole w n) whole

@@ -5,7 +5,7 @@ ghost use lib.IntN.{pos};
 ghost use lib.ListN.{length, drop, getD};
 ghost use Rattle.acceptance.specs.Acceptance.{judgedOf};
 ghost use Rattle.setting.specs.Switches.{isOne, onOff};
-ghost use Rattle.station_record.specs.Record.{markOf, historyIn, wholeOf, recordNumbers, recordIn, unitsIn, mixingIn, withSecOf, withLstOf, withLongOf, withFluxesOf, toSec, toLst, toLong, toFluxes, changeOf, stationAnswer, altitudeAnswer, rowTaken};
+ghost use Rattle.station_record.specs.Record.{markOf, historyIn, stationWhole, recordNumbers, recordIn, unitsIn, mixingIn, withSecOf, withLstOf, withLongOf, withFluxesOf, toSec, toLst, toLong, toFluxes, changeOf, stationAnswer, altitudeAnswer, rowTaken};
 use acceptance::Answer;
 use acceptance::accepted;
 use acceptance::judge;
@@ -59,7 +59,7 @@ pub fn mark(h: History) -> i32
 // The whole numbers of a station: year, doy, the mark of the history, the 24 switches.
 pub fn whole_at(w: [i32; 24], n: Input, i: usize) -> i32
     requires { ⌜ i < 27 ⌝ }
-    ensures { λ r. ⌜ r ≡ getD (wholeOf w n) i (pos 0) ⌝ }
+    ensures { λ r. ⌜ r ≡ getD (stationWhole w n) i (pos 0) ⌝ }
 {
     if i == 0 {
         return year_of(n);
@@ -76,7 +76,7 @@ pub fn whole_at(w: [i32; 24], n: Input, i: usize) -> i32
 
 pub fn put_whole(w: [i32; 24], n: Input, whole: &mut [i32])
     requires { ⌜ length (now whole) ≡ 27 ⌝ }
-    ensures { λ _. ⌜ now (whole .exit) ≡ wholeOf w n ⌝ }
+    ensures { λ _. ⌜ now (whole .exit) ≡ stationWhole w n ⌝ }
 {
     let mut i: usize = 0;
     while i < 27 {

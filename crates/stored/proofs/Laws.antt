@@ -1,26 +1,26 @@
 -- Parts written one behind the other, and what they are.
 use Prim.Native.Nat.{ℕ, _+_}
 use mathlib.Core.Path.{_≡_, refl, sym, ap, _∙_}
-use mathlib.Core.Bool.{Bool, true, false, cond, not}
-use mathlib.Core.List.{List, [], _∷_, _++_, append-assoc, append-nil}
+use mathlib.Core.Bool.{Bool, true, false, not}
+use mathlib.Core.List.{List, [], _++_, append-assoc, append-nil}
 use native.Mathlib.Omega.{arith}
 use borrow.Rule.Slice.PartMut.{putMid}
 use lib.ListN.{length, take, drop, take-append-drop}
 use lib.Seq.{length-take-le, take-at, drop-at, drop-drop, drop-length}
 use lib.Ieee.{Float, lt, le, eq, ofBits}
 use Rattle.numbers.specs.Arithmetic.{_‼_}
-use Rattle.numbers.specs.Literals.{0·0, 72·5, 100·0, 200·0, 300·0}
+use Rattle.numbers.specs.Literals.{72·5, 100·0, 200·0, 300·0}
 use Rattle.parameters.specs.Parameters.{presentOf}
 use Rattle.elementary.specs.Log.{logOf}
 use Rattle.layers.specs.declared.Span.{Span}
 use Rattle.places.specs.declared.place.Spine.{Spine}
-use Rattle.plan.specs.declared.Levels.{Levels}
-use Rattle.plan.specs.Plan.{told, given}
+use Rattle.plan.specs.declared.ExpansionValues.{ExpansionValues}
+use Rattle.plan.specs.Plan.{told, answerTo}
 use Rattle.profile.specs.declared.unchecked.Shape.{Shape}
 use Rattle.species.specs.Places.{spineAt}
 use Rattle.tables.specs.Tables.{pdlT1}
-use Rattle.upper.specs.declared.Site.{Site}
-use Rattle.upper.specs.Upper.{anomalousOf}
+use Rattle.gts7_arithmetic.specs.declared.Site.{Site}
+use Rattle.gts7_arithmetic.specs.Gts7Arithmetic.{anomalousOf}
 use Rattle.stages.specs.Stages.{shapePlan}
 use Rattle.region.specs.declared.Bases.{Bases}
 use Rattle.region.specs.declared.Roots.{Roots}
@@ -57,9 +57,9 @@ three-laid out a b c i j k len ea eb =
     ∙ append-nil ((a ++ b) ++ c)
     ∙ append-assoc a b c
 
-low-is : (on : Bool) (sw : List Float) (x : Site) (l : Levels) (d : Bases) (h : Shape) (s k : Spine) (q : Roots) (g : Shape)
+low-is : (on : Bool) (sw : List Float) (x : Site) (l : ExpansionValues) (d : Bases) (h : Shape) (s k : Spine) (q : Roots) (g : Shape)
     → not on ≡ false
-    → h ≡ told (given l) (shapePlan sw x 100·0)
+    → h ≡ told (answerTo l) (shapePlan sw x 100·0)
     → s ≡ spineAt h
     → q ≡ rootsOf h x d
     → g ≡ anomalousOf h
@@ -68,12 +68,12 @@ low-is : (on : Bool) (sw : List Float) (x : Site) (l : Levels) (d : Bases) (h : 
 unfolding lowStored
 low-is on sw x l d h s k q g o e0 e1 e2 e3 e4 = simp (o, e4, e3, e2, e1, e0)
 
-pub low-law : (on : Bool) (sw : List Float) (x : Site) (l : Levels) (d : Bases) (out r1 r2 r3 a b c : List Float) (h : Shape) (s k : Spine) (q : Roots) (g : Shape)
+pub low-law : (on : Bool) (sw : List Float) (x : Site) (l : ExpansionValues) (d : Bases) (out r1 r2 r3 a b c : List Float) (h : Shape) (s k : Spine) (q : Roots) (g : Shape)
     → length out ≡ 84
     → r1 ≡ a → r2 ≡ b → r3 ≡ c
     → a ≡ regionNumbers h q → b ≡ spineNumbers s → c ≡ spineNumbers k
     → not on ≡ false
-    → h ≡ told (given l) (shapePlan sw x 100·0)
+    → h ≡ told (answerTo l) (shapePlan sw x 100·0)
     → s ≡ spineAt h
     → q ≡ rootsOf h x d
     → g ≡ anomalousOf h
@@ -91,12 +91,12 @@ span-18 : (s : Span) → length (spanNumbers s) ≡ 18
 unfolding spanNumbers
 span-18 s = refl
 
-footing-is : (on : Bool) (sw : List Float) (x : Site) (l : Levels) (tropo : Bool) (f : Footing) → not on ≡ false → f ≡ footingOf sw x l tropo
+footing-is : (on : Bool) (sw : List Float) (x : Site) (l : ExpansionValues) (tropo : Bool) (f : Footing) → not on ≡ false → f ≡ footingOf sw x l tropo
     → groundNumbers f ++ (spanNumbers (f .curves .upper) ++ spanNumbers (f .curves .lower)) ≡ footingStored on sw x l tropo
 unfolding footingStored footingNumbers
 footing-is on sw x l tropo f o e = simp (o, e)
 
-pub footing-law : (on : Bool) (sw : List Float) (x : Site) (l : Levels) (tropo : Bool) (out r1 r2 r3 a b c : List Float) (f : Footing)
+pub footing-law : (on : Bool) (sw : List Float) (x : Site) (l : ExpansionValues) (tropo : Bool) (out r1 r2 r3 a b c : List Float) (f : Footing)
     → length out ≡ 53
     → r1 ≡ a → r2 ≡ b → r3 ≡ c
     → a ≡ groundNumbers f → b ≡ spanNumbers (f .curves .upper) → c ≡ spanNumbers (f .curves .lower)
@@ -108,7 +108,7 @@ footing-law on sw x l tropo out r1 r2 r3 a b c f len f1 f2 f3 ea eb ec o e =
     (three-laid out (groundNumbers f) (spanNumbers (f .curves .upper)) (spanNumbers (f .curves .lower)) 17 18 18 len (ground-17 f) (span-18 (f .curves .upper)) ∙ footing-is on sw x l tropo f o e)
 
 -- five parts behind the record's fourteen numbers
-pub store-law : (p : Parts) (sw : List Float) (x : Site) (l : Levels) (out r1 r2 r3 r4 r5 a3 a4 a5 : List Float) (d : Bases)
+pub store-law : (p : Parts) (sw : List Float) (x : Site) (l : ExpansionValues) (out r1 r2 r3 r4 r5 a3 a4 a5 : List Float) (d : Bases)
     → length out ≡ 234
     → r1 ≡ footingStored (p .below) sw x l (p .tropo)
     → r2 ≡ lowStored (p .low) sw x l d
@@ -166,10 +166,10 @@ pub over-law : (sw0 sw15 : Float) (xs : List Float) (alt : Float) (row l : List 
 unfolding lowRow
 over-law sw0 sw15 xs alt row l e t el = rw (e, rw el at t)
 
-pub region-law : (on : Bool) (sw : List Float) (x : Site) (l : Levels) (d : Bases) (z : Float) (r : List Float) (h : Shape) (q : Roots)
+pub region-law : (on : Bool) (sw : List Float) (x : Site) (l : ExpansionValues) (d : Bases) (z : Float) (r : List Float) (h : Shape) (q : Roots)
     → r ≡ regionNumbers h q
     → q ≡ rootsOf h x d
-    → h ≡ told (given l) (shapePlan sw x z)
+    → h ≡ told (answerTo l) (shapePlan sw x z)
     → not on ≡ false
     → r ≡ regionStored on sw x l d z
 unfolding regionStored

@@ -11,15 +11,15 @@ use Rattle.parameters.specs.Parameters.{presentOf}
 use Rattle.elementary.specs.Log.{logOf}
 use Rattle.layers.specs.declared.Span.{Span}
 use Rattle.places.specs.declared.place.Spine.{Spine}
-use Rattle.levels.specs.declared.Need.{Need}
-use Rattle.plan.specs.declared.Levels.{Levels}
-use Rattle.plan.specs.Plan.{told, given}
+use Rattle.expansion_values.specs.declared.Need.{Need}
+use Rattle.plan.specs.declared.ExpansionValues.{ExpansionValues}
+use Rattle.plan.specs.Plan.{told, answerTo}
 use Rattle.profile.specs.declared.unchecked.Shape.{Shape}
 use Rattle.species.specs.declared.Root.{Root}
 use Rattle.species.specs.Places.{spineAt}
 use Rattle.tables.specs.Tables.{pdlT1}
-use Rattle.upper.specs.declared.Site.{Site}
-use Rattle.upper.specs.Upper.{anomalousOf}
+use Rattle.gts7_arithmetic.specs.declared.Site.{Site}
+use Rattle.gts7_arithmetic.specs.Gts7Arithmetic.{anomalousOf}
 use Rattle.stages.specs.Stages.{shapePlan}
 use Rattle.region.specs.declared.Bases.{Bases}
 use Rattle.region.specs.declared.Roots.{Roots}
@@ -75,26 +75,26 @@ footingNumbers f = groundNumbers f ++ (spanNumbers (f .curves .upper) ++ spanNum
 
 -- ---- what is stored, zeros where a part is not asked for; a region is made at one of its altitudes
 
-unfoldable pub regionStored : Bool → List Float → Site → Levels → Bases → Float → List Float
+unfoldable pub regionStored : Bool → List Float → Site → ExpansionValues → Bases → Float → List Float
 regionStored on sw x l d z =
     cond (not on) (replicate 36 0·0)
-    (let h = told (given l) (shapePlan sw x z) in regionNumbers h (rootsOf h x d))
+    (let h = told (answerTo l) (shapePlan sw x z) in regionNumbers h (rootsOf h x d))
 
 -- up to za, with the spines of its shape and of anomalous oxygen's
-unfoldable pub lowStored : Bool → List Float → Site → Levels → Bases → List Float
+unfoldable pub lowStored : Bool → List Float → Site → ExpansionValues → Bases → List Float
 lowStored on sw x l d =
     cond (not on) (replicate 84 0·0)
-    (let h = told (given l) (shapePlan sw x 100·0) in
+    (let h = told (answerTo l) (shapePlan sw x 100·0) in
     regionNumbers h (rootsOf h x d) ++ (spineNumbers (spineAt h) ++ spineNumbers (spineAt (anomalousOf h))))
 
-unfoldable pub footingStored : Bool → List Float → Site → Levels → Bool → List Float
+unfoldable pub footingStored : Bool → List Float → Site → ExpansionValues → Bool → List Float
 footingStored on sw x l tropo = cond (not on) (replicate 53 0·0) (footingNumbers (footingOf sw x l tropo))
 
 -- the row at 72.5 km
-unfoldable pub summitStored : Bool → List Float → Site → Levels → List Float
+unfoldable pub summitStored : Bool → List Float → Site → ExpansionValues → List Float
 summitStored on sw x l = cond (not on) (replicate 11 0·0) (elevenFrom sw x l 72·5)
 
-unfoldable pub storedOf : Parts → List Float → Site → Levels → List Float
+unfoldable pub storedOf : Parts → List Float → Site → ExpansionValues → List Float
 storedOf p sw x l =
     let d = basesOf (sw ‼ 21) l in
     footingStored (p .below) sw x l (p .tropo)

@@ -9,17 +9,19 @@ ghost use Rattle.region.specs.Region.{rowOver};
 ghost use Rattle.stored.specs.Stored.{needOf, regionNumbers, spineNumbers, spanNumbers, groundNumbers, fiveIn, shapeIn, rootIn, rootsIn, spineIn, spanIn, footingIn, regionStored, lowStored, footingStored, summitStored, storedOf, lowRow, rowStored};
 use atmosphere::row_above;
 use elementary::logarithm::log;
+use expansion_values::Need;
 use footing::Curves;
 use footing::Footing;
 use footing::footing_of;
 use footing::row_below;
+use gts7_arithmetic::Site;
+use gts7_arithmetic::anomalous;
 use layers::Span;
-use levels::Need;
-use lower::Meso;
+use lower_atmosphere::Meso;
 use numbers::RGAS;
 use parameters::present;
 use places::place::Spine;
-use plan::Levels;
+use plan::ExpansionValues;
 use profile::unchecked::Shape;
 use region::Bases;
 use region::Roots;
@@ -36,8 +38,6 @@ use stored_parts::below_300;
 use stored_parts::from_summit;
 use tables::pdl1;
 use thermosphere::shape_stage;
-use upper::Site;
-use upper::anomalous;
 
 // The coefficient sets that the parts read.
 pub fn need_of(p: Parts) -> Need
@@ -351,7 +351,14 @@ pub fn put(out: &mut [f64], v: &[f64])
 }
 
 // A region, made at one of its altitudes; zeros where it is not asked for.
-pub fn region_stored(on: bool, sw: [f64; 24], x: Site, l: Levels, d: Bases, z: f64) -> [f64; 36]
+pub fn region_stored(
+    on: bool,
+    sw: [f64; 24],
+    x: Site,
+    l: ExpansionValues,
+    d: Bases,
+    z: f64,
+) -> [f64; 36]
     ensures { λ r. ⌜ r ≡ regionStored on sw x l d z ⌝ }
 {
     if !on {
@@ -364,7 +371,7 @@ pub fn region_stored(on: bool, sw: [f64; 24], x: Site, l: Levels, d: Bases, z: f
 }
 
 // The region up to za, whose altitudes read two spines besides.
-pub fn put_low(on: bool, sw: [f64; 24], x: Site, l: Levels, d: Bases, out: &mut [f64])
+pub fn put_low(on: bool, sw: [f64; 24], x: Site, l: ExpansionValues, d: Bases, out: &mut [f64])
     requires { ⌜ length (now out) ≡ 84 ⌝ }
     ensures { λ _. ⌜ now (out .exit) ≡ lowStored on sw x l d ⌝ }
 {
@@ -386,7 +393,14 @@ pub fn put_low(on: bool, sw: [f64; 24], x: Site, l: Levels, d: Bases, out: &mut 
     put(&mut out[60..84], &c);
 }
 
-pub fn put_footing(on: bool, sw: [f64; 24], x: Site, l: Levels, tropo: bool, out: &mut [f64])
+pub fn put_footing(
+    on: bool,
+    sw: [f64; 24],
+    x: Site,
+    l: ExpansionValues,
+    tropo: bool,
+    out: &mut [f64],
+)
     requires { ⌜ length (now out) ≡ 53 ⌝ }
     ensures { λ _. ⌜ now (out .exit) ≡ footingStored on sw x l tropo ⌝ }
 {
@@ -408,7 +422,7 @@ pub fn put_footing(on: bool, sw: [f64; 24], x: Site, l: Levels, tropo: bool, out
 }
 
 // The row at 72.5 km, the one altitude whose temperatures have no part of PT and PS.
-pub fn summit_stored(on: bool, sw: [f64; 24], x: Site, l: Levels) -> [f64; 11]
+pub fn summit_stored(on: bool, sw: [f64; 24], x: Site, l: ExpansionValues) -> [f64; 11]
     ensures { λ r. ⌜ r ≡ summitStored on sw x l ⌝ }
 {
     if !on {
@@ -418,7 +432,7 @@ pub fn summit_stored(on: bool, sw: [f64; 24], x: Site, l: Levels) -> [f64; 11]
 }
 
 // All of it behind the first fourteen numbers, which are the record's.
-pub fn store(p: Parts, sw: [f64; 24], x: Site, l: Levels, out: &mut [f64])
+pub fn store(p: Parts, sw: [f64; 24], x: Site, l: ExpansionValues, out: &mut [f64])
     requires { ⌜ length (now out) ≡ 234 ⌝ }
     ensures { λ _. ⌜ now (out .exit) ≡ take 14 (now (out .entry)) ++ storedOf p sw x l ⌝ }
 {

@@ -4,7 +4,7 @@ use mathlib.Core.Path.{_≡_, refl, sym, ap, _∙_}
 use mathlib.Core.Bool.{Bool, true, false}
 use mathlib.Core.List.{List}
 use native.Mathlib.Omega.{arith}
-use lib.IntN.{ℤ, pos, negsuc}
+use lib.IntN.{ℤ}
 use mir.Syntax.{w32}
 use mir.Val.{ofZ, toZ}
 use Rattle.switch_rows.specs.Rows.{sameNumber, sameAt, sameFrom, sameExpansions}

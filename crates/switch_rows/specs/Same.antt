@@ -8,8 +8,9 @@ use native.Mathlib.Omega.{arith}
 use borrow.Author.Tests.{eqb-true, eq-eqb}
 use lib.Dec.{eqb}
 use lib.IntN.{ℤ, pos, negsuc}
-use lib.Ieee.{Float, binary64, ofInt}
+use lib.Ieee.{binary64, ofInt}
 use Rattle.numbers.specs.Arithmetic.{_‼_}
+use Rattle.numbers.specs.Booleans.{both}
 use Rattle.setting.specs.Switches.{given, isOne, aboveZero, onOff, swAt, swcAt, filled, swOf, swcOf}
 use Rattle.switch_rows.specs.Rows.{alike, sameNumber, sameAt, sameFrom, sameExpansions}
 
@@ -25,13 +26,9 @@ is-same (pos m) (negsuc n) e = absurd (false≢true e)
 is-same (negsuc m) (pos n) e = absurd (false≢true e)
 is-same (negsuc m) (negsuc n) e = ap negsuc (eqb-true m n e)
 
-both : (a b : Bool) → (a && b) ≡ true → (a ≡ true) × (b ≡ true)
-both true b e = (refl, e)
-both false b e = absurd (false≢true e)
-
-first : (t r : Bool) → cond (not t) false r ≡ true → (t ≡ true) × (r ≡ true)
-first true r e = (refl, e)
-first false r e = absurd (false≢true e)
+test-first : (t r : Bool) → cond (not t) false r ≡ true → (t ≡ true) × (r ≡ true)
+test-first true r e = (refl, e)
+test-first false r e = absurd (false≢true e)
 
 -- the effects of a switch, by whether it is switch 9
 by-nine : (nine : Bool) (x y : ℤ) → cond nine (sameNumber x y) (alike (isOne x) (isOne y) && alike (aboveZero x) (aboveZero y)) ≡ true
@@ -52,10 +49,10 @@ unfolding sameFrom
 among zero a b i k e q = absurd (not-suc-le-zero q)
 among (suc m) a b i zero e q =
     let none : i + 0 ≡ i = omega arith in
-    ap (sameAt a b) none ∙ (first (sameAt a b i) (sameFrom m a b (i + 1)) e) .0
+    ap (sameAt a b) none ∙ (test-first (sameAt a b i) (sameFrom m a b (i + 1)) e) .0
 among (suc m) a b i (suc k) e q =
     let moved : i + suc k ≡ i + 1 + k = omega arith in
-    ap (sameAt a b) moved ∙ among m a b (i + 1) k ((first (sameAt a b i) (sameFrom m a b (i + 1)) e) .1) (omega (arith, q))
+    ap (sameAt a b) moved ∙ among m a b (i + 1) k ((test-first (sameAt a b i) (sameFrom m a b (i + 1)) e) .1) (omega (arith, q))
 
 -- an entry of the lists: 1 + k
 entry : (w : List ℤ) (k : ℕ) → k < 14 → (swOf w ‼ (1 + k) ≡ swAt w (1 + k)) × (swcOf w ‼ (1 + k) ≡ swcAt w (1 + k))

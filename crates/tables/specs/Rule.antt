@@ -6,7 +6,7 @@ use native.Mathlib.Nat.{le-of-suc-le-suc, not-suc-le-zero}
 use Prim.Native.Nat.{ℕ, zero, suc, _<_, _*_}
 use lib.Dec.{T, ltb, lit<}
 use lib.ListN.{length, getD}
-use lib.Ieee.{Float, nan, inf, fin, up, down, ofBits, binary64}
+use lib.Ieee.{Float, nan, inf, fin, up, down, ofBits}
 use Rattle.tables.specs.Tables.{ptT, psT, pdT0, pdT1, pdT2, pdT3, pdT4, pdT5, pdT6, pdT7, pdT8, ptlT0, ptlT1, ptlT2, ptlT3, pmaT0, pmaT1, pmaT2, pmaT3, pmaT4, pmaT5, pmaT6, pmaT7, pmaT8, pmaT9, pdlT0, pdlT1, ptmT, pdmT0, pdmT1, pdmT2, pdmT3, pdmT4, pdmT5, pdmT6, pdmT7, pavgmT}
 use Rattle.tables.specs.Names.{Wide, PT, PS, PD0, PD1, PD2, PD3, PD4, PD5, PD6, PD7, PD8, wide, Narrow, PTL0, PTL1, PTL2, PTL3, PMA0, PMA1, PMA2, PMA3, PMA4, PMA5, PMA6, PMA7, PMA8, PMA9, narrow}
 
@@ -17,20 +17,20 @@ small (inf s) = false
 small (fin s m e) = ltb (m * up e) (10000000000000 * down e)
 
 -- a test that holds of both
-abbrev pub both : Bool → Bool → Bool
-both true b = b
-both false b = false
+abbrev pub bothOf : Bool → Bool → Bool
+bothOf true b = b
+bothOf false b = false
 
 -- a test that holds of every element
 abbrev pub every : {A : Type 0} → (A → Bool) → List A → Bool
 every f [] = true
-every f (x ∷ xs) = both (f x) (every f xs)
+every f (x ∷ xs) = bothOf (f x) (every f xs)
 
-both-left : (a b : Bool) → T (both a b) → T a
+both-left : (a b : Bool) → T (bothOf a b) → T a
 both-left true b t = tt
 both-left false b t = t
 
-both-right : (a b : Bool) → T (both a b) → T b
+both-right : (a b : Bool) → T (bothOf a b) → T b
 both-right true b t = t
 both-right false b t = absurd t
 

@@ -1,5 +1,4 @@
 -- The terms of globe7 and of glob7s, as the Rust writes them: coefficients p, Legendre values g.
-use Prim.Native.Nat.{_+_}
 use mathlib.Core.List.{List}
 use lib.Ieee.{Float}
 use Rattle.numbers.specs.Arithmetic.{_⊕_, _⊗_, _‼_, at}

@@ -1,5 +1,4 @@
 -- The turbopauses that gts7's species read, each a place where its species is mixed.
-use mathlib.Core.Path.{_≡_}
 use Rattle.numbers.specs.Arithmetic.{_‼_}
 use Rattle.mixing.specs.Limits.{oxygensMixed}
 use Rattle.mixing.specs.declared.limits.Mixed.{Mixed}

@@ -1,11 +1,21 @@
 // gts7: its stages in order, proved against its plan.
 ghost use mathlib.Core.Path.{_≡_};
-ghost use Rattle.plan.specs.Plan.{told, given};
+ghost use Rattle.plan.specs.Plan.{told, answerTo};
 ghost use Rattle.mixing.specs.Limits.{someMixed};
 ghost use Rattle.species.specs.Places.{spineAt, placeAt, Mixes};
 ghost use Rattle.thermosphere.specs.Turbopauses.{Apart};
 ghost use Rattle.stages.specs.Stages.{nodesPlan, shapePlan, speciesPlan, gts7Plan};
 use elementary::power::pow;
+use gts7_arithmetic::Gts7Output;
+use gts7_arithmetic::Nodes;
+use gts7_arithmetic::Site;
+use gts7_arithmetic::SixSpecies;
+use gts7_arithmetic::ThermoSets;
+use gts7_arithmetic::anomalous;
+use gts7_arithmetic::gather;
+use gts7_arithmetic::mean;
+use gts7_arithmetic::shape_of;
+use gts7_arithmetic::varied;
 use mixing::limits::Mixed;
 use mixing::limits::mixed_at;
 use mixing::limits::oxygens_mixed;
@@ -13,16 +23,16 @@ use mixing::limits::some_mixed;
 use places::place::Place;
 use places::place::Spine;
 use places::thinning::Thinning;
-use plan::Levels;
+use plan::ExpansionValues;
 use profile::unchecked::Shape;
 use species::mixing;
 use species::place_at;
 use species::spine_at;
 use species::turbopause;
+use stages::anomalous_stage;
 use stages::argon_stage;
 use stages::gradient_stage;
 use stages::helium_stage;
-use stages::hot_stage;
 use stages::hydrogen_stage;
 use stages::n2_stage;
 use stages::nitrogen_stage;
@@ -41,19 +51,10 @@ use tables::ptl1;
 use tables::ptl2;
 use tables::ptl3;
 use tables::ptm;
-use upper::Nodes;
-use upper::Site;
-use upper::Six;
-use upper::Upper;
-use upper::anomalous;
-use upper::gather;
-use upper::mean;
-use upper::shape_of;
-use upper::varied;
 
 // The nodes of the lower thermosphere.
-pub fn nodes_stage(sw: [f64; 24], z: f64, l: Levels) -> Nodes
-    ensures { λ r. ⌜ r ≡ told (given l) (nodesPlan sw z) ⌝ }
+pub fn nodes_stage(sw: [f64; 24], z: f64, l: ExpansionValues) -> Nodes
+    ensures { λ r. ⌜ r ≡ told (answerTo l) (nodesPlan sw z) ⌝ }
 {
     let m = ptm();
     let p0 = ptl0();
@@ -62,20 +63,29 @@ pub fn nodes_stage(sw: [f64; 24], z: f64, l: Levels) -> Nodes
     let p3 = ptl3();
     let p8 = pma8();
     let k = pow(m[4] * p3[0], 2.0);
+    let first = ThermoSets {
+        ptl0: p0[0],
+        ptl1: p1[0],
+        ptl2: p2[0],
+        ptl3: p3[0],
+        pma8: p8[0],
+    };
     if z < 300.0 {
-        let a = 1.0 - sw[18] * l.ptl0;
-        let b = 1.0 - sw[18] * l.ptl1;
-        let c = 1.0 - sw[18] * l.ptl2;
-        let e = 1.0 - sw[18] * sw[20] * l.ptl3;
-        let g = 1.0 + sw[18] * sw[20] * l.pma8;
-        return varied(m, p0[0], p1[0], p2[0], p3[0], p8[0], k, a, b, c, e, g);
+        let answer = ThermoSets {
+            ptl0: 1.0 - sw[18] * l.ptl0,
+            ptl1: 1.0 - sw[18] * l.ptl1,
+            ptl2: 1.0 - sw[18] * l.ptl2,
+            ptl3: 1.0 - sw[18] * sw[20] * l.ptl3,
+            pma8: 1.0 + sw[18] * sw[20] * l.pma8,
+        };
+        return varied(m, first, k, answer);
     }
-    mean(m, p0[0], p1[0], p2[0], p3[0], p8[0], k)
+    mean(m, first, k)
 }
 
 // What densu reads.
-pub fn shape_stage(sw: [f64; 24], x: Site, z: f64, l: Levels) -> Shape
-    ensures { λ r. ⌜ r ≡ told (given l) (shapePlan sw x z) ⌝ }
+pub fn shape_stage(sw: [f64; 24], x: Site, z: f64, l: ExpansionValues) -> Shape
+    ensures { λ r. ⌜ r ≡ told (answerTo l) (shapePlan sw x z) ⌝ }
 {
     let tinf = tinf_stage(sw, z, l);
     let g = gradient_stage(sw, z, l);
@@ -122,10 +132,10 @@ pub fn species_stage(
     b28: f64,
     flux: f64,
     xmm: f64,
-    l: Levels,
-) -> Six
+    l: ExpansionValues,
+) -> SixSpecies
     requires { ⌜ (s ≡ spineAt h) × (p ≡ placeAt h z) × Mixes (someMixed m) p xmm t ⌝ }
-    ensures { λ r. ⌜ r ≡ told (given l) (speciesPlan sw h m z b28 flux xmm) ⌝ }
+    ensures { λ r. ⌜ r ≡ told (answerTo l) (speciesPlan sw h m z b28 flux xmm) ⌝ }
 {
     let a = pdm2();
     let d = pdl1();
@@ -140,7 +150,7 @@ pub fn species_stage(
     let ar = argon_stage(sw, h, m.ar, z, p, wo, t, b28, zhm, xmm, l);
     let hy = hydrogen_stage(sw, h, m.h, z, p, wh, t, b28, zhm, xmm, l);
     let n = nitrogen_stage(sw, h, m.n, z, p, wo, t, b28, zhm, xmm, l);
-    Six {
+    SixSpecies {
         he: he,
         o: o,
         o2: o2,
@@ -151,8 +161,8 @@ pub fn species_stage(
 }
 
 // The State form of it stands in the crate model_state.
-pub fn gts7_stage(sw: [f64; 24], x: Site, z: f64, l: Levels) -> Upper
-    ensures { λ r. ⌜ r ≡ told (given l) (gts7Plan sw x z) ⌝ }
+pub fn gts7_stage(sw: [f64; 24], x: Site, z: f64, l: ExpansionValues) -> Gts7Output
+    ensures { λ r. ⌜ r ≡ told (answerTo l) (gts7Plan sw x z) ⌝ }
 {
     let h = shape_stage(sw, x, z, l);
     let s = spine_at(h);
@@ -166,6 +176,6 @@ pub fn gts7_stage(sw: [f64; 24], x: Site, z: f64, l: Levels) -> Upper
     let b = n2_stage(sw, h, k.n2, z, p, w, t, x.zhf, c.xmm, l);
     let y = species_stage(sw, h, s, k, z, p, t, b.b, x.flux, c.xmm, l);
     let g = anomalous(h);
-    let o = hot_stage(sw, g, z, l);
+    let o = anomalous_stage(sw, g, z, l);
     gather(sw[0], h, s, z, b, y, o)
 }

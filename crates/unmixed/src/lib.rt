@@ -7,23 +7,27 @@ ghost use Rattle.numbers.specs.Literals.{0·0, 28·0};
 ghost use Rattle.elementary.specs.Exp.{expOf};
 ghost use Rattle.tables.specs.Tables.{pdT2, pdmT2};
 ghost use Rattle.mixing.specs.Limits.{mixedAt, someMixed};
-ghost use Rattle.plan.specs.Plan.{told, given};
+ghost use Rattle.plan.specs.Plan.{told, answerTo};
 ghost use Rattle.species.specs.Species.{densityOf, temperatureOf};
 ghost use Rattle.species.specs.Places.{placeAt};
 ghost use Rattle.stages.specs.Stages.{speciesPlan, gts7Plan};
-ghost use Rattle.lower.specs.Lower.{aboveOf};
+ghost use Rattle.lower_atmosphere.specs.LowerAtmosphere.{gtd7Above};
 use elementary::exponential::exp;
 use elementary::root::sqrt;
+use gts7_arithmetic::Site;
+use gts7_arithmetic::SixSpecies;
+use gts7_arithmetic::anomalous;
+use gts7_arithmetic::row_from;
 use mixing::limits::Mixed;
 use places::place::Place;
 use places::thinning::Thinning;
-use plan::Levels;
+use plan::ExpansionValues;
 use profile::unchecked::Shape;
 use species::density;
 use species::place_alone_at;
+use stages::anomalous_stage;
 use stages::argon_stage;
 use stages::helium_stage;
-use stages::hot_stage;
 use stages::hydrogen_stage;
 use stages::nitrogen_stage;
 use stages::o2_stage;
@@ -32,13 +36,9 @@ use tables::pd2;
 use tables::pdl1;
 use tables::pdm2;
 use thermosphere::shape_stage;
-use upper::Site;
-use upper::Six;
-use upper::anomalous;
-use upper::row_from;
 
 // N2's density, not mixed.
-pub fn n2_alone(sw: [f64; 24], h: Shape, z: f64, p: Place, l: Levels) -> f64
+pub fn n2_alone(sw: [f64; 24], h: Shape, z: f64, p: Place, l: ExpansionValues) -> f64
     requires { ⌜ p ≡ placeAt h z ⌝ }
     ensures { λ r. ⌜ r ≡ densityOf h z (pdmT2 ‼ 0 ⊗ expOf (sw ‼ 21 ⊗ l .pd2) ⊗ pdT2 ‼ 0) 28·0 0·0 ⌝ }
 {
@@ -57,10 +57,10 @@ pub fn six_alone(
     p: Place,
     flux: f64,
     xmm: f64,
-    l: Levels,
-) -> Six
+    l: ExpansionValues,
+) -> SixSpecies
     requires { ⌜ (p ≡ placeAt h z) × (someMixed m ≡ false) ⌝ }
-    ensures { λ r. ⌜ ((b : Float) → r ≡ told (given l) (speciesPlan sw h m z b flux xmm)) ⌝ }
+    ensures { λ r. ⌜ ((b : Float) → r ≡ told (answerTo l) (speciesPlan sw h m z b flux xmm)) ⌝ }
 {
     let a = pdm2();
     let d = pdl1();
@@ -80,7 +80,7 @@ pub fn six_alone(
     let ar = argon_stage(sw, h, m.ar, z, p, p, t, 0.0, zhm, xmm, l);
     let hy = hydrogen_stage(sw, h, m.h, z, p, p, t, 0.0, zhm, xmm, l);
     let n = nitrogen_stage(sw, h, m.n, z, p, p, t, 0.0, zhm, xmm, l);
-    Six {
+    SixSpecies {
         he: he,
         o: o,
         o2: o2,
@@ -99,9 +99,9 @@ pub fn temperature_alone(h: Shape, z: f64) -> f64
 }
 
 // m says which species are mixed: none.
-pub fn unmixed_row(sw: [f64; 24], x: Site, m: Mixed, z: f64, l: Levels) -> [f64; 11]
+pub fn unmixed_row(sw: [f64; 24], x: Site, m: Mixed, z: f64, l: ExpansionValues) -> [f64; 11]
     requires { ⌜ (m ≡ mixedAt (x .nine) (sw ‼ 15) z) × (someMixed m ≡ false) ⌝ }
-    ensures { λ r. ⌜ r ≡ aboveOf (told (given l) (gts7Plan sw x z)) .row ⌝ }
+    ensures { λ r. ⌜ r ≡ gtd7Above (told (answerTo l) (gts7Plan sw x z)) .row ⌝ }
 {
     let h = shape_stage(sw, x, z, l);
     let p = place_alone_at(h, z);
@@ -109,7 +109,7 @@ pub fn unmixed_row(sw: [f64; 24], x: Site, m: Mixed, z: f64, l: Levels) -> [f64;
     let c = x.nine;
     let y = six_alone(sw, h, m, z, p, x.flux, c.xmm, l);
     let k = anomalous(h);
-    let oh = hot_stage(sw, k, z, l);
+    let oh = anomalous_stage(sw, k, z, l);
     let r = sqrt(z * z);
     let t1 = temperature_alone(h, r);
     row_from(sw[0], h.tinf, n2, y, oh, t1)

@@ -4,28 +4,13 @@ use borrow.Author.Needs.{needs}
 use Rattle.acceptance.proofs.judge.Statement.{statement}
 use Rattle.acceptance.proofs.judge.Tie as tie
 
-unfit-requires : tie.Need-unfit-requires
-unfit-requires c κs = search needs
-
-found-requires : tie.Need-found-requires
-found-requires c κs = search needs
-
 returns : tie.Need-returns
 unfolding judgedOf
 returns c = simp (← c .before .found .ensures, ← c .before .before .unfit .ensures) (simp (c .if1 .taken))
 
-lacks-history-requires : tie.Need-lacks-history-requires
-lacks-history-requires c κs = search needs
-
 returns-2 : tie.Need-returns-2
 unfolding judgedOf
 returns-2 c = simp (← c .before .lacks-history .ensures, ← c .before .before .before .found .ensures, ← c .before .before .before .before .unfit .ensures) (simp (c .if2 .taken, c .before .before .if1 .left))
-
-outside-requires : tie.Need-outside-requires
-outside-requires c κs = search needs
-
-found-requires-2 : tie.Need-found-requires-2
-found-requires-2 c κs = search needs
 
 returns-3 : tie.Need-returns-3
 unfolding judgedOf
@@ -39,12 +24,10 @@ pub judge-spec : {M : Type 1} → statement M
 judge-spec =
     tie.close
     (tie.spec
-    unfit-requires
-    found-requires
+    (λ c κs. search needs) (λ c κs. search needs)
     returns
-    lacks-history-requires
+    (λ c κs. search needs)
     returns-2
-    outside-requires
-    found-requires-2
+    (λ c κs. search needs) (λ c κs. search needs)
     returns-3
     returns-4)

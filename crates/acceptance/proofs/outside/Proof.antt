@@ -4,74 +4,41 @@ use borrow.Author.Needs.{needs}
 use Rattle.acceptance.proofs.outside.Statement.{statement}
 use Rattle.acceptance.proofs.outside.Tie as tie
 
-day-within-requires : tie.Need-day-within-requires
-day-within-requires c κs = search needs
-
 returns : tie.Need-returns
 unfolding outsideOf
 returns c = simp (← c .before .day-within .ensures) (simp (c .if1 .taken))
-
-within-requires : tie.Need-within-requires
-within-requires c κs = search needs
 
 returns-2 : tie.Need-returns-2
 unfolding outsideOf
 returns-2 c = simp (← c .before .within .ensures, ← c .before .before .before .day-within .ensures) (simp (c .if2 .taken, c .before .before .if1 .left))
 
-within-requires-2 : tie.Need-within-requires-2
-within-requires-2 c κs = search needs
-
 returns-3 : tie.Need-returns-3
 unfolding outsideOf
 returns-3 c = simp (← c .before .within2 .ensures, ← c .before .before .before .within .ensures, ← c .before .before .before .before .before .day-within .ensures) (simp (c .if3 .taken, c .before .before .if2 .left, c .before .before .before .before .if1 .left))
-
-within-requires-3 : tie.Need-within-requires-3
-within-requires-3 c κs = search needs
 
 returns-4 : tie.Need-returns-4
 unfolding outsideOf
 returns-4 c = simp (← c .before .within3 .ensures, ← c .before .before .before .within2 .ensures, ← c .before .before .before .before .before .within .ensures, ← c .before .before .before .before .before .before .before .day-within .ensures) (simp (c .if4 .taken, c .before .before .if3 .left, c .before .before .before .before .if2 .left, c .before .before .before .before .before .before .if1 .left))
 
-within-requires-4 : tie.Need-within-requires-4
-within-requires-4 c κs = search needs
-
 returns-5 : tie.Need-returns-5
 unfolding outsideOf
 returns-5 c = simp (← c .before .within4 .ensures, ← c .before .before .before .within3 .ensures, ← c .before .before .before .before .before .within2 .ensures, ← c .before .before .before .before .before .before .before .within .ensures, ← c .before .before .before .before .before .before .before .before .before .day-within .ensures) (simp (c .if5 .taken, c .before .before .if4 .left, c .before .before .before .before .if3 .left, c .before .before .before .before .before .before .if2 .left, c .before .before .before .before .before .before .before .before .if1 .left))
-
-within-requires-5 : tie.Need-within-requires-5
-within-requires-5 c κs = search needs
 
 returns-6 : tie.Need-returns-6
 unfolding outsideOf
 returns-6 c = simp (← c .before .within5 .ensures, ← c .before .before .before .within4 .ensures, ← c .before .before .before .before .before .within3 .ensures, ← c .before .before .before .before .before .before .before .within2 .ensures, ← c .before .before .before .before .before .before .before .before .before .within .ensures, ← c .before .before .before .before .before .before .before .before .before .before .before .day-within .ensures) (simp (c .if6 .taken, c .before .before .if5 .left, c .before .before .before .before .if4 .left, c .before .before .before .before .before .before .if3 .left, c .before .before .before .before .before .before .before .before .if2 .left, c .before .before .before .before .before .before .before .before .before .before .if1 .left))
 
-within-requires-6 : tie.Need-within-requires-6
-within-requires-6 c κs = search needs
-
 returns-7 : tie.Need-returns-7
 unfolding outsideOf
 returns-7 c = simp (← c .before .within6 .ensures, ← c .before .before .before .within5 .ensures, ← c .before .before .before .before .before .within4 .ensures, ← c .before .before .before .before .before .before .before .within3 .ensures, ← c .before .before .before .before .before .before .before .before .before .within2 .ensures, ← c .before .before .before .before .before .before .before .before .before .before .before .within .ensures, ← c .before .before .before .before .before .before .before .before .before .before .before .before .before .day-within .ensures) (simp (c .if7 .taken, c .before .before .if6 .left, c .before .before .before .before .if5 .left, c .before .before .before .before .before .before .if4 .left, c .before .before .before .before .before .before .before .before .if3 .left, c .before .before .before .before .before .before .before .before .before .before .if2 .left, c .before .before .before .before .before .before .before .before .before .before .before .before .if1 .left))
-
-within-requires-7 : tie.Need-within-requires-7
-within-requires-7 c κs = search needs
 
 returns-8 : tie.Need-returns-8
 unfolding outsideOf
 returns-8 c = simp (← c .before .within7 .ensures, ← c .before .before .before .within6 .ensures, ← c .before .before .before .before .before .within5 .ensures, ← c .before .before .before .before .before .before .before .within4 .ensures, ← c .before .before .before .before .before .before .before .before .before .within3 .ensures, ← c .before .before .before .before .before .before .before .before .before .before .before .within2 .ensures, ← c .before .before .before .before .before .before .before .before .before .before .before .before .before .within .ensures, ← c .before .before .before .before .before .before .before .before .before .before .before .before .before .before .before .day-within .ensures) (simp (c .if8 .taken, c .before .before .if7 .left, c .before .before .before .before .if6 .left, c .before .before .before .before .before .before .if5 .left, c .before .before .before .before .before .before .before .before .if4 .left, c .before .before .before .before .before .before .before .before .before .before .if3 .left, c .before .before .before .before .before .before .before .before .before .before .before .before .if2 .left, c .before .before .before .before .before .before .before .before .before .before .before .before .before .before .if1 .left))
 
-within-requires-8 : tie.Need-within-requires-8
-within-requires-8 c κs = search needs
-
 returns-9 : tie.Need-returns-9
 unfolding outsideOf
 returns-9 c = simp (← c .before .within8 .ensures, ← c .before .before .before .within7 .ensures, ← c .before .before .before .before .before .within6 .ensures, ← c .before .before .before .before .before .before .before .within5 .ensures, ← c .before .before .before .before .before .before .before .before .before .within4 .ensures, ← c .before .before .before .before .before .before .before .before .before .before .before .within3 .ensures, ← c .before .before .before .before .before .before .before .before .before .before .before .before .before .within2 .ensures, ← c .before .before .before .before .before .before .before .before .before .before .before .before .before .before .before .within .ensures, ← c .before .before .before .before .before .before .before .before .before .before .before .before .before .before .before .before .before .day-within .ensures) (simp (c .if9 .taken, c .before .before .if8 .left, c .before .before .before .before .if7 .left, c .before .before .before .before .before .before .if6 .left, c .before .before .before .before .before .before .before .before .if5 .left, c .before .before .before .before .before .before .before .before .before .before .if4 .left, c .before .before .before .before .before .before .before .before .before .before .before .before .if3 .left, c .before .before .before .before .before .before .before .before .before .before .before .before .before .before .if2 .left, c .before .before .before .before .before .before .before .before .before .before .before .before .before .before .before .before .if1 .left))
-
-absent-requires : tie.Need-absent-requires
-absent-requires c κs = search needs
-
-array-outside-requires : tie.Need-array-outside-requires
-array-outside-requires c κs = search needs
 
 returns-10 : tie.Need-returns-10
 unfolding outsideOf
@@ -81,24 +48,23 @@ pub outside-spec : {M : Type 1} → statement M
 outside-spec =
     tie.close
     (tie.spec
-    day-within-requires
+    (λ c κs. search needs)
     returns
-    within-requires
+    (λ c κs. search needs)
     returns-2
-    within-requires-2
+    (λ c κs. search needs)
     returns-3
-    within-requires-3
+    (λ c κs. search needs)
     returns-4
-    within-requires-4
+    (λ c κs. search needs)
     returns-5
-    within-requires-5
+    (λ c κs. search needs)
     returns-6
-    within-requires-6
+    (λ c κs. search needs)
     returns-7
-    within-requires-7
+    (λ c κs. search needs)
     returns-8
-    within-requires-8
+    (λ c κs. search needs)
     returns-9
-    absent-requires
-    array-outside-requires
+    (λ c κs. search needs) (λ c κs. search needs)
     returns-10)

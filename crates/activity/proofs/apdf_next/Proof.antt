@@ -8,12 +8,9 @@ returns : tie.Need-returns
 unfolding apdfNextOf
 returns c = simp (c .if1 .taken)
 
-apdf-from-requires : tie.Need-apdf-from-requires
-apdf-from-requires c κs = search needs
-
 returns-2 : tie.Need-returns-2
 unfolding apdfNextOf
 returns-2 c = simp (← c .apdf-from .ensures) (simp (c .before .if1 .left))
 
 pub apdf-next-spec : {M : Type 1} → statement M
-apdf-next-spec = tie.close (tie.spec returns apdf-from-requires returns-2)
+apdf-next-spec = tie.close (tie.spec returns (λ c κs. search needs) returns-2)

@@ -4,12 +4,9 @@ use borrow.Author.Needs.{needs}
 use Rattle.activity.proofs.g0.Statement.{statement}
 use Rattle.activity.proofs.g0.Tie as tie
 
-exp-requires : tie.Need-exp-requires
-exp-requires c κs = search needs
-
 returns : tie.Need-returns
 unfolding g0Of
 returns c = simp (← c .exp .ensures)
 
 pub g0-spec : {M : Type 1} → statement M
-g0-spec = tie.close (tie.spec exp-requires returns)
+g0-spec = tie.close (tie.spec (λ c κs. search needs) returns)

@@ -6,12 +6,6 @@ use mathlib.Core.Path.{_∙_}
 use borrow.Author.Needs.{needs}
 use borrow.Author.Tests.{not-true, not-false}
 
-answer-requires : tie.Need-answer-requires
-answer-requires c κs = search needs
-
-accepted-requires : tie.Need-accepted-requires
-accepted-requires c κs = search needs
-
 returns : tie.Need-returns
 returns c =
     let j = c .before .before .answer in
@@ -21,9 +15,6 @@ row-of-requires : tie.Need-row-of-requires
 row-of-requires c κs =
     let at = c .before in
     accepted-length _ _ _ (verdict (at .before .before .answer .ensures) (at .before .accepted .ensures) (not-false _ (at .if1 .left)))
-
-same-length : tie.Need-same-length
-same-length c = search needs
 
 returns-2 : tie.Need-returns-2
 returns-2 c =
@@ -35,9 +26,8 @@ pub gtd7-spec : {M : Type 1} → statement M
 gtd7-spec =
     tie.close
     (tie.spec
-    answer-requires
-    accepted-requires
+    (λ c κs. search needs) (λ c κs. search needs)
     returns
     row-of-requires
-    same-length
+    (λ c. search needs)
     returns-2)

@@ -5,8 +5,8 @@ use borrow.Author.Needs.{needs}
 use Rattle.atmosphere.proofs.row_with.Statement.{statement}
 use Rattle.atmosphere.proofs.row_with.Tie as tie
 
-levels-of-requires : tie.Need-levels-of-requires
-levels-of-requires c κs = shared _ _ _ (c .before .before .before .view-of .ensures)
+expansion-values-of-requires : tie.Need-expansion-values-of-requires
+expansion-values-of-requires c κs = shared _ _ _ (c .before .before .before .view-of .ensures)
 
 row-at-requires : tie.Need-row-at-requires
 row-at-requires c κs =
@@ -18,12 +18,12 @@ returns c =
     let at = c .before .before .before .before in
     let A = at .before .before .before .before .before .before .args in
     row-with-law (A .c) (A .w) (A .n) _
-    (at .levels-of .result)
+    (at .expansion-values-of .result)
     (at .before .need-at .result)
     (at .before .before .site-with .result)
     (at .before .before .before .before .view-of .result)
     (c .before .before .row-at .ensures)
-    (at .levels-of .ensures)
+    (at .expansion-values-of .ensures)
     (at .before .need-at .ensures)
     (at .before .before .site-with .ensures)
     (at .before .before .before .before .view-of .ensures)
@@ -32,4 +32,4 @@ returns c =
 pub row-with-spec : {M : Type 1} → statement M
 row-with-spec =
     tie.close
-    (tie.spec (λ c κs. search needs) (λ c κs. search needs) (λ c κs. search needs) levels-of-requires row-at-requires (λ c. search needs) returns)
+    (tie.spec (λ c κs. search needs) (λ c κs. search needs) (λ c κs. search needs) expansion-values-of-requires row-at-requires (λ c. search needs) returns)

@@ -11,7 +11,7 @@ use lib.Dec.{T, le→leb}
 use lib.IntN.{ℤ, pos, negsuc}
 use lib.Ieee.{binary64, inFloat}
 use lib.Signed.{ltZ}
-use Rattle.band_table.specs.Kilometres.{kilometresOf}
+use Rattle.band_table.specs.Kilometres.{kilometresOfMetres}
 use Rattle.band_table.proofs.kilometres.Statement.{statement}
 use Rattle.band_table.proofs.kilometres.Tie as tie
 
@@ -28,7 +28,7 @@ int-to-float-result : tie.Need-int-to-float-result
 int-to-float-result c = subst (λ (z : ℤ). T (inFloat binary64 z)) (sym (toZ-ofZ {w = w64} {z = c .before .args .metre} (search needs))) (exact (c .before .args .metre) (c .before .pre .0) (c .before .pre .1))
 
 returns : tie.Need-returns
-unfolding kilometresOf
+unfolding kilometresOfMetres
 returns c = simp (toZ-ofZ {w = w64} {z = c .before .args .metre} (search needs))
 
 pub kilometres-spec : {M : Type 1} → statement M

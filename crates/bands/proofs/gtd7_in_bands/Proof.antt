@@ -2,7 +2,6 @@
 use mathlib.Core.Path.{_≡_, sym, ap, _∙_, subst}
 use mathlib.Core.Bool.{false}
 use mir.Syntax.{w64}
-use mir.Val.{toZ, ofZ}
 use mir.Facts.{toZ-ofZ}
 use borrow.Author.Needs.{needs}
 use borrow.Author.Tests.{not-true, not-false}
@@ -13,8 +12,8 @@ use lib.ListN.{length}
 use Rattle.setting.specs.declared.Input.{Input}
 use Rattle.acceptance.specs.Acceptance.{withAltOf}
 use Rattle.atmosphere.specs.Atmosphere.{answerOf, rowAfter}
-use Rattle.band_table.specs.Table.{rowOf}
-use Rattle.band_table.specs.Kilometres.{kilometresOf}
+use Rattle.band_table.specs.Table.{bandRow}
+use Rattle.band_table.specs.Kilometres.{kilometresOfMetres}
 use Rattle.band_table.proofs.Laws.{found-inside}
 use Rattle.bands.proofs.Laws.{longer, no-band, in-band}
 use Rattle.bands.proofs.gtd7_in_bands.Statement.{statement}
@@ -24,8 +23,8 @@ returns : tie.Need-returns
 returns c = let A = c .before .before .args in longer (A .table .now) (A .metre) (A .n) (A .out .now) (c .if1 .taken)
 
 -- what `row_at` found, of the metre as given
-row-is : (c : tie.After-row-at) → c .row-at .result ≡ rowOf (c .before .before .before .args .table .now) (c .before .before .before .args .metre)
-row-is c = let A = c .before .before .before .args in c .row-at .ensures ∙ ap (rowOf (A .table .now)) (toZ-ofZ {w = w64} {z = A .metre} (search needs))
+row-is : (c : tie.After-row-at) → c .row-at .result ≡ bandRow (c .before .before .before .args .table .now) (c .before .before .before .args .metre)
+row-is c = let A = c .before .before .before .args in c .row-at .ensures ∙ ap (bandRow (A .table .now)) (toZ-ofZ {w = w64} {z = A .metre} (search needs))
 
 returns-2 : tie.Need-returns-2
 returns-2 c =
@@ -46,7 +45,7 @@ returns-3 c =
     let w = c .before .before .before .before .before .before in
     let at = w .before .before .before in
     let A = at .before .before .before .args in
-    let k = g .before .before .before .kilometres .ensures ∙ ap kilometresOf (toZ-ofZ {w = w64} {z = A .metre} (search needs)) in
+    let k = g .before .before .before .kilometres .ensures ∙ ap kilometresOfMetres (toZ-ofZ {w = w64} {z = A .metre} (search needs)) in
     let m = g .before .before .with-alt .ensures ∙ ap (withAltOf (A .n)) k in
     in-band (A .table .now) (A .metre) (A .n) (A .out .now) (at .before .if1 .left) (at .row-at .result) (row-is at) (not-false _ (w .before .if2 .left))
     (g .gtd7 .result) _

@@ -4,14 +4,8 @@ use borrow.Author.Needs.{needs}
 use Rattle.cases_profile.proofs.pattern.Statement.{statement}
 use Rattle.cases_profile.proofs.pattern.Tie as tie
 
-returns : tie.Need-returns
-returns c = search needs
-
 float-to-bits-result : tie.Need-float-to-bits-result
 float-to-bits-result c = ordered _ (c .if1 .left)
 
-returns-2 : tie.Need-returns-2
-returns-2 c = search needs
-
 pub pattern-spec : {M : Type 1} → statement M
-pattern-spec = tie.close (tie.spec returns float-to-bits-result returns-2)
+pattern-spec = tie.close (tie.spec (λ c. search needs) float-to-bits-result (λ c. search needs))

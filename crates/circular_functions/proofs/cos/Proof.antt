@@ -1,15 +1,12 @@
 -- `circular_functions::cos` meets its contract. Assumes nothing.
-use mathlib.Core.Path.{_≡_, sym, ap, _∙_, subst}
-use mathlib.Core.Bool.{Bool, true, false, not}
-use Prim.Native.Nat.{ℕ, _*_, _/_, _^_, _≤_, _<_}
-use native.Mathlib.Omega.{arith}
+use mathlib.Core.Path.{_≡_, sym, _∙_, subst}
+use mathlib.Core.Bool.{Bool, false, not}
 use lib.Dec.{T, lit≤}
-use lib.Ieee.{Float, binary64, fits, ofBits, toBits, div, isNan}
+use lib.Ieee.{binary64, fits, ofBits, div, isNan}
 use lib.Ieee.Compare.{differs-from-itself}
 use Rattle.fixed_point.specs.Float.{Within, over}
 use Rattle.fixed_point.proofs.Bits.{over-true, over-false, over-within}
 use Rattle.fixed_point.proofs.Range.{is-nan}
-use Rattle.circular_functions.specs.Trig.{turnedOf}
 use Rattle.circular_functions.proofs.TrigCases.{cos-nan, cos-over, cos-inside}
 use Rattle.circular_functions.proofs.cos.Statement.{statement}
 use Rattle.circular_functions.proofs.cos.Tie as tie

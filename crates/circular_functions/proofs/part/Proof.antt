@@ -1,14 +1,14 @@
 -- `circular_functions::part` meets its contract. Assumes nothing.
 use mathlib.Core.Path.{_≡_, sym, ap, _∙_, subst}
 use mathlib.Core.Bool.{Bool, true, false, cond}
-use Prim.Native.Nat.{ℕ, _+_, _-_, _/_, _%_, _^_, _≤_, _<_}
+use Prim.Native.Nat.{ℕ, _-_, _/_, _%_, _^_, _≤_, _<_}
 use native.Mathlib.Omega.{arith}
 use native.Mathlib.Nat.{le-trans}
 use borrow.Author.Needs.{needs}
 use borrow.Author.Tests.{eq-eqb, ne-eqb}
 use lib.Dec.{T, eqb, lit≤}
 use lib.ListN.{getD}
-use Rattle.circular_functions.specs.Trig.{cubicOf, versineOf, scalingOf, decrementOf}
+use Rattle.circular_functions.specs.Trig.{sineCubic, versineOf, scalingOf, decrementOf}
 use Rattle.circular_tables.specs.Tables.{sines, cosines}
 use Rattle.circular_functions.proofs.TrigBound.{sines-le, cosines-le, cosines-ge}
 use Rattle.circular_functions.proofs.TrigCases.{part-is, part-some, part-le}
@@ -42,21 +42,6 @@ u-ge c h =
     entry : (r : ℕ) → r ≤ 2 ^ 58 → r / 2 ^ 50 < 257
     entry r h = omega arith
 
-sine-at-requires : tie.Need-sine-at-requires
-sine-at-requires c κs = search needs
-
-cosine-at-requires : tie.Need-cosine-at-requires
-cosine-at-requires c κs = search needs
-
-choose-requires : tie.Need-choose-requires
-choose-requires c κs = search needs
-
-choose-requires-2 : tie.Need-choose-requires-2
-choose-requires-2 c κs = search needs
-
-cubic-requires : tie.Need-cubic-requires
-cubic-requires c κs = search needs
-
 scaling-requires : tie.Need-scaling-requires
 scaling-requires c κs = (w-le (c .before), c .cubic .ensures .1)
 
@@ -64,9 +49,6 @@ offset-requires : tie.Need-offset-requires
 offset-requires c κs =
     let u = c .before .before .before in
     (omega (arith, u-le u, c .scaling .ensures .1), λ h. le-trans (c .scaling .ensures .1) (le-trans (lit≤ {m = 2 ^ 51} {n = 2 ^ 57} tt) (u-ge u h)))
-
-versine-requires : tie.Need-versine-requires
-versine-requires c κs = search needs
 
 decrement-requires : tie.Need-decrement-requires
 decrement-requires c κs = (u-le (c .before .before .before .before .before), c .versine .ensures .1)
@@ -95,7 +77,7 @@ returns c =
     let e = c .decrement .result in
     let first : u .choose .result ≡ cond b S C = cc in
     let other : w .choose2 .result ≡ cond b C S = cc in
-    let moves : p ≡ scalingOf (w .choose2 .result) (cubicOf d) = cc in
+    let moves : p ≡ scalingOf (w .choose2 .result) (sineCubic d) = cc in
     let drops : e ≡ decrementOf (u .choose .result) (versineOf d) = cc in
     let is = part-is b S C d (u .choose .result) (w .choose2 .result) p e first other moves drops in (
       ap (λ (n : ℕ). n - e) (m .offset .ensures) ∙ is,
@@ -106,14 +88,10 @@ pub part-spec : {M : Type 1} → statement M
 part-spec =
     tie.close
     (tie.spec
-    sine-at-requires
-    cosine-at-requires
-    choose-requires
-    choose-requires-2
-    cubic-requires
+    (λ c κs. search needs) (λ c κs. search needs) (λ c κs. search needs) (λ c κs. search needs) (λ c κs. search needs)
     scaling-requires
     offset-requires
-    versine-requires
+    (λ c κs. search needs)
     decrement-requires
     sub-result
     returns)

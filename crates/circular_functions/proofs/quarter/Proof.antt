@@ -5,9 +5,6 @@ use Rattle.circular_functions.proofs.TrigCases.{quarter-low-even, quart
 use Rattle.circular_functions.proofs.quarter.Statement.{statement}
 use Rattle.circular_functions.proofs.quarter.Tie as tie
 
-add-result : tie.Need-add-result
-add-result c = search needs
-
 returns : tie.Need-returns
 returns c =
     let s = c .before .before in
@@ -22,4 +19,4 @@ returns-3 : tie.Need-returns-3
 returns-3 c = sym (quarter-high (c .before .args .n) (c .before .args .t) (c .if1 .left))
 
 pub quarter-spec : {M : Type 1} → statement M
-quarter-spec = tie.close (tie.spec add-result returns returns-2 returns-3)
+quarter-spec = tie.close (tie.spec (λ c. search needs) returns returns-2 returns-3)

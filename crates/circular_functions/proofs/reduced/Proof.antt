@@ -1,19 +1,9 @@
 -- `circular_functions::reduced` meets its contract. Assumes nothing.
-use mathlib.Core.Path.{_≡_}
 use native.Mathlib.Omega.{arith}
 use borrow.Author.Needs.{needs}
 use Rattle.circular_functions.proofs.TrigBound.{quarters-few, left-some, left-fits, left-more, left-in}
 use Rattle.circular_functions.proofs.reduced.Statement.{statement}
 use Rattle.circular_functions.proofs.reduced.Tie as tie
-
-mul-n : tie.Need-mul-n
-mul-n c = search needs
-
-add-n : tie.Need-add-n
-add-n c = search needs
-
-add-t : tie.Need-add-t
-add-t c = search needs
 
 mul-t : tie.Need-mul-t
 mul-t c = omega (arith, quarters-few (c .args .m) (c .pre .0))
@@ -36,10 +26,7 @@ add-sinusoid c = omega (arith, quarters-few (c .args .m) (c .pre .0), c .pre .1)
 sinusoid-requires : tie.Need-sinusoid-requires
 sinusoid-requires c κs = (omega (arith, quarters-few (c .args .m) (c .pre .0), c .pre .1), left-in (c .args .m) (c .pre .0))
 
-returns : tie.Need-returns
-returns c = search needs
-
 pub reduced-spec : {M : Type 1} → statement M
 reduced-spec =
     tie.close
-    (tie.spec mul-n add-n add-t mul-t sub-t mul-t-2 mul-t-3 sub-t-2 add-sinusoid sinusoid-requires returns)
+    (tie.spec (λ c. search needs) (λ c. search needs) (λ c. search needs) mul-t sub-t mul-t-2 mul-t-3 sub-t-2 add-sinusoid sinusoid-requires (λ c. search needs))

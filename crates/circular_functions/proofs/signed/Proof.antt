@@ -1,11 +1,10 @@
 -- `circular_functions::signed` meets its contract. Assumes nothing.
-use mathlib.Core.Path.{_≡_, sym, ap, _∙_, subst}
-use mathlib.Core.Bool.{Bool, true, false, not}
-use Prim.Native.Nat.{ℕ, _+_, _*_, _/_, _%_, _^_, _<_, _≤_}
+use mathlib.Core.Path.{_≡_}
+use Prim.Native.Nat.{ℕ, _/_, _%_, _^_, _<_, _≤_}
 use native.Mathlib.Omega.{arith}
 use borrow.Author.Needs.{needs}
-use lib.Dec.{T, le→leb}
-use lib.Ieee.{binary64, inFloat, nanBits, ofBits, neg}
+use lib.Dec.{le→leb}
+use lib.Ieee.{inFloat, ofBits}
 use Rattle.circular_functions.proofs.TrigCases.{signed-zero, signed-is, factor-no-nan}
 use Rattle.circular_functions.proofs.signed.Statement.{statement}
 use Rattle.circular_functions.proofs.signed.Tie as tie
@@ -17,12 +16,6 @@ returns c = signed-zero (c .before .args .n) (c .before .args .v / 128) (c .if1 
 int-to-float-result : tie.Need-int-to-float-result
 unfolding inFloat
 int-to-float-result c = omega (arith, le→leb, c .before .before .pre)
-
-mul-result : tie.Need-mul-result
-mul-result c = search needs
-
-add-result : tie.Need-add-result
-add-result c = search needs
 
 float-from-bits-result : tie.Need-float-from-bits-result
 float-from-bits-result c = factor-no-nan (c .before .before .args .n % 4 / 2) (omega arith)
@@ -42,4 +35,4 @@ returns-2 c =
 pub signed-spec : {M : Type 1} → statement M
 signed-spec =
     tie.close
-    (tie.spec returns int-to-float-result mul-result add-result float-from-bits-result returns-2)
+    (tie.spec returns int-to-float-result (λ c. search needs) (λ c. search needs) float-from-bits-result returns-2)

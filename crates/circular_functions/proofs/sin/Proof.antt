@@ -1,16 +1,16 @@
 -- `circular_functions::sin` meets its contract. Assumes nothing.
 use mathlib.Core.Path.{_≡_, sym, ap, _∙_, subst}
-use mathlib.Core.Bool.{Bool, true, false, not}
+use mathlib.Core.Bool.{Bool, false, not}
 use Prim.Native.Nat.{ℕ, _*_, _/_, _^_, _≤_, _<_}
 use native.Mathlib.Omega.{arith}
 use lib.Dec.{T, lit≤}
 use lib.Ieee.{Float, binary64, fits, ofBits, toBits, div, isNan}
 use lib.Ieee.Bits.{toBits-lt}
 use lib.Ieee.Compare.{differs-from-itself}
-use Rattle.fixed_point.specs.Float.{Within, over, minusSign}
+use Rattle.fixed_point.specs.Float.{Within, over}
 use Rattle.fixed_point.proofs.Bits.{over-true, over-false, over-within, sign-is}
 use Rattle.fixed_point.proofs.Range.{is-nan, within-finite}
-use Rattle.circular_functions.specs.Trig.{turnedOf}
+use Rattle.circular_functions.specs.Trig.{circularTurned}
 use Rattle.circular_functions.proofs.TrigCases.{sin-nan, sin-over, sin-inside}
 use Rattle.circular_functions.proofs.sin.Statement.{statement}
 use Rattle.circular_functions.proofs.sin.Tie as tie
@@ -53,7 +53,7 @@ returns-3 : tie.Need-returns-3
 returns-3 c =
     let s = c .before .before .before in
     let x = s .args .x in
-    c .turned .ensures ∙ ap (λ (k : ℕ). turnedOf x (k * 2)) (sign-is x (held s) (within-finite x 65536 (in-reach (c .before)))) ∙ sym (sin-inside x (inside (c .before)))
+    c .turned .ensures ∙ ap (λ (k : ℕ). circularTurned x (k * 2)) (sign-is x (held s) (within-finite x 65536 (in-reach (c .before)))) ∙ sym (sin-inside x (inside (c .before)))
 
 pub sin-spec : {M : Type 1} → statement M
 sin-spec =

@@ -1,5 +1,4 @@
 -- `circular_tables::cosine_at` meets its contract. Assumes nothing.
-use mathlib.Core.Path.{_≡_}
 use native.Mathlib.Omega.{arith}
 use borrow.Author.Needs.{needs}
 use Rattle.circular_tables.specs.Tables.{cosines}

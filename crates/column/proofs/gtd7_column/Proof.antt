@@ -8,12 +8,6 @@ use borrow.Author.Needs.{needs}
 use Rattle.column.proofs.gtd7_column.Statement.{statement}
 use Rattle.column.proofs.gtd7_column.Tie as tie
 
-column-answer-requires : tie.Need-column-answer-requires
-column-answer-requires c κs = search needs
-
-accepted-requires : tie.Need-accepted-requires
-accepted-requires c κs = search needs
-
 returns : tie.Need-returns
 returns c =
     let j = c .before .before .column-answer in
@@ -25,9 +19,6 @@ rows-requires c κs =
     let fit = verdict (at .before .before .column-answer .ensures) (at .before .accepted .ensures) (not-false _ (at .if1 .left)) in
     (ltb-false _ _ (accepted-room _ _ _ _ fit), accepted-altitudes _ _ _ _ fit)
 
-same-length : tie.Need-same-length
-same-length c = search needs
-
 returns-2 : tie.Need-returns-2
 returns-2 c =
     let at = c .before .before .before .before in
@@ -37,4 +28,4 @@ returns-2 c =
 pub gtd7-column-spec : {M : Type 1} → statement M
 gtd7-column-spec =
     tie.close
-    (tie.spec column-answer-requires accepted-requires returns rows-requires same-length returns-2)
+    (tie.spec (λ c κs. search needs) (λ c κs. search needs) returns rows-requires (λ c. search needs) returns-2)

@@ -15,8 +15,8 @@ returns c =
     let view = at .before .before in
     let start = view .before .before .before in
     stored-are (start .args .w) (start .args .n) (start .args .alts .now) (take 14 (start .args .numbers .now)) _ (view .view-of .result) (at .site-of .result)
-    (read .parts-of .result) (made .before .need-of .result) (made .levels-of .result) (view .view-of .ensures) (at .site-of .ensures) (read .parts-of .ensures)
-    (made .before .need-of .ensures) (made .levels-of .ensures) (stored .store .ensures)
+    (read .parts-of .result) (made .before .need-of .result) (made .expansion-values-of .result) (view .view-of .ensures) (at .site-of .ensures) (read .parts-of .ensures)
+    (made .before .need-of .ensures) (made .expansion-values-of .ensures) (stored .store .ensures)
 
 pub stored-for-spec : {M : Type 1} → statement M
 stored-for-spec =

@@ -4,13 +4,13 @@ use Prim.Native.Nat.{_≤_, _-_}
 use native.Mathlib.Omega.{arith}
 use borrow.Author.Needs.{needs}
 use lib.ListN.{length, drop}
-use Rattle.crossings_list.specs.CrossingsList.{risesFrom, risesOf}
+use Rattle.crossings_list.specs.CrossingsList.{altitudesRiseFrom, altitudesRise}
 use Rattle.crossings_list.proofs.Laws.{begins, none-there, falls-here, rises-here, all-rise}
 use Rattle.crossings_list.proofs.rises.Statement.{statement}
 use Rattle.crossings_list.proofs.rises.Tie as tie
 
 abbrev Inv-loop : tie.InvT-loop
-Inv-loop alts last₀ i₀ last i = (i ≤ length alts) × (risesFrom i last (drop i alts) ≡ risesOf alts)
+Inv-loop alts last₀ i₀ last i = (i ≤ length alts) × (altitudesRiseFrom i last (drop i alts) ≡ altitudesRise alts)
 
 abbrev μ-loop : tie.MeasureT-loop
 μ-loop alts last₀ i₀ last i = length alts - i

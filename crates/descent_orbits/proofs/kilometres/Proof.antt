@@ -5,7 +5,7 @@ use native.Mathlib.Omega.{arith}
 use lib.Dec.{T, le→leb}
 use lib.IntN.{pos}
 use lib.Ieee.{binary64, inFloat}
-use Rattle.descent_orbits.specs.DescentOrbits.{kilometresOf}
+use Rattle.descent_orbits.specs.DescentOrbits.{kilometresOfMillimetres}
 use Rattle.descent_orbits.proofs.kilometres.Statement.{statement}
 use Rattle.descent_orbits.proofs.kilometres.Tie as tie
 
@@ -18,7 +18,7 @@ int-to-float-result : tie.Need-int-to-float-result
 int-to-float-result c = exact (c .before .args .a) (c .before .pre)
 
 returns : tie.Need-returns
-unfolding kilometresOf
+unfolding kilometresOfMillimetres
 returns c = refl
 
 pub kilometres-spec : {M : Type 1} → statement M

@@ -3,7 +3,7 @@ use mathlib.Core.Path.{sym, ap, _∙_}
 use mir.Syntax.{w32}
 use mir.Facts.{toZ-ofZ}
 use borrow.Author.Needs.{needs}
-use Rattle.descent_orbits.specs.DescentOrbits.{productOf}
+use Rattle.descent_orbits.specs.DescentOrbits.{densityBySetting}
 use Rattle.descent_orbits.proofs.Laws.{thin, arrives, sinks}
 use Rattle.descent_orbits.proofs.orbit_at.Statement.{statement}
 use Rattle.descent_orbits.proofs.orbit_at.Tie as tie
@@ -13,7 +13,7 @@ returns c =
     let test = c .before in
     let A = test .before .before .before .args in
     let s = toZ-ofZ {w = w32} {z = A .s} (search needs) in
-    thin (A .a) _ _ (test .before .before .product .ensures ∙ ap (productOf (A .d)) s) _ (test .before .no-density .ensures) _ (test .if1 .taken)
+    thin (A .a) _ _ (test .before .before .product .ensures ∙ ap (densityBySetting (A .d)) s) _ (test .before .no-density .ensures) _ (test .if1 .taken)
     (c .after .ensures)
 
 whole-part-requires : tie.Need-whole-part-requires
@@ -25,7 +25,7 @@ returns-2 c =
     let test = low .before .before in
     let A = test .before .before .before .args in
     let s = toZ-ofZ {w = w32} {z = A .s} (search needs) in
-    arrives (A .a) _ _ (test .before .before .product .ensures ∙ ap (productOf (A .d)) s) _ (test .before .no-density .ensures) _ (test .if1 .left) _
+    arrives (A .a) _ _ (test .before .before .product .ensures ∙ ap (densityBySetting (A .d)) s) _ (test .before .no-density .ensures) _ (test .if1 .left) _
     (low .before .whole-part .ensures .0) (low .if2 .taken) (c .after2 .ensures)
 
 returns-3 : tie.Need-returns-3
@@ -34,7 +34,7 @@ returns-3 c =
     let test = low .before .before in
     let A = test .before .before .before .args in
     let s = toZ-ofZ {w = w32} {z = A .s} (search needs) in
-    sinks (A .a) _ _ (test .before .before .product .ensures ∙ ap (productOf (A .d)) s) _ (test .before .no-density .ensures) _ (test .if1 .left) _
+    sinks (A .a) _ _ (test .before .before .product .ensures ∙ ap (densityBySetting (A .d)) s) _ (test .before .no-density .ensures) _ (test .if1 .left) _
     (low .before .whole-part .ensures .0) (low .if2 .left) (c .after3 .ensures)
 
 pub orbit-at-spec : {M : Type 1} → statement M

@@ -7,13 +7,13 @@ use Prim.Native.Nat.{_≤_, _-_}
 use native.Mathlib.Omega.{arith}
 use borrow.Author.Needs.{needs}
 use lib.ListN.{length, drop, getD}
-use Rattle.descent_orbits.specs.DescentOrbits.{settingWithin, unfitFrom, unfitOf}
+use Rattle.descent_orbits.specs.DescentOrbits.{settingWithin, unfitSettingFrom, unfitSetting}
 use Rattle.descent_orbits.proofs.Laws.{unfit-here, fits-here, all-fit}
 use Rattle.descent_orbits.proofs.unfit.Statement.{statement}
 use Rattle.descent_orbits.proofs.unfit.Tie as tie
 
 abbrev Inv-loop : tie.InvT-loop
-Inv-loop settings i₀ i = (i ≤ length settings) × (unfitFrom i (drop i settings) ≡ unfitOf settings)
+Inv-loop settings i₀ i = (i ≤ length settings) × (unfitSettingFrom i (drop i settings) ≡ unfitSetting settings)
 
 abbrev μ-loop : tie.MeasureT-loop
 μ-loop settings i₀ i = length settings - i

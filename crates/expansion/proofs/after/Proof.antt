@@ -4,51 +4,6 @@ use borrow.Author.Needs.{needs}
 use Rattle.expansion.proofs.after.Statement.{statement}
 use Rattle.expansion.proofs.after.Tie as tie
 
-legendre-requires : tie.Need-legendre-requires
-legendre-requires c κs = search needs
-
-flat-requires : tie.Need-flat-requires
-flat-requires c κs = search needs
-
-turns-after-requires : tie.Need-turns-after-requires
-turns-after-requires c κs = search needs
-
-element-copy-out-apdf-next : tie.Need-element-copy-out-apdf-next
-element-copy-out-apdf-next c = search needs
-
-shared-slice-read-apdf-next : tie.Need-shared-slice-read-apdf-next
-shared-slice-read-apdf-next c = search needs
-
-shared-slice-read-apdf-next-2 : tie.Need-shared-slice-read-apdf-next-2
-shared-slice-read-apdf-next-2 c = search needs
-
-apdf-next-requires : tie.Need-apdf-next-requires
-apdf-next-requires c κs = search needs
-
-element-copy-out-apt-next : tie.Need-element-copy-out-apt-next
-element-copy-out-apt-next c = search needs
-
-shared-slice-read-apt-next : tie.Need-shared-slice-read-apt-next
-shared-slice-read-apt-next c = search needs
-
-shared-slice-read-apt-next-2 : tie.Need-shared-slice-read-apt-next-2
-shared-slice-read-apt-next-2 c = search needs
-
-shared-slice-read-apt-next-3 : tie.Need-shared-slice-read-apt-next-3
-shared-slice-read-apt-next-3 c = search needs
-
-shared-slice-read-apt-next-4 : tie.Need-shared-slice-read-apt-next-4
-shared-slice-read-apt-next-4 c = search needs
-
-element-copy-out-apt-next-2 : tie.Need-element-copy-out-apt-next-2
-element-copy-out-apt-next-2 c = search needs
-
-apt-next-requires : tie.Need-apt-next-requires
-apt-next-requires c κs = search needs
-
-element-write-out : tie.Need-element-write-out
-element-write-out c = search needs
-
 returns : tie.Need-returns
 returns c =
     let A = c .before .before .before .before .before .before .before .before .before .before .before .before .before .before .before .before .before .args in
@@ -68,19 +23,7 @@ pub after-spec : {M : Type 1} → statement M
 after-spec =
     tie.close
     (tie.spec
-    legendre-requires
-    flat-requires
-    turns-after-requires
-    element-copy-out-apdf-next
-    shared-slice-read-apdf-next
-    shared-slice-read-apdf-next-2
-    apdf-next-requires
-    element-copy-out-apt-next
-    shared-slice-read-apt-next
-    shared-slice-read-apt-next-2
-    shared-slice-read-apt-next-3
-    shared-slice-read-apt-next-4
-    element-copy-out-apt-next-2
-    apt-next-requires
-    element-write-out
+    (λ c κs. search needs) (λ c κs. search needs) (λ c κs. search needs) (λ c. search needs) (λ c. search needs)
+    (λ c. search needs) (λ c κs. search needs) (λ c. search needs) (λ c. search needs) (λ c. search needs)
+    (λ c. search needs) (λ c. search needs) (λ c. search needs) (λ c κs. search needs) (λ c. search needs)
     returns)

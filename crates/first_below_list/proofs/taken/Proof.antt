@@ -1,12 +1,12 @@
 -- `taken` meets its contract.
 use mathlib.Core.Path.{refl}
 use borrow.Author.Needs.{needs}
-use Rattle.first_below_list.specs.FirstBelowList.{belowOf}
+use Rattle.first_below_list.specs.FirstBelowList.{isBelow}
 use Rattle.first_below_list.proofs.taken.Statement.{statement}
 use Rattle.first_below_list.proofs.taken.Tie as tie
 
 returns : tie.Need-returns
-unfolding belowOf
+unfolding isBelow
 returns c = (refl, c .before .before .put-if .ensures)
 
 pub taken-spec : {M : Type 1} → statement M

@@ -4,9 +4,6 @@ use Rattle.fixed_point.proofs.Choice.{apart-below, apart-above}
 use Rattle.fixed_point.proofs.apart.Statement.{statement}
 use Rattle.fixed_point.proofs.apart.Tie as tie
 
-sub-result : tie.Need-sub-result
-sub-result c = search needs
-
 returns : tie.Need-returns
 returns c = apart-below (c .before .args .p) (c .before .args .n) (c .if1 .taken)
 
@@ -14,4 +11,4 @@ returns-2 : tie.Need-returns-2
 returns-2 c = apart-above (c .before .args .p) (c .before .args .n) (c .if1 .left)
 
 pub apart-spec : {M : Type 1} → statement M
-apart-spec = tie.close (tie.spec sub-result returns returns-2)
+apart-spec = tie.close (tie.spec (λ c. search needs) returns returns-2)

@@ -1,10 +1,8 @@
 -- `fixed_point::high` meets its contract. Assumes nothing.
-use mathlib.Core.Path.{_≡_, sym, subst, _∙_}
+use mathlib.Core.Path.{_≡_, sym, _∙_}
 use Prim.Native.Nat.{ℕ, _+_, _*_, _/_, _%_, _^_, _≤_, _<_}
 use native.Mathlib.Omega.{arith}
-use native.Mathlib.Nat.{lt-of-le-of-lt}
-use lib.Pow.{pow-pos, shr-lt}
-use lib.Dec.{ltb→lt}
+use lib.Pow.{pow-pos}
 use Rattle.fixed_point.proofs.Product.{below-mul, upper}
 use Rattle.fixed_point.proofs.high.Statement.{statement}
 use Rattle.fixed_point.proofs.high.Tie as tie

@@ -5,9 +5,6 @@ use Rattle.fixed_point.proofs.Choice.{choose-zero, choose-other}
 use Rattle.fixed_point.proofs.offset.Statement.{statement}
 use Rattle.fixed_point.proofs.offset.Tie as tie
 
-add-result : tie.Need-add-result
-add-result c = search needs
-
 returns : tie.Need-returns
 returns c =
     let a = c .before .args in
@@ -22,4 +19,4 @@ returns-2 c =
     choose-other (a .h) (a .u + a .p) (a .u - a .p) (c .if1 .left)
 
 pub offset-spec : {M : Type 1} → statement M
-offset-spec = tie.close (tie.spec add-result returns sub-result returns-2)
+offset-spec = tie.close (tie.spec (λ c. search needs) returns sub-result returns-2)

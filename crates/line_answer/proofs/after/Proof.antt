@@ -4,9 +4,6 @@ use borrow.Author.Needs.{needs}
 use Rattle.line_answer.proofs.after.Statement.{statement}
 use Rattle.line_answer.proofs.after.Tie as tie
 
-add-result : tie.Need-add-result
-add-result c = search needs
-
 returns : tie.Need-returns
 returns c = after-more _ (c .if1 .taken)
 
@@ -14,4 +11,4 @@ returns-2 : tie.Need-returns-2
 returns-2 c = after-last _ (c .if1 .left)
 
 pub after-spec : {M : Type 1} → statement M
-after-spec = tie.close (tie.spec add-result returns returns-2)
+after-spec = tie.close (tie.spec (λ c. search needs) returns returns-2)

@@ -4,21 +4,6 @@ use Rattle.line_answer.specs.Answer.{ccorValue}
 use Rattle.line_answer.proofs.ccor_value.Statement.{statement}
 use Rattle.line_answer.proofs.ccor_value.Tie as tie
 
-thousandths-at-requires : tie.Need-thousandths-at-requires
-thousandths-at-requires c κs = search needs
-
-thousandths-at-requires-2 : tie.Need-thousandths-at-requires-2
-thousandths-at-requires-2 c κs = search needs
-
-thousandths-at-requires-3 : tie.Need-thousandths-at-requires-3
-thousandths-at-requires-3 c κs = search needs
-
-thousandths-at-requires-4 : tie.Need-thousandths-at-requires-4
-thousandths-at-requires-4 c κs = search needs
-
-ccor-requires : tie.Need-ccor-requires
-ccor-requires c κs = search needs
-
 returns : tie.Need-returns
 unfolding ccorValue
 returns c = simp (← c .ccor .ensures, ← c .before .thousandths-at4 .ensures, ← c .before .before .thousandths-at3 .ensures, ← c .before .before .before .thousandths-at2 .ensures, ← c .before .before .before .before .thousandths-at .ensures)
@@ -27,9 +12,5 @@ pub ccor-value-spec : {M : Type 1} → statement M
 ccor-value-spec =
     tie.close
     (tie.spec
-    thousandths-at-requires
-    thousandths-at-requires-2
-    thousandths-at-requires-3
-    thousandths-at-requires-4
-    ccor-requires
+    (λ c κs. search needs) (λ c κs. search needs) (λ c κs. search needs) (λ c κs. search needs) (λ c κs. search needs)
     returns)

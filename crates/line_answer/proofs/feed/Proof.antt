@@ -23,18 +23,6 @@ loop-holds c =
     let a = c .before .before .before .args in
     (search needs, search needs, search needs, search needs, search needs, fed-first (a .chunk .now) (a .line .now) (a .out .now) (a .p .len) (a .p .number), refl, refl)
 
-shared-slice-read-b : tie.Need-shared-slice-read-b Inv-loop μ-loop
-shared-slice-read-b c = search needs
-
-take-byte-requires : tie.Need-take-byte-requires Inv-loop μ-loop
-take-byte-requires c κs = search needs
-
-add-i : tie.Need-add-i Inv-loop μ-loop
-add-i c = search needs
-
-loop-less : tie.Need-loop-less Inv-loop μ-loop
-loop-less c = search needs
-
 loop-again : tie.Need-loop-again Inv-loop μ-loop
 loop-again c =
     let call = c .before .before .before .before in
@@ -51,12 +39,6 @@ loop-again c =
       behind-more _ _ _ _ _ (call .take-byte .ensures .0 .2) (at .inv .7) (call .take-byte .ensures .1 .2),
     )
 
-same-length : tie.Need-same-length Inv-loop μ-loop
-same-length c = search needs
-
-same-length-2 : tie.Need-same-length-2 Inv-loop μ-loop
-same-length-2 c = search needs
-
 returns : tie.Need-returns Inv-loop μ-loop
 returns c =
     let at = c .before .loop in
@@ -72,11 +54,7 @@ feed-spec =
     Inv-loop
     μ-loop
     loop-holds
-    shared-slice-read-b
-    take-byte-requires
-    add-i
-    loop-less
+    (λ c. search needs) (λ c κs. search needs) (λ c. search needs) (λ c. search needs)
     loop-again
-    same-length
-    same-length-2
+    (λ c. search needs) (λ c. search needs)
     returns)

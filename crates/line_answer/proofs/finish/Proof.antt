@@ -14,12 +14,6 @@ returns c = (no-last _ _ _ (c .if1 .taken), search needs, refl)
 slice-aggregate-answer : tie.Need-slice-aggregate-answer
 slice-aggregate-answer c = sym (length-take-le _ _ (search needs))
 
-answer-requires : tie.Need-answer-requires
-answer-requires c κs = search needs
-
-same-length : tie.Need-same-length
-same-length c = search needs
-
 returns-2 : tie.Need-returns-2
 returns-2 c =
     let call = c .before .before in
@@ -31,4 +25,4 @@ returns-2 c =
 
 pub finish-spec : {M : Type 1} → statement M
 finish-spec =
-    tie.close (tie.spec returns slice-aggregate-answer answer-requires same-length returns-2)
+    tie.close (tie.spec returns slice-aggregate-answer (λ c κs. search needs) (λ c. search needs) returns-2)

@@ -7,26 +7,8 @@ use borrow.Author.Needs.{needs}
 use Rattle.line_answer.proofs.outcome.Statement.{statement}
 use Rattle.line_answer.proofs.outcome.Tie as tie
 
-enum-told : tie.Need-enum-told
-enum-told c = search needs
-
-row-requires : tie.Need-row-requires
-row-requires c κs = search needs
-
-enum-known-a : tie.Need-enum-known-a
-enum-known-a c = search needs
-
-refused-requires : tie.Need-refused-requires
-refused-requires c κs = search needs
-
-same-length : tie.Need-same-length
-same-length c = search needs
-
 returns : tie.Need-returns
 returns c = same-text _ _ _ _ _ _ (ap (λ (q : Answer). outcomeText q (c .before .before .before .before .before .before .before .args .eleven)) (sym (c .before .before .before .before .enum-told .given .1))) (c .before .before .row .ensures)
-
-same-length-2 : tie.Need-same-length-2
-same-length-2 c = search needs
 
 returns-2 : tie.Need-returns-2
 returns-2 c = same-text _ _ _ _ _ _ (ap (λ (q : Answer). outcomeText q (c .before .before .before .before .before .before .before .before .args .eleven)) (sym (c .before .before .before .before .before .a .given .1))) (c .before .before .refused .ensures)
@@ -35,11 +17,7 @@ pub outcome-spec : {M : Type 1} → statement M
 outcome-spec =
     tie.close
     (tie.spec
-    enum-told
-    row-requires
-    enum-known-a
-    refused-requires
-    same-length
+    (λ c. search needs) (λ c κs. search needs) (λ c. search needs) (λ c κs. search needs) (λ c. search needs)
     returns
-    same-length-2
+    (λ c. search needs)
     returns-2)

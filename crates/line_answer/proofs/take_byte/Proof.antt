@@ -7,23 +7,8 @@ use borrow.Author.Needs.{needs}
 use Rattle.line_answer.proofs.take_byte.Statement.{statement}
 use Rattle.line_answer.proofs.take_byte.Tie as tie
 
-slice-reshare-prefix-answer : tie.Need-slice-reshare-prefix-answer
-slice-reshare-prefix-answer c = search needs
-
 slice-aggregate-answer : tie.Need-slice-aggregate-answer
 slice-aggregate-answer c = sym (length-take-le _ _ (search needs))
-
-answer-requires : tie.Need-answer-requires
-answer-requires c κs = search needs
-
-after-requires : tie.Need-after-requires
-after-requires c κs = search needs
-
-same-length : tie.Need-same-length
-same-length c = search needs
-
-same-length-2 : tie.Need-same-length-2
-same-length-2 c = search needs
 
 returns : tie.Need-returns
 returns c =
@@ -38,15 +23,6 @@ returns c =
       ),
       (anew .0, anew .1, behind-written _ _ _ _ _ (search needs) (call .answer .ensures .0)),
     )
-
-slice-write-line : tie.Need-slice-write-line
-slice-write-line c = search needs
-
-add-t16 : tie.Need-add-t16
-add-t16 c = search needs
-
-same-length-3 : tie.Need-same-length-3
-same-length-3 c = search needs
 
 returns-2 : tie.Need-returns-2
 returns-2 c =
@@ -73,15 +49,10 @@ pub take-byte-spec : {M : Type 1} → statement M
 take-byte-spec =
     tie.close
     (tie.spec
-    slice-reshare-prefix-answer
+    (λ c. search needs)
     slice-aggregate-answer
-    answer-requires
-    after-requires
-    same-length
-    same-length-2
+    (λ c κs. search needs) (λ c κs. search needs) (λ c. search needs) (λ c. search needs)
     returns
-    slice-write-line
-    add-t16
-    same-length-3
+    (λ c. search needs) (λ c. search needs) (λ c. search needs)
     returns-2
     returns-3)

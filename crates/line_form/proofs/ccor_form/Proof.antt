@@ -7,20 +7,8 @@ use borrow.Author.Needs.{needs}
 use Rattle.line_form.proofs.ccor_form.Statement.{statement}
 use Rattle.line_form.proofs.ccor_form.Tie as tie
 
-start-requires : tie.Need-start-requires
-start-requires c κs = search needs
-
-slice-aggregate-field : tie.Need-slice-aggregate-field
-slice-aggregate-field c = search needs
-
 field-requires : tie.Need-field-requires
 field-requires c κs = (omega arith, start-next _ _ (c .before .start .ensures))
-
-slice-aggregate-closed : tie.Need-slice-aggregate-closed
-slice-aggregate-closed c = search needs
-
-closed-requires : tie.Need-closed-requires
-closed-requires c κs = search needs
 
 returns : tie.Need-returns
 unfolding ccorFormOf
@@ -30,9 +18,7 @@ pub ccor-form-spec : {M : Type 1} → statement M
 ccor-form-spec =
     tie.close
     (tie.spec
-    start-requires
-    slice-aggregate-field
+    (λ c κs. search needs) (λ c. search needs)
     field-requires
-    slice-aggregate-closed
-    closed-requires
+    (λ c. search needs) (λ c κs. search needs)
     returns)

@@ -4,15 +4,9 @@ use borrow.Author.Needs.{needs}
 use Rattle.line_form.proofs.closed.Statement.{statement}
 use Rattle.line_form.proofs.closed.Tie as tie
 
-starts-requires : tie.Need-starts-requires
-starts-requires c κs = search needs
-
-add-q : tie.Need-add-q
-add-q c = search needs
-
 returns : tie.Need-returns
 unfolding closedOf
 returns c = simp (← c .starts .ensures)
 
 pub closed-spec : {M : Type 1} → statement M
-closed-spec = tie.close (tie.spec starts-requires add-q returns)
+closed-spec = tie.close (tie.spec (λ c κs. search needs) (λ c. search needs) returns)

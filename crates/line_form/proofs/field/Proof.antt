@@ -8,18 +8,9 @@ use Rattle.line_form.proofs.field.Tie as tie
 returns : tie.Need-returns
 returns c = (field-stopped _ _ _ _ _ (c .if1 .taken), c .before .before .before .before .pre .1)
 
-starts-requires : tie.Need-starts-requires
-starts-requires c κs = search needs
-
-stopped-requires : tie.Need-stopped-requires
-stopped-requires c κs = search needs
-
 returns-2 : tie.Need-returns-2
 returns-2 c =
     (c .stopped .ensures ∙ field-other _ _ _ _ _ (c .before .before .before .if1 .left) _ (c .before .before .starts .ensures) (c .before .if2 .taken), stopped-next _ _ _ (c .stopped .ensures) (c .before .before .before .before .before .before .before .pre .1))
-
-passed-requires : tie.Need-passed-requires
-passed-requires c κs = search needs
 
 numbers-requires : tie.Need-numbers-requires
 numbers-requires c κs =
@@ -34,9 +25,8 @@ field-spec =
     tie.close
     (tie.spec
     returns
-    starts-requires
-    stopped-requires
+    (λ c κs. search needs) (λ c κs. search needs)
     returns-2
-    passed-requires
+    (λ c κs. search needs)
     numbers-requires
     returns-3)

@@ -5,9 +5,6 @@ use borrow.Author.Needs.{needs}
 use Rattle.line_form.proofs.here.Statement.{statement}
 use Rattle.line_form.proofs.here.Tie as tie
 
-shared-slice-read-result : tie.Need-shared-slice-read-result
-shared-slice-read-result c = search needs
-
 returns : tie.Need-returns
 unfolding hereOf
 returns c = simp (lt-ltb _ _ (c .before .if1 .taken))
@@ -17,4 +14,4 @@ unfolding hereOf
 returns-2 c = simp (le-ltb _ _ (c .if1 .left))
 
 pub here-spec : {M : Type 1} → statement M
-here-spec = tie.close (tie.spec shared-slice-read-result returns returns-2)
+here-spec = tie.close (tie.spec (λ c. search needs) returns returns-2)

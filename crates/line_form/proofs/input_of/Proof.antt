@@ -8,42 +8,6 @@ use borrow.Author.Needs.{needs}
 use Rattle.line_form.proofs.input_of.Statement.{statement}
 use Rattle.line_form.proofs.input_of.Tie as tie
 
-array-copy-out-year : tie.Need-array-copy-out-year
-array-copy-out-year c = search needs
-
-array-copy-out-doy : tie.Need-array-copy-out-doy
-array-copy-out-doy c = search needs
-
-thousandths-at-requires : tie.Need-thousandths-at-requires
-thousandths-at-requires c κs = search needs
-
-thousandths-at-requires-2 : tie.Need-thousandths-at-requires-2
-thousandths-at-requires-2 c κs = search needs
-
-thousandths-at-requires-3 : tie.Need-thousandths-at-requires-3
-thousandths-at-requires-3 c κs = search needs
-
-thousandths-at-requires-4 : tie.Need-thousandths-at-requires-4
-thousandths-at-requires-4 c κs = search needs
-
-thousandths-at-requires-5 : tie.Need-thousandths-at-requires-5
-thousandths-at-requires-5 c κs = search needs
-
-thousandths-at-requires-6 : tie.Need-thousandths-at-requires-6
-thousandths-at-requires-6 c κs = search needs
-
-thousandths-at-requires-7 : tie.Need-thousandths-at-requires-7
-thousandths-at-requires-7 c κs = search needs
-
-thousandths-at-requires-8 : tie.Need-thousandths-at-requires-8
-thousandths-at-requires-8 c κs = search needs
-
-history-of-requires : tie.Need-history-of-requires
-history-of-requires c κs = search needs
-
-array-of-requires : tie.Need-array-of-requires
-array-of-requires c κs = search needs
-
 returns : tie.Need-returns
 returns c =
     let v = c .before .before .before .before .before .before .before .before .before .before .before .before .before .before .args .f .reading .values in
@@ -65,16 +29,7 @@ pub input-of-spec : {M : Type 1} → statement M
 input-of-spec =
     tie.close
     (tie.spec
-    array-copy-out-year
-    array-copy-out-doy
-    thousandths-at-requires
-    thousandths-at-requires-2
-    thousandths-at-requires-3
-    thousandths-at-requires-4
-    thousandths-at-requires-5
-    thousandths-at-requires-6
-    thousandths-at-requires-7
-    thousandths-at-requires-8
-    history-of-requires
-    array-of-requires
+    (λ c. search needs) (λ c. search needs) (λ c κs. search needs) (λ c κs. search needs) (λ c κs. search needs)
+    (λ c κs. search needs) (λ c κs. search needs) (λ c κs. search needs) (λ c κs. search needs) (λ c κs. search needs)
+    (λ c κs. search needs) (λ c κs. search needs)
     returns)

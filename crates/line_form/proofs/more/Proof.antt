@@ -18,9 +18,6 @@ abbrev μ-loop : tie.MeasureT-loop
 loop-holds : tie.Need-loop-holds Inv-loop μ-loop
 loop-holds c = (search needs, search needs, search needs, refl)
 
-digit-requires : tie.Need-digit-requires Inv-loop μ-loop
-digit-requires c κs = search needs
-
 returns : tie.Need-returns Inv-loop μ-loop
 returns c =
     let at = c .before .before .before .loop in
@@ -31,15 +28,6 @@ mul-v c = let at = c .before .before .before .loop in omega (arith, room-fits (a
 
 add-v : tie.Need-add-v Inv-loop μ-loop
 add-v c = let at = c .before .before .before .loop in omega (arith, room-fits (at .v) (at .m) (search needs) (at .inv .0))
-
-add-k : tie.Need-add-k Inv-loop μ-loop
-add-k c = search needs
-
-sub-m : tie.Need-sub-m Inv-loop μ-loop
-sub-m c = search needs
-
-loop-less : tie.Need-loop-less Inv-loop μ-loop
-loop-less c = search needs
 
 loop-again : tie.Need-loop-again Inv-loop μ-loop
 loop-again c =
@@ -64,12 +52,10 @@ more-spec =
     Inv-loop
     μ-loop
     loop-holds
-    digit-requires
+    (λ c κs. search needs)
     returns
     mul-v
     add-v
-    add-k
-    sub-m
-    loop-less
+    (λ c. search needs) (λ c. search needs) (λ c. search needs)
     loop-again
     returns-2)

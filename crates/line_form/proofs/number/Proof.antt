@@ -6,22 +6,10 @@ use borrow.Author.Needs.{needs}
 use Rattle.line_form.proofs.number.Statement.{statement}
 use Rattle.line_form.proofs.number.Tie as tie
 
-here-requires : tie.Need-here-requires
-here-requires c κs = search needs
-
-add-t4 : tie.Need-add-t4
-add-t4 c = search needs
-
 returns : tie.Need-returns
 returns c =
     let h = here-inside _ _ _ _ (c .before .here .ensures) (c .if1 .taken) in
     (nought _ _ _ (c .before .here .ensures) (c .if1 .taken), omega arith)
-
-here-requires-2 : tie.Need-here-requires-2
-here-requires-2 c κs = search needs
-
-add-positive : tie.Need-add-positive
-add-positive c = search needs
 
 positive-requires : tie.Need-positive-requires
 positive-requires c κs =
@@ -33,9 +21,6 @@ returns-2 c =
     let at = c .before .before .before in
     (c .positive .ensures .0 ∙ below-nought _ _ _ (at .before .here .ensures) (at .if1 .left) _ (c .before .before .here2 .ensures) (c .before .if2 .taken), c .positive .ensures .1)
 
-positive-requires-2 : tie.Need-positive-requires-2
-positive-requires-2 c κs = search needs
-
 returns-3 : tie.Need-returns-3
 returns-3 c =
     let at = c .before .before .before in
@@ -45,12 +30,10 @@ pub number-spec : {M : Type 1} → statement M
 number-spec =
     tie.close
     (tie.spec
-    here-requires
-    add-t4
+    (λ c κs. search needs) (λ c. search needs)
     returns
-    here-requires-2
-    add-positive
+    (λ c κs. search needs) (λ c. search needs)
     positive-requires
     returns-2
-    positive-requires-2
+    (λ c κs. search needs)
     returns-3)

@@ -5,13 +5,13 @@ use native.Mathlib.Omega.{arith}
 use borrow.Author.Needs.{needs}
 use borrow.Author.Tests.{not-false}
 use lib.ListN.{length}
-use Rattle.line_form.specs.Grammar.{numbersOf}
+use Rattle.line_form.specs.Grammar.{readNumbers}
 use Rattle.line_form.proofs.Laws.{here-inside, stopped-next, no-space, no-number, one-number, no-more, next-is}
 use Rattle.line_form.proofs.numbers.Statement.{statement}
 use Rattle.line_form.proofs.numbers.Tie as tie
 
 abbrev Inv-loop : tie.InvT-loop
-Inv-loop s i m j₀ left₀ q₀ j left q = (j + left ≤ 41) × (q .next ≤ length s) × (numbersOf left s j q ≡ numbersOf m s i q₀)
+Inv-loop s i m j₀ left₀ q₀ j left q = (j + left ≤ 41) × (q .next ≤ length s) × (readNumbers left s j q ≡ readNumbers m s i q₀)
 
 abbrev μ-loop : tie.MeasureT-loop
 μ-loop s i m j₀ left₀ q₀ j left q = left
@@ -19,44 +19,20 @@ abbrev μ-loop : tie.MeasureT-loop
 loop-holds : tie.Need-loop-holds Inv-loop μ-loop
 loop-holds c = (search needs, search needs, refl)
 
-here-requires : tie.Need-here-requires Inv-loop μ-loop
-here-requires c κs = search needs
-
-stopped-requires : tie.Need-stopped-requires Inv-loop μ-loop
-stopped-requires c κs = search needs
-
 returns : tie.Need-returns Inv-loop μ-loop
 returns c =
     let at = c .before .before .before .before .loop in
     (c .stopped .ensures ∙ (no-space _ _ _ _ (c .before .before .here .ensures) _ (c .before .before .before .loop-test .taken) (c .before .if1 .taken) ∙ at .inv .2), stopped-next _ _ _ (c .stopped .ensures) (at .inv .1))
-
-add-number : tie.Need-add-number Inv-loop μ-loop
-add-number c = search needs
 
 number-requires : tie.Need-number-requires Inv-loop μ-loop
 number-requires c κs =
     let h = here-inside _ _ _ _ (c .before .here .ensures) (not-false _ (c .if1 .left)) in
     omega arith
 
-stopped-requires-2 : tie.Need-stopped-requires-2 Inv-loop μ-loop
-stopped-requires-2 c κs = search needs
-
 returns-2 : tie.Need-returns-2 Inv-loop μ-loop
 returns-2 c =
     let at = c .before .before .before .before .before .before .before .loop in
     (c .stopped2 .ensures ∙ (no-number _ _ _ _ (c .before .before .before .before .before .here .ensures) _ (c .before .before .before .before .before .before .loop-test .taken) (c .before .before .before .before .if1 .left) _ (c .before .before .before .number .ensures .0) (c .before .if2 .taken) ∙ at .inv .2), stopped-next _ _ _ (c .stopped2 .ensures) (at .inv .1))
-
-with-number-requires : tie.Need-with-number-requires Inv-loop μ-loop
-with-number-requires c κs = search needs
-
-add-j : tie.Need-add-j Inv-loop μ-loop
-add-j c = search needs
-
-sub-left : tie.Need-sub-left Inv-loop μ-loop
-sub-left c = search needs
-
-loop-less : tie.Need-loop-less Inv-loop μ-loop
-loop-less c = search needs
 
 loop-again : tie.Need-loop-again Inv-loop μ-loop
 loop-again c =
@@ -79,16 +55,12 @@ numbers-spec =
     Inv-loop
     μ-loop
     loop-holds
-    here-requires
-    stopped-requires
+    (λ c κs. search needs) (λ c κs. search needs)
     returns
-    add-number
+    (λ c. search needs)
     number-requires
-    stopped-requires-2
+    (λ c κs. search needs)
     returns-2
-    with-number-requires
-    add-j
-    sub-left
-    loop-less
+    (λ c κs. search needs) (λ c. search needs) (λ c. search needs) (λ c. search needs)
     loop-again
     returns-3)

@@ -1,40 +1,18 @@
 -- `place` meets its contract.
 use mathlib.Core.Path.{_∙_}
-use Rattle.line_form.specs.Grammar.{placeOf}
+use Rattle.line_form.specs.Grammar.{placeFields}
 use borrow.Author.Needs.{needs}
 use Rattle.line_form.proofs.place.Statement.{statement}
 use Rattle.line_form.proofs.place.Tie as tie
 
-slice-aggregate-field : tie.Need-slice-aggregate-field
-slice-aggregate-field c = search needs
-
-field-requires : tie.Need-field-requires
-field-requires c κs = search needs
-
-slice-aggregate-field-2 : tie.Need-slice-aggregate-field-2
-slice-aggregate-field-2 c = search needs
-
-field-requires-2 : tie.Need-field-requires-2
-field-requires-2 c κs = search needs
-
-slice-aggregate-field-3 : tie.Need-slice-aggregate-field-3
-slice-aggregate-field-3 c = search needs
-
-field-requires-3 : tie.Need-field-requires-3
-field-requires-3 c κs = search needs
-
 returns : tie.Need-returns
-unfolding placeOf
+unfolding placeFields
 returns c = (c .field3 .ensures .0 ∙ rw (c .before .before .field2 .ensures .0, c .before .before .before .before .field .ensures .0), c .field3 .ensures .1)
 
 pub place-spec : {M : Type 1} → statement M
 place-spec =
     tie.close
     (tie.spec
-    slice-aggregate-field
-    field-requires
-    slice-aggregate-field-2
-    field-requires-2
-    slice-aggregate-field-3
-    field-requires-3
+    (λ c. search needs) (λ c κs. search needs) (λ c. search needs) (λ c κs. search needs) (λ c. search needs)
+    (λ c κs. search needs)
     returns)

@@ -5,25 +5,16 @@ use borrow.Author.Needs.{needs}
 use Rattle.line_form.proofs.positive.Statement.{statement}
 use Rattle.line_form.proofs.positive.Tie as tie
 
-digit-requires : tie.Need-digit-requires
-digit-requires c κs = search needs
-
 returns : tie.Need-returns
 returns c = (not-a-digit _ _ _ _ (c .before .digit .ensures) (c .if1 .taken), c .before .before .before .pre)
 
 returns-2 : tie.Need-returns-2
 returns-2 c = (a-zero _ _ _ _ (c .before .before .digit .ensures) (c .before .if1 .left) (c .if2 .taken), c .before .before .before .before .pre)
 
-add-more : tie.Need-add-more
-add-more c = search needs
-
 more-requires : tie.Need-more-requires
 more-requires c κs =
     let h = digit-inside _ _ _ (c .before .before .digit .ensures) (c .before .if1 .left) in
     (omega arith, omega arith)
-
-signed-requires : tie.Need-signed-requires
-signed-requires c κs = search needs
 
 returns-3 : tie.Need-returns-3
 returns-3 c =
@@ -36,4 +27,4 @@ returns-3 c =
 pub positive-spec : {M : Type 1} → statement M
 positive-spec =
     tie.close
-    (tie.spec digit-requires returns returns-2 add-more more-requires signed-requires returns-3)
+    (tie.spec (λ c κs. search needs) returns returns-2 (λ c. search needs) more-requires (λ c κs. search needs) returns-3)

@@ -1,14 +1,11 @@
 -- `signed` meets its contract.
 use mathlib.Core.Path.{sym, ap, _∙_}
 use mathlib.Core.Bool.{Bool, false}
-use Rattle.line_form.specs.Grammar.{signedOf}
+use Rattle.line_form.specs.Grammar.{withSign}
 use Rattle.line_form.proofs.Laws.{back, negated-fits, negated-is}
 use borrow.Author.Needs.{needs}
 use Rattle.line_form.proofs.signed.Statement.{statement}
 use Rattle.line_form.proofs.signed.Tie as tie
-
-to-i32-requires : tie.Need-to-i32-requires
-to-i32-requires c κs = search needs
 
 sub-result : tie.Need-sub-result
 sub-result c = negated-fits _ _ (c .before .to-i32 .ensures) (c .before .before .pre)
@@ -16,12 +13,12 @@ sub-result c = negated-fits _ _ (c .before .to-i32 .ensures) (c .before .before 
 returns : tie.Need-returns
 returns c =
     let A = c .before .before .args in
-    negated-is _ _ (c .before .to-i32 .ensures) (c .before .before .pre) ∙ ap (λ (b : Bool). signedOf b (A .size)) (sym (c .if1 .taken))
+    negated-is _ _ (c .before .to-i32 .ensures) (c .before .before .pre) ∙ ap (λ (b : Bool). withSign b (A .size)) (sym (c .if1 .taken))
 
 returns-2 : tie.Need-returns-2
 returns-2 c =
     let A = c .before .before .args in
-    back false _ _ (c .before .to-i32 .ensures) (c .before .before .pre) ∙ ap (λ (b : Bool). signedOf b (A .size)) (sym (c .if1 .left))
+    back false _ _ (c .before .to-i32 .ensures) (c .before .before .pre) ∙ ap (λ (b : Bool). withSign b (A .size)) (sym (c .if1 .left))
 
 pub signed-spec : {M : Type 1} → statement M
-signed-spec = tie.close (tie.spec to-i32-requires sub-result returns returns-2)
+signed-spec = tie.close (tie.spec (λ c κs. search needs) sub-result returns returns-2)

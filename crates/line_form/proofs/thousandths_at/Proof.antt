@@ -9,15 +9,6 @@ use borrow.Author.Needs.{needs}
 use Rattle.line_form.proofs.thousandths_at.Statement.{statement}
 use Rattle.line_form.proofs.thousandths_at.Tie as tie
 
-mul-z : tie.Need-mul-z
-mul-z c = search needs
-
-array-copy-out-z : tie.Need-array-copy-out-z
-array-copy-out-z c = search needs
-
-int-to-float-result : tie.Need-int-to-float-result
-int-to-float-result c = search needs
-
 returns : tie.Need-returns
 unfolding thousandthsAt thousandthsOf
 returns c =
@@ -25,4 +16,4 @@ returns c =
     simp (toZ-ofZ {w = w32} {z = getD (A .r .values) (A .i) (pos 0)} (search needs))
 
 pub thousandths-at-spec : {M : Type 1} → statement M
-thousandths-at-spec = tie.close (tie.spec mul-z array-copy-out-z int-to-float-result returns)
+thousandths-at-spec = tie.close (tie.spec (λ c. search needs) (λ c. search needs) (λ c. search needs) returns)

@@ -5,11 +5,8 @@ use borrow.Author.Needs.{needs}
 use Rattle.line_form.proofs.to_i32.Statement.{statement}
 use Rattle.line_form.proofs.to_i32.Tie as tie
 
-cast-result : tie.Need-cast-result
-cast-result c = search needs
-
 returns : tie.Need-returns
 returns c = toZ-pos w32 (c .args .size) (search needs)
 
 pub to-i32-spec : {M : Type 1} → statement M
-to-i32-spec = tie.close (tie.spec cast-result returns)
+to-i32-spec = tie.close (tie.spec (λ c. search needs) returns)

@@ -5,23 +5,11 @@ use Rattle.line_text.proofs.Laws.{same-text, few, decimal-is}
 use Rattle.line_text.proofs.decimal.Statement.{statement}
 use Rattle.line_text.proofs.decimal.Tie as tie
 
-decimal-requires : tie.Need-decimal-requires
-decimal-requires c κs = search needs
-
-array-share-prefix-text : tie.Need-array-share-prefix-text
-array-share-prefix-text c = search needs
-
-slice-aggregate-put : tie.Need-slice-aggregate-put
-slice-aggregate-put c = search needs
-
 put-requires : tie.Need-put-requires
 put-requires c κs =
     let w = c .before .before .decimal .ensures in
     let h = few 10 1 _ _ 20 (omega arith) (omega arith) (omega arith) (w .1 .0) in
     omega (arith, w .0 .1)
-
-same-length : tie.Need-same-length
-same-length c = search needs
 
 returns : tie.Need-returns
 returns c =
@@ -34,9 +22,7 @@ pub decimal-spec : {M : Type 1} → statement M
 decimal-spec =
     tie.close
     (tie.spec
-    decimal-requires
-    array-share-prefix-text
-    slice-aggregate-put
+    (λ c κs. search needs) (λ c. search needs) (λ c. search needs)
     put-requires
-    same-length
+    (λ c. search needs)
     returns)

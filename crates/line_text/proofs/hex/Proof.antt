@@ -6,26 +6,11 @@ use Rattle.line_text.proofs.Laws.{same-text, few, hex-is, length-hex}
 use Rattle.line_text.proofs.hex.Statement.{statement}
 use Rattle.line_text.proofs.hex.Tie as tie
 
-pattern-requires : tie.Need-pattern-requires
-pattern-requires c κs = search needs
-
-hex-requires : tie.Need-hex-requires
-hex-requires c κs = search needs
-
-array-share-prefix-text : tie.Need-array-share-prefix-text
-array-share-prefix-text c = search needs
-
-slice-aggregate-put : tie.Need-slice-aggregate-put
-slice-aggregate-put c = search needs
-
 put-requires : tie.Need-put-requires
 put-requires c κs =
     let w = c .before .before .hex .ensures in
     let h = few 16 16 _ _ 16 (omega arith) (omega arith) (omega arith) (w .1 .0) in
     omega (arith, w .0 .1)
-
-same-length : tie.Need-same-length
-same-length c = search needs
 
 returns : tie.Need-returns
 returns c =
@@ -38,10 +23,7 @@ pub hex-spec : {M : Type 1} → statement M
 hex-spec =
     tie.close
     (tie.spec
-    pattern-requires
-    hex-requires
-    array-share-prefix-text
-    slice-aggregate-put
+    (λ c κs. search needs) (λ c κs. search needs) (λ c. search needs) (λ c. search needs)
     put-requires
-    same-length
+    (λ c. search needs)
     returns)

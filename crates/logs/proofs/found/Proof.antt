@@ -19,12 +19,6 @@ abbrev μ-loop : tie.MeasureT-loop
 loop-holds : tie.Need-loop-holds Inv-loop μ-loop
 loop-holds c = (search needs, search needs, search needs, search needs, (refl, refl))
 
-left-requires : tie.Need-left-requires Inv-loop μ-loop
-left-requires c κs = search needs
-
-front-requires : tie.Need-front-requires Inv-loop μ-loop
-front-requires c κs = search needs
-
 mul-table : tie.Need-mul-table Inv-loop μ-loop
 mul-table c =
     let test = c .before in
@@ -51,18 +45,6 @@ add-n c =
     let w : at .i + at .j < length (A .s1 .now) + length (A .s2 .now) =
     left-over (at .i) (at .j) (length (A .s1 .now)) (length (A .s2 .now)) _ (test .before .left .ensures) (at .inv .0) (at .inv .1) (test .if1 .taken) in
     omega arith
-
-of-first-requires : tie.Need-of-first-requires Inv-loop μ-loop
-of-first-requires c κs = search needs
-
-add-i : tie.Need-add-i Inv-loop μ-loop
-add-i c = search needs
-
-of-second-requires : tie.Need-of-second-requires Inv-loop μ-loop
-of-second-requires c κs = search needs
-
-add-j : tie.Need-add-j Inv-loop μ-loop
-add-j c = search needs
 
 loop-less : tie.Need-loop-less Inv-loop μ-loop
 loop-less c =
@@ -111,15 +93,11 @@ found-spec =
     Inv-loop
     μ-loop
     loop-holds
-    left-requires
-    front-requires
+    (λ c κs. search needs) (λ c κs. search needs)
     mul-table
     array-write-table
     add-n
-    of-first-requires
-    add-i
-    of-second-requires
-    add-j
+    (λ c κs. search needs) (λ c. search needs) (λ c κs. search needs) (λ c. search needs)
     loop-less
     loop-again
     returns)

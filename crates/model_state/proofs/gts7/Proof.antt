@@ -30,9 +30,9 @@ species-step-requires c κs = (
 
 returns : tie.Need-returns
 returns c = let A = c .before .before .before .before .before .before .before .before .before .before .before .before .before .before .before .before .before .before .before .before .before .before .args in
-    gts7-steps (A .t1) (A .x) (A .z) (A .l) (A .s) ((c .before .before .before .before .before .before .before .before .before .before .before .before .before .before .before .before .before .before .before .before .before .shape-step .result) .state) ((c .before .before .before .before .before .before .before .before .before .n2-step .result) .state) ((c .before .before .before .before .before .before .species-step .result) .state) ((c .before .before .hot-step .result) .state) ((c .gather-step .result) .state)
-    ((c .gather-step .result) .value) ((c .before .before .hot-step .result) .value) (c .before .before .before .anomalous .result) ((c .before .before .before .before .before .before .species-step .result) .value) ((c .before .before .before .before .before .before .before .before .before .n2-step .result) .value) (c .before .before .before .before .before .before .before .before .before .before .before .before .mixed-at .result) ((c .before .before .before .before .before .before .before .before .before .before .before .before .before .before .before .before .before .before .before .before .before .shape-step .result) .value)
-    ((c .gather-step .ensures) .0) ((c .gather-step .ensures) .1) (c .before .before .hot-step .ensures) (c .before .before .before .anomalous .ensures) (c .before .before .before .before .before .before .species-step .ensures) (c .before .before .before .before .before .before .before .before .before .n2-step .ensures) (c .before .before .before .before .before .before .before .before .before .before .before .before .mixed-at .ensures) (c .before .before .before .before .before .before .before .before .before .before .before .before .before .before .before .before .before .before .before .before .before .shape-step .ensures)
+    gts7-steps (A .t1) (A .x) (A .z) (A .l) (A .s) ((c .before .before .before .before .before .before .before .before .before .before .before .before .before .before .before .before .before .before .before .before .before .shape-step .result) .state) ((c .before .before .before .before .before .before .before .before .before .n2-step .result) .state) ((c .before .before .before .before .before .before .species-step .result) .state) ((c .before .before .anomalous-step .result) .state) ((c .gather-step .result) .state)
+    ((c .gather-step .result) .value) ((c .before .before .anomalous-step .result) .value) (c .before .before .before .anomalous .result) ((c .before .before .before .before .before .before .species-step .result) .value) ((c .before .before .before .before .before .before .before .before .before .n2-step .result) .value) (c .before .before .before .before .before .before .before .before .before .before .before .before .mixed-at .result) ((c .before .before .before .before .before .before .before .before .before .before .before .before .before .before .before .before .before .before .before .before .before .shape-step .result) .value)
+    ((c .gather-step .ensures) .0) ((c .gather-step .ensures) .1) (c .before .before .anomalous-step .ensures) (c .before .before .before .anomalous .ensures) (c .before .before .before .before .before .before .species-step .ensures) (c .before .before .before .before .before .before .before .before .before .n2-step .ensures) (c .before .before .before .before .before .before .before .before .before .before .before .before .mixed-at .ensures) (c .before .before .before .before .before .before .before .before .before .before .before .before .before .before .before .before .before .before .before .before .before .shape-step .ensures)
 
 pub gts7-spec : {M : Type 1} → statement M
 gts7-spec =

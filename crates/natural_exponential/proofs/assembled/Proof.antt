@@ -1,12 +1,11 @@
 -- `natural_exponential::assembled` meets its contract. Assumes nothing.
-use mathlib.Core.Path.{_≡_, sym, _∙_, subst}
+use mathlib.Core.Path.{sym, _∙_, subst}
 use mathlib.Core.Bool.{Bool, not}
-use Prim.Native.Nat.{ℕ, _-_, _/_, _≤_, _<_}
-use native.Mathlib.Nat.{le-of-lt}
+use Prim.Native.Nat.{_-_, _/_}
 use native.Mathlib.Omega.{arith}
 use borrow.Author.Needs.{needs}
 use lib.Dec.{T, le→leb}
-use lib.Ieee.{binary64, inFloat, nanBits, ofBits}
+use lib.Ieee.{inFloat, nanBits}
 use Rattle.fixed_point.proofs.Assemble.{fraction, over-51, over-115, assembled-is, divided-is, same-quotient, power-no-nan}
 use Rattle.natural_exponential.proofs.assembled.Statement.{statement}
 use Rattle.natural_exponential.proofs.assembled.Tie as tie

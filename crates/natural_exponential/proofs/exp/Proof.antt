@@ -1,14 +1,12 @@
 -- `exp` meets its contract.
-use mathlib.Core.Path.{_≡_, sym, ap₂, _∙_, subst}
+use mathlib.Core.Path.{_≡_, sym, _∙_, subst}
 use mathlib.Core.Bool.{false}
-use Prim.Native.Nat.{ℕ}
-use borrow.Author.Needs.{needs}
 use borrow.Author.Tests.{not-true, not-false}
 use lib.Dec.{T}
-use lib.Ieee.{Float, ofBits, neg, nanBits, isNan, lt}
+use lib.Ieee.{ofBits, neg, nanBits, isNan, lt}
 use lib.Ieee.Compare.{differs-from-itself}
 use Rattle.fixed_point.proofs.Range.{is-nan, at-most, at-least, at-least-no-nan}
-use Rattle.natural_exponential.specs.Exp.{most, least, kernelOf, assembledOf}
+use Rattle.natural_exponential.specs.Exp.{most, least}
 use Rattle.natural_exponential.proofs.Cases.{exp-nan, exp-most, exp-least, least-most}
 use Rattle.natural_exponential.proofs.exp.Statement.{statement}
 use Rattle.natural_exponential.proofs.exp.Tie as tie

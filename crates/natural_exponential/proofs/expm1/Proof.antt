@@ -6,12 +6,6 @@ use Rattle.natural_exponential.proofs.Bound.{first-product, tail-produc
 use Rattle.natural_exponential.proofs.expm1.Statement.{statement}
 use Rattle.natural_exponential.proofs.expm1.Tie as tie
 
-mul-h : tie.Need-mul-h
-mul-h c = search needs
-
-add-h : tie.Need-add-h
-add-h c = search needs
-
 mul-r : tie.Need-mul-r
 mul-r c = omega (arith, first-product (c .args .d) (c .pre))
 
@@ -31,4 +25,4 @@ returns : tie.Need-returns
 returns c = (refl, omega (arith, remainder-product (c .args .d) (c .pre)))
 
 pub expm1-spec : {M : Type 1} → statement M
-expm1-spec = tie.close (tie.spec mul-h add-h mul-r add-r mul-v mul-result add-result returns)
+expm1-spec = tie.close (tie.spec (λ c. search needs) (λ c. search needs) mul-r add-r mul-v mul-result add-result returns)

@@ -1,5 +1,4 @@
 -- `natural_exponential::fine_at` meets its contract. Assumes nothing.
-use mathlib.Core.Path.{_≡_}
 use native.Mathlib.Omega.{arith}
 use borrow.Author.Needs.{needs}
 use Rattle.natural_exponential.specs.Exp.{fine}

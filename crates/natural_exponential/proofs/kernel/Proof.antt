@@ -1,5 +1,5 @@
 -- `natural_exponential::kernel` meets its contract. Assumes nothing.
-use mathlib.Core.Path.{_≡_, refl, sym, _∙_, subst}
+use mathlib.Core.Path.{_≡_, sym, subst}
 use Prim.Native.Nat.{ℕ, _/_, _%_, _^_, _≤_}
 use native.Mathlib.Omega.{arith}
 use borrow.Author.Needs.{needs}
@@ -8,18 +8,9 @@ use Rattle.natural_exponential.proofs.Bound.{coarse-le, fine-le, high-l
 use Rattle.natural_exponential.proofs.kernel.Statement.{statement}
 use Rattle.natural_exponential.proofs.kernel.Tie as tie
 
-coarse-at-requires : tie.Need-coarse-at-requires
-coarse-at-requires c κs = search needs
-
-fine-at-requires : tie.Need-fine-at-requires
-fine-at-requires c κs = search needs
-
 high-requires : tie.Need-high-requires
 high-requires c κs =
     omega (arith, c .before .coarse-at .ensures, c .fine-at .ensures, coarse-le (c .before .before .args .t / 2 ^ 53), fine-le (c .before .before .args .t / 2 ^ 48 % 32))
-
-expm1-requires : tie.Need-expm1-requires
-expm1-requires c κs = search needs
 
 compounded-requires : tie.Need-compounded-requires
 compounded-requires c κs =
@@ -35,4 +26,4 @@ returns c =
     (e, subst (λ (n : ℕ). 128 ≤ n) (sym e) (kernel-ge t (c .before .before .before .before .before .pre)), c .compounded .ensures .1)
 
 pub kernel-spec : {M : Type 1} → statement M
-kernel-spec = tie.close (tie.spec coarse-at-requires fine-at-requires high-requires expm1-requires compounded-requires returns)
+kernel-spec = tie.close (tie.spec (λ c κs. search needs) (λ c κs. search needs) high-requires (λ c κs. search needs) compounded-requires returns)

@@ -2,7 +2,6 @@
 use mathlib.Core.Path.{refl, sym, subst}
 use Prim.Native.Nat.{ℕ, _+_, _-_, _^_, _≤_}
 use native.Mathlib.Omega.{arith}
-use borrow.Author.Needs.{needs}
 use lib.Dec.{eqb, lit≤}
 use Rattle.fixed_point.specs.Fixed.{offsetOf}
 use Rattle.fixed_point.proofs.Choice.{either-le}

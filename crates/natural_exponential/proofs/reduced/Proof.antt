@@ -6,9 +6,9 @@ use native.Mathlib.Omega.{arith}
 use borrow.Author.Needs.{needs}
 use borrow.Author.Tests.{eqb-true}
 use lib.Dec.{eqb}
-use Rattle.fixed_point.specs.Fixed.{chooseOf, offsetOf}
+use Rattle.fixed_point.specs.Fixed.{offsetOf}
 use Rattle.fixed_point.proofs.Choice.{either-le}
-use Rattle.natural_exponential.specs.Exp.{timesOf, gapOf, restOf}
+use Rattle.natural_exponential.specs.Exp.{timesOf, gapOf, expRest}
 use Rattle.natural_exponential.proofs.Reduce.{Reduced, reduced}
 use Rattle.natural_exponential.proofs.reduced.Statement.{statement}
 use Rattle.natural_exponential.proofs.reduced.Tie as tie
@@ -16,17 +16,11 @@ use Rattle.natural_exponential.proofs.reduced.Tie as tie
 laws : (c : tie.Start) → Reduced (c .args .s) (c .args .m) (timesOf (c .args .m) + c .args .s)
 laws c = reduced (c .args .s) (c .args .m) (c .pre .0) (c .pre .1) (c .pre .2)
 
-mul-n : tie.Need-mul-n
-mul-n c = search needs
-
 add-n : tie.Need-add-n
 add-n c = omega (arith, laws c .few)
 
 mul-u : tie.Need-mul-u
 mul-u c = omega (arith, laws c .few)
-
-choose-requires : tie.Need-choose-requires
-choose-requires c κs = search needs
 
 larger : (c : tie.After-choose) → c .choose .result ≤ 2 ^ 63
 larger c =
@@ -42,14 +36,8 @@ larger c =
 add-d : tie.Need-add-d
 add-d c = omega (arith, larger c)
 
-choose-requires-2 : tie.Need-choose-requires-2
-choose-requires-2 c κs = search needs
-
 sub-d : tie.Need-sub-d
 sub-d c = omega (arith, laws (c .before .before) .some, c .before .choose .ensures, c .choose2 .ensures)
-
-sub-offset : tie.Need-sub-offset
-sub-offset c = search needs
 
 -- the difference is the definition's
 gap-is : (c : tie.After-choose2) → 2 ^ 53 + c .before .choose .result - c .choose2 .result ≡ gapOf (c .before .before .args .s) (c .before .before .args .m) (timesOf (c .before .before .args .m) + c .before .before .args .s)
@@ -73,7 +61,7 @@ offset-requires c κs =
     let n = timesOf (s .args .m) + s .args .s in
     subst (λ (d : ℕ). (d * 32 + n * 6 < 2 ^ 64) × ((1 - s .args .s ≡ 0 → ⊥) → n * 6 ≤ d * 32)) (sym (gap-is c)) (laws s .small, laws s .more)
 
-rest-is : (c : tie.After-offset) → c .offset .result ≡ restOf (c .before .before .before .args .s) (c .before .before .before .args .m) (timesOf (c .before .before .before .args .m) + c .before .before .before .args .s)
+rest-is : (c : tie.After-offset) → c .offset .result ≡ expRest (c .before .before .before .args .s) (c .before .before .before .args .m) (timesOf (c .before .before .before .args .m) + c .before .before .before .args .s)
 rest-is c = let g = gap-is (c .before) in cc g
 
 offset-requires-2 : tie.Need-offset-requires-2
@@ -104,14 +92,14 @@ pub reduced-spec : {M : Type 1} → statement M
 reduced-spec =
     tie.close
     (tie.spec
-    mul-n
+    (λ c. search needs)
     add-n
     mul-u
-    choose-requires
+    (λ c κs. search needs)
     add-d
-    choose-requires-2
+    (λ c κs. search needs)
     sub-d
-    sub-offset
+    (λ c. search needs)
     mul-offset
     mul-offset-2
     offset-requires

@@ -1,18 +1,16 @@
 -- `rest_of` meets its contract.
-use mathlib.Core.Path.{_≡_, sym, ap, ap₂, _∙_, subst}
+use mathlib.Core.Path.{_≡_, sym, _∙_, subst}
 use mathlib.Core.Bool.{Bool, true, false, not}
 use Prim.Native.Nat.{ℕ, _*_, _/_, _^_, _≤_, _<_}
 use native.Mathlib.Omega.{arith}
 use native.Mathlib.Nat.{lt-of-le-of-lt}
-use borrow.Author.Needs.{needs}
 use lib.Dec.{T, lit≤, lit<}
-use lib.Ieee.{Float, binary64, fits, toBits}
+use lib.Ieee.{binary64, fits, toBits}
 use lib.Ieee.Bits.{toBits-lt}
 use lib.Ieee.Scale.{finite}
 use Rattle.fixed_point.specs.Float.{Within, over, minusSign}
 use Rattle.fixed_point.proofs.Bits.{over-true, over-false, over-within, sign-is}
 use Rattle.fixed_point.proofs.Range.{between, plus-within, within-finite, within-scaled}
-use Rattle.natural_exponential.specs.Exp.{kernelOf, assembledOf}
 use Rattle.natural_exponential.proofs.Cases.{exp-reduced, exp-inside}
 use Rattle.natural_exponential.proofs.rest_of.Statement.{statement}
 use Rattle.natural_exponential.proofs.rest_of.Tie as tie

@@ -9,14 +9,8 @@ use Rattle.natural_logarithm.proofs.LogHalves.{bits-no-nan, halves-is}
 use Rattle.natural_logarithm.proofs.difference.Statement.{statement}
 use Rattle.natural_logarithm.proofs.difference.Tie as tie
 
-add-upper : tie.Need-add-upper
-add-upper c = search needs
-
 float-from-bits-upper : tie.Need-float-from-bits-upper
 float-from-bits-upper c = bits-no-nan (4746794007248502784 + c .args .u / 2 ^ 32) (omega arith)
-
-add-lower : tie.Need-add-lower
-add-lower c = search needs
 
 float-from-bits-lower : tie.Need-float-from-bits-lower
 float-from-bits-lower c = bits-no-nan (4602678819172646912 + c .args .u % 2 ^ 32) (omega arith)
@@ -31,4 +25,4 @@ returns c =
     whole u = omega arith
 
 pub difference-spec : {M : Type 1} → statement M
-difference-spec = tie.close (tie.spec add-upper float-from-bits-upper add-lower float-from-bits-lower returns)
+difference-spec = tie.close (tie.spec (λ c. search needs) float-from-bits-upper (λ c. search needs) float-from-bits-lower returns)

@@ -4,17 +4,11 @@ use Prim.Native.Nat.{ℕ, _+_, _-_, _*_, _/_, _^_, _≤_}
 use native.Mathlib.Omega.{arith}
 use borrow.Author.Needs.{needs}
 use lib.ListN.{getD}
-use Rattle.natural_logarithm.specs.Log.{logarithms, log1mOf, shortOf, withinOf, differenceOf}
+use Rattle.natural_logarithm.specs.Log.{logarithms, log1mOf, shortOf, logWithin, differenceOf}
 use Rattle.natural_logarithm.proofs.LogBound.{logarithms-le, short-some, short-le}
 use Rattle.natural_logarithm.proofs.LogCases.{difference-shift}
 use Rattle.natural_logarithm.proofs.digits.Statement.{statement}
 use Rattle.natural_logarithm.proofs.digits.Tie as tie
-
-piece-at-requires : tie.Need-piece-at-requires
-piece-at-requires c κs = search needs
-
-add-z : tie.Need-add-z
-add-z c = search needs
 
 -- the table's reciprocal leaves something, and little
 module _ (c : tie.After-piece-at) where
@@ -59,13 +53,10 @@ module _ (c : tie.After-log1m) where
       cut : (a s : ℕ) → a ≤ 2 ^ 58 → (a + 2 ^ 58 - s) / 32 ≤ 2 ^ 54
       cut a s h = omega arith
 
-  within-is : w ≡ withinOf (t piece)
+  within-is : w ≡ logWithin (t piece)
   within-is =
       ap (λ (a : ℕ). (a + 2 ^ 58 - c .log1m .result) / 32) (piece .piece-at .ensures .1)
       ∙ ap (λ (s : ℕ). (getD logarithms (t piece / 2 ^ 45) 0 + 2 ^ 58 - s) / 32) (c .log1m .ensures .0 ∙ ap (λ (r : ℕ). log1mOf (shortOf (t piece) r)) (piece .piece-at .ensures .0))
-
-mul-difference : tie.Need-mul-difference
-mul-difference c = search needs
 
 add-difference : tie.Need-add-difference
 add-difference c = omega (arith, w-lt c)
@@ -79,9 +70,6 @@ sub-difference c = omega (arith, piece c .before .pre .0)
 add-difference-2 : tie.Need-add-difference-2
 add-difference-2 c = omega (arith, w-lt c, piece c .before .pre .1)
 
-difference-requires : tie.Need-difference-requires
-difference-requires c κs = search needs
-
 -- 1023 + k times log 2, 1 and what is added make 2 ^ 63
 even : (k : ℕ) → k ≤ 54 → (1023 + k) * 6243314768165359 + 2 ^ 53 + (2827453829766872559 - k * 6243314768165359) ≡ 2 ^ 63
 even k h = omega arith
@@ -94,24 +82,23 @@ returns c =
     let r = 2827453829766872559 - k * 6243314768165359 in
     c .difference .ensures
     ∙ ap (λ (w : ℕ). differenceOf (p + w + r) (2 ^ 63)) (within-is (c .before))
-    ∙ ap (differenceOf (p + withinOf (s .args .t) + r)) (sym (even k (s .pre .0)))
-    ∙ difference-shift (p + withinOf (s .args .t)) ((1023 + k) * 6243314768165359 + 2 ^ 53) r
+    ∙ ap (differenceOf (p + logWithin (s .args .t) + r)) (sym (even k (s .pre .0)))
+    ∙ difference-shift (p + logWithin (s .args .t)) ((1023 + k) * 6243314768165359 + 2 ^ 53) r
 
 pub digits-spec : {M : Type 1} → statement M
 digits-spec =
     tie.close
     (tie.spec
-    piece-at-requires
-    add-z
+    (λ c κs. search needs) (λ c. search needs)
     mul-z
     sub-z
     add-w
     log1m-requires
     sub-w
-    mul-difference
+    (λ c. search needs)
     add-difference
     mul-difference-2
     sub-difference
     add-difference-2
-    difference-requires
+    (λ c κs. search needs)
     returns)

@@ -1,9 +1,9 @@
 -- `natural_logarithm::log` meets its contract. Assumes nothing.
 use mathlib.Core.Path.{_≡_, sym, _∙_, subst}
-use mathlib.Core.Bool.{Bool, true, false, not}
+use mathlib.Core.Bool.{Bool, false, not}
 use borrow.Author.Needs.{needs}
 use lib.Dec.{T}
-use lib.Ieee.{Float, inf, binary64, ofBits, nanBits, mul, div, neg, lt, le, eq, isNan}
+use lib.Ieee.{Float, inf, binary64, ofBits, nanBits, mul, div, neg, lt, eq, isNan}
 use Rattle.fixed_point.specs.Float.{nought, lift}
 use Rattle.fixed_point.proofs.Rounded.{lifted-no-nan}
 use Rattle.natural_logarithm.proofs.LogCases.{Usual, usual, Faded, faded, zeroes, log-else, log-zero, log-infinite, log-one, log-tiny, log-bits}
@@ -56,9 +56,6 @@ returns-2 c =
 float-to-bits-b : tie.Need-float-to-bits-b
 float-to-bits-b c = let t = c .before .before in no (t .before .args .x) (large t .number)
 
-digits-requires : tie.Need-digits-requires
-digits-requires c κs = search needs
-
 returns-3 : tie.Need-returns-3
 unfolding ofBits
 returns-3 c =
@@ -71,9 +68,6 @@ unfolding ofBits
 float-to-bits-b-2 c =
     let x = c .before .before .args .x in
     no (mul binary64 x lift) (lifted-no-nan x (tail c .number))
-
-digits-requires-2 : tie.Need-digits-requires-2
-digits-requires-2 c κs = search needs
 
 returns-4 : tie.Need-returns-4
 unfolding ofBits
@@ -106,10 +100,10 @@ log-spec =
     returns
     returns-2
     float-to-bits-b
-    digits-requires
+    (λ c κs. search needs)
     returns-3
     float-to-bits-b-2
-    digits-requires-2
+    (λ c κs. search needs)
     returns-4
     float-from-bits-result
     returns-5

@@ -6,12 +6,6 @@ use Rattle.natural_logarithm.proofs.LogBound.{b-product, c-product, d-p
 use Rattle.natural_logarithm.proofs.tail.Statement.{statement}
 use Rattle.natural_logarithm.proofs.tail.Tie as tie
 
-mul-a : tie.Need-mul-a
-mul-a c = search needs
-
-add-a : tie.Need-add-a
-add-a c = search needs
-
 mul-b : tie.Need-mul-b
 mul-b c = omega (arith, b-product (c .args .s) (c .pre))
 
@@ -42,4 +36,4 @@ returns c = (refl, tail-le (c .args .s) (c .pre))
 pub tail-spec : {M : Type 1} → statement M
 tail-spec =
     tie.close
-    (tie.spec mul-a add-a mul-b add-b mul-c add-c mul-d add-d mul-result add-result returns)
+    (tie.spec (λ c. search needs) (λ c. search needs) mul-b add-b mul-c add-c mul-d add-d mul-result add-result returns)

@@ -1,5 +1,5 @@
 -- `plus_zero` meets its contract.
-use mathlib.Core.Path.{_≡_, refl, sym, _∙_, ap}
+use mathlib.Core.Path.{_≡_, sym, _∙_, ap}
 use mathlib.Core.Bool.{true, not, false≢true}
 use borrow.Author.Tests.{eqb-true}
 use lib.Dec.{eqb}

@@ -33,12 +33,6 @@ densu-requires c κs =
     let h = set-holds _ _ _ _ _ (c .before .before .before .before .if1 .left) (c .before .before .before .if2 .left) (c .before .before .if3 .left) in
     (h .0, within-ten _ (h .1), h .2, h .3, h .4)
 
-same-length : tie.Need-same-length
-same-length c = search needs
-
-same-length-2 : tie.Need-same-length-2
-same-length-2 c = search needs
-
 returns-4 : tie.Need-returns-4
 unfolding densuCall densuTn1 densuTgn1
 returns-4 c =
@@ -51,4 +45,4 @@ returns-4 c =
 pub densu-spec : {M : Type 1} → statement M
 densu-spec =
     tie.close
-    (tie.spec returns returns-2 returns-3 densu-requires same-length same-length-2 returns-4)
+    (tie.spec returns returns-2 returns-3 densu-requires (λ c. search needs) (λ c. search needs) returns-4)

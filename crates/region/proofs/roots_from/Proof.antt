@@ -6,7 +6,7 @@ use Rattle.region.proofs.roots_from.Tie as tie
 
 returns : tie.Need-returns
 unfolding rootsFrom
-returns c = simp (c .hot-factor .ensures, c .before .nitrogen-root .ensures, c .before .before .hydrogen-root .ensures, c .before .before .before .argon-root .ensures, c .before .before .before .before .o2-root .ensures, c .before .before .before .before .before .oxygen-root .ensures, c .before .before .before .before .before .before .helium-root .ensures, c .before .before .before .before .before .before .before .n2-root .ensures, c .before .before .before .before .before .before .before .before .before .before .before .before .before .before .pdl1 .ensures, c .before .before .before .before .before .before .before .before .before .before .before .before .before .before .before .pdl0 .ensures, c .before .before .before .before .before .before .before .before .before .before .before .before .before .before .before .before .pdm7 .ensures, c .before .before .before .before .before .before .before .before .before .before .before .before .before .before .before .before .before .pdm3 .ensures)
+returns c = simp (c .anomalous-factor .ensures, c .before .nitrogen-root .ensures, c .before .before .hydrogen-root .ensures, c .before .before .before .argon-root .ensures, c .before .before .before .before .o2-root .ensures, c .before .before .before .before .before .oxygen-root .ensures, c .before .before .before .before .before .before .helium-root .ensures, c .before .before .before .before .before .before .before .n2-root .ensures, c .before .before .before .before .before .before .before .before .before .before .before .before .before .before .pdl1 .ensures, c .before .before .before .before .before .before .before .before .before .before .before .before .before .before .before .pdl0 .ensures, c .before .before .before .before .before .before .before .before .before .before .before .before .before .before .before .before .pdm7 .ensures, c .before .before .before .before .before .before .before .before .before .before .before .before .before .before .before .before .before .pdm3 .ensures)
 
 pub roots-from-spec : {M : Type 1} → statement M
 roots-from-spec =

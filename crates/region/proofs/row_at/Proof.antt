@@ -6,7 +6,7 @@ use Rattle.region.proofs.row_at.Tie as tie
 
 returns : tie.Need-returns
 unfolding rowAt
-returns c = simp (c .row-from .ensures, c .before .hot .ensures, c .before .before .six-at .ensures, c .before .before .before .n2 .ensures, c .before .before .before .before .before .mixing-at .ensures, c .before .before .before .before .before .before .some-mixed .ensures, c .before .before .before .before .before .before .before .mixed-at .ensures, c .before .before .before .before .before .before .before .before .present .ensures, c .before .before .before .before .before .before .before .before .before .pdm7 .ensures, c .before .before .before .before .before .before .before .before .before .before .pdl1 .ensures, c .before .before .before .before .before .before .before .before .before .before .before .pdm2 .ensures)
+returns c = simp (c .row-from .ensures, c .before .anomalous-oxygen .ensures, c .before .before .six-at .ensures, c .before .before .before .n2 .ensures, c .before .before .before .before .before .mixing-at .ensures, c .before .before .before .before .before .before .some-mixed .ensures, c .before .before .before .before .before .before .before .mixed-at .ensures, c .before .before .before .before .before .before .before .before .present .ensures, c .before .before .before .before .before .before .before .before .before .pdm7 .ensures, c .before .before .before .before .before .before .before .before .before .before .pdl1 .ensures, c .before .before .before .before .before .before .before .before .before .before .before .pdm2 .ensures)
 
 pub row-at-spec : {M : Type 1} → statement M
 row-at-spec =

@@ -7,7 +7,7 @@ use Rattle.region.proofs.row_under.Tie as tie
 
 returns : tie.Need-returns
 unfolding rowUnder
-returns c = simp (c .row-at .ensures, c .before .warmth-at .ensures, c .before .before .sqrt .ensures, c .before .before .before .under2 .ensures, c .before .before .before .before .under .ensures, c .before .before .before .before .before .pdl1 .ensures)
+returns c = simp (c .row-at .ensures, c .before .temperature-at .ensures, c .before .before .sqrt .ensures, c .before .before .before .under2 .ensures, c .before .before .before .before .under .ensures, c .before .before .before .before .before .pdl1 .ensures)
 
 pub row-under-spec : {M : Type 1} → statement M
 row-under-spec =

@@ -17,31 +17,10 @@ abbrev μ-loop : tie.MeasureT-loop
 loop-holds : tie.Need-loop-holds Inv-loop μ-loop
 loop-holds c = (search needs, refl, refl)
 
-mul-y2 : tie.Need-mul-y2 Inv-loop μ-loop
-mul-y2 c = search needs
-
-array-read-y2 : tie.Need-array-read-y2 Inv-loop μ-loop
-array-read-y2 c = search needs
-
-mul-y2-2 : tie.Need-mul-y2-2 Inv-loop μ-loop
-mul-y2-2 c = search needs
-
-slice-write-y2 : tie.Need-slice-write-y2 Inv-loop μ-loop
-slice-write-y2 c = search needs
-
-add-i : tie.Need-add-i Inv-loop μ-loop
-add-i c = search needs
-
-loop-less : tie.Need-loop-less Inv-loop μ-loop
-loop-less c = search needs
-
 loop-again : tie.Need-loop-again Inv-loop μ-loop
 loop-again c =
     let at = c .before .loop in
     (search needs, search needs, store-more _ _ _ (at .i) (search needs) (search needs) (at .inv .2))
-
-same-length : tie.Need-same-length Inv-loop μ-loop
-same-length c = search needs
 
 returns : tie.Need-returns Inv-loop μ-loop
 returns c =
@@ -55,12 +34,8 @@ put-spec =
     Inv-loop
     μ-loop
     loop-holds
-    mul-y2
-    array-read-y2
-    mul-y2-2
-    slice-write-y2
-    add-i
-    loop-less
+    (λ c. search needs) (λ c. search needs) (λ c. search needs) (λ c. search needs) (λ c. search needs)
+    (λ c. search needs)
     loop-again
-    same-length
+    (λ c. search needs)
     returns)

@@ -1,16 +1,16 @@
 -- `splini` meets its contract: each return is a case of the definition.
 use Rattle.spline_calls.specs.Outcome.{counted}
-use Rattle.spline_calls.specs.Calls.{spliniCall, over}
+use Rattle.spline_calls.specs.Calls.{spliniCall, threeLong}
 use Rattle.spline_calls.proofs.Accept.{counted-in, long-enough}
 use Rattle.spline_calls.proofs.splini.Statement.{statement}
 use Rattle.spline_calls.proofs.splini.Tie as tie
 
 returns : tie.Need-returns
-unfolding spliniCall over counted
+unfolding spliniCall threeLong counted
 returns c = simp (c .if1 .taken)
 
 returns-2 : tie.Need-returns-2
-unfolding spliniCall over counted
+unfolding spliniCall threeLong counted
 returns-2 c = simp (c .before .if1 .left, c .if2 .taken)
 
 splini-requires : tie.Need-splini-requires
@@ -20,7 +20,7 @@ splini-requires c κs =
     (p .0, q .0, q .1, q .2)
 
 returns-3 : tie.Need-returns-3
-unfolding spliniCall over counted
+unfolding spliniCall threeLong counted
 returns-3 c = simp (← c .splini .ensures) (simp (c .before .if2 .left, c .before .before .if1 .left))
 
 pub splini-spec : {M : Type 1} → statement M

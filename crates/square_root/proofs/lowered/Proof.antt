@@ -1,5 +1,5 @@
 -- `square_root::lowered` meets its contract. Assumes nothing.
-use Prim.Native.Nat.{ℕ, _+_, _-_, _*_, _/_, _^_, _<_, _≤_}
+use Prim.Native.Nat.{_+_, _-_, _*_, _^_, _<_, _≤_}
 use native.Mathlib.Omega.{arith}
 use Rattle.square_root.proofs.Squares.{some, one-less, reached, missed}
 use Rattle.square_root.proofs.lowered.Statement.{statement}

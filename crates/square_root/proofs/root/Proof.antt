@@ -1,11 +1,11 @@
 -- `square_root::root` meets its contract. Assumes nothing.
-use mathlib.Core.Path.{_≡_, sym, ap, subst}
+use mathlib.Core.Path.{sym, ap, subst}
 use mathlib.Core.Bool.{Bool, not}
 use Prim.Native.Nat.{ℕ, _+_, _-_, _*_, _/_, _%_, _^_, _<_, _≤_}
 use native.Mathlib.Omega.{arith}
 use borrow.Author.Needs.{needs}
 use lib.Dec.{T}
-use lib.Ieee.{binary64, toBits, ofBits, nanBits}
+use lib.Ieee.{binary64, toBits, ofBits}
 use Rattle.square_root.specs.Root.{rootOf}
 use Rattle.square_root.proofs.Squares.{radicand-le, radicand-ge, nearest-is, no-nan-bits}
 use Rattle.square_root.proofs.root.Statement.{statement}
@@ -28,26 +28,8 @@ module _ (c : tie.Start) where
   a-ge : 1 ≤ a
   a-ge = radicand-ge (b % 2 ^ 52 + 2 ^ 52) (b / 2 ^ 52) (digits-in b .0) (digits-in b .1)
 
-float-to-bits-b : tie.Need-float-to-bits-b
-float-to-bits-b c = search needs
-
-add-a : tie.Need-add-a
-add-a c = search needs
-
-sub-a : tie.Need-sub-a
-sub-a c = search needs
-
 mul-a : tie.Need-mul-a
 mul-a c = omega (arith, a-le c)
-
-sub-z : tie.Need-sub-z
-sub-z c = search needs
-
-mul-z : tie.Need-mul-z
-mul-z c = search needs
-
-add-z : tie.Need-add-z
-add-z c = search needs
 
 float-from-bits-z : tie.Need-float-from-bits-z
 float-from-bits-z c = subst (λ (t : Bool). T (not t)) (sym (no-nan-bits ((1024 - b c / 2 ^ 52 % 2) * 2 ^ 52 + b c % 2 ^ 52) (small (b c)))) tt
@@ -55,23 +37,8 @@ float-from-bits-z c = subst (λ (t : Bool). T (not t)) (sym (no-nan-bits ((1024 
     small : (n : ℕ) → (1024 - n / 2 ^ 52 % 2) * 2 ^ 52 + n % 2 ^ 52 < 2047 * 2 ^ 52
     small n = omega arith
 
-guess-requires : tie.Need-guess-requires
-guess-requires c κs = search needs
-
 nearest-requires : tie.Need-nearest-requires
 nearest-requires c κs = (omega (arith, a-le (c .before)), a-ge (c .before), c .guess .ensures .0, c .guess .ensures .1)
-
-add-result : tie.Need-add-result
-add-result c = search needs
-
-sub-result : tie.Need-sub-result
-sub-result c = search needs
-
-mul-result : tie.Need-mul-result
-mul-result c = search needs
-
-add-result-2 : tie.Need-add-result-2
-add-result-2 c = search needs
 
 float-from-bits-result : tie.Need-float-from-bits-result
 float-from-bits-result c =
@@ -91,19 +58,12 @@ pub root-spec : {M : Type 1} → statement M
 root-spec =
     tie.close
     (tie.spec
-    float-to-bits-b
-    add-a
-    sub-a
+    (λ c. search needs) (λ c. search needs) (λ c. search needs)
     mul-a
-    sub-z
-    mul-z
-    add-z
+    (λ c. search needs) (λ c. search needs) (λ c. search needs)
     float-from-bits-z
-    guess-requires
+    (λ c κs. search needs)
     nearest-requires
-    add-result
-    sub-result
-    mul-result
-    add-result-2
+    (λ c. search needs) (λ c. search needs) (λ c. search needs) (λ c. search needs)
     float-from-bits-result
     returns)

@@ -1,12 +1,11 @@
 -- `square_root::sqrt` meets its contract. Assumes nothing.
-use mathlib.Core.Path.{_≡_, sym, ap, _∙_, subst}
-use mathlib.Core.Bool.{Bool, true, false, not}
+use mathlib.Core.Path.{_≡_, sym, _∙_, subst}
+use mathlib.Core.Bool.{Bool, false, not}
 use lib.Dec.{T, lit≤}
 use lib.Ieee.{Float, binary64, inf, ofBits, nanBits, mul, div, lt, eq, isNan}
 use lib.Ieee.Compare.{differs-from-itself}
-use Rattle.fixed_point.specs.Float.{nought, tiny, lift}
+use Rattle.fixed_point.specs.Float.{nought, lift}
 use Rattle.fixed_point.proofs.Rounded.{lifted-no-nan}
-use Rattle.square_root.specs.Root.{rootOf, sqrtOf}
 use Rattle.fixed_point.proofs.Range.{is-nan}
 use Rattle.square_root.proofs.RootCases.{sqrt-nan, sqrt-negative, sqrt-zero, sqrt-infinite, sqrt-tiny, sqrt-normal}
 use Rattle.square_root.proofs.sqrt.Statement.{statement}

@@ -8,19 +8,10 @@ use lib.Ieee.Nearest.{div-same}
 use Rattle.square_root.proofs.square.Statement.{statement}
 use Rattle.square_root.proofs.square.Tie as tie
 
-mul-high : tie.Need-mul-high
-mul-high c = search needs
-
-mul-high-2 : tie.Need-mul-high-2
-mul-high-2 c = search needs
-
-high-requires : tie.Need-high-requires
-high-requires c κs = search needs
-
 returns : tie.Need-returns
 returns c =
     let s = c .before .args .s in
     c .high .ensures ∙ div-same (s * 512 * (s * 2)) (2 ^ 64) (s * s) (2 ^ 54) (pow-pos 64) (pow-pos 54) (omega arith)
 
 pub square-spec : {M : Type 1} → statement M
-square-spec = tie.close (tie.spec mul-high mul-high-2 high-requires returns)
+square-spec = tie.close (tie.spec (λ c. search needs) (λ c. search needs) (λ c κs. search needs) returns)

@@ -4,21 +4,6 @@ use borrow.Author.Needs.{needs}
 use Rattle.stages.proofs.gradient_stage.Statement.{statement}
 use Rattle.stages.proofs.gradient_stage.Tie as tie
 
-ps-requires : tie.Need-ps-requires
-ps-requires c κs = search needs
-
-ptm-requires : tie.Need-ptm-requires
-ptm-requires c κs = search needs
-
-array-read-result : tie.Need-array-read-result
-array-read-result c = search needs
-
-array-read-result-2 : tie.Need-array-read-result-2
-array-read-result-2 c = search needs
-
-array-read-result-3 : tie.Need-array-read-result-3
-array-read-result-3 c = search needs
-
 returns : tie.Need-returns
 returns c = let A = (c .before .before .before .before .args) in
     gradient-above (A .t1) (A .z) (A .l)
@@ -27,12 +12,6 @@ returns c = let A = (c .before .before .before .before .args) in
     (c .before .before .ptm .ensures)
     (c .before .before .before .ps .ensures)
     (c .before .if1 .taken)
-
-array-read-result-4 : tie.Need-array-read-result-4
-array-read-result-4 c = search needs
-
-array-read-result-5 : tie.Need-array-read-result-5
-array-read-result-5 c = search needs
 
 returns-2 : tie.Need-returns-2
 returns-2 c = let A = (c .before .before .before .args) in
@@ -47,12 +26,7 @@ pub gradient-stage-spec : {M : Type 1} → statement M
 gradient-stage-spec =
     tie.close
     (tie.spec
-    ps-requires
-    ptm-requires
-    array-read-result
-    array-read-result-2
-    array-read-result-3
+    (λ c κs. search needs) (λ c κs. search needs) (λ c. search needs) (λ c. search needs) (λ c. search needs)
     returns
-    array-read-result-4
-    array-read-result-5
+    (λ c. search needs) (λ c. search needs)
     returns-2)

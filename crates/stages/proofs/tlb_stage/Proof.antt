@@ -4,21 +4,6 @@ use borrow.Author.Needs.{needs}
 use Rattle.stages.proofs.tlb_stage.Statement.{statement}
 use Rattle.stages.proofs.tlb_stage.Tie as tie
 
-pd3-requires : tie.Need-pd3-requires
-pd3-requires c κs = search needs
-
-ptm-requires : tie.Need-ptm-requires
-ptm-requires c κs = search needs
-
-array-read-result : tie.Need-array-read-result
-array-read-result c = search needs
-
-array-read-result-2 : tie.Need-array-read-result-2
-array-read-result-2 c = search needs
-
-array-read-result-3 : tie.Need-array-read-result-3
-array-read-result-3 c = search needs
-
 returns : tie.Need-returns
 returns c = let A = (c .before .before .before .args) in
     tlb-law (A .t1) (A .l)
@@ -31,9 +16,5 @@ pub tlb-stage-spec : {M : Type 1} → statement M
 tlb-stage-spec =
     tie.close
     (tie.spec
-    pd3-requires
-    ptm-requires
-    array-read-result
-    array-read-result-2
-    array-read-result-3
+    (λ c κs. search needs) (λ c κs. search needs) (λ c. search needs) (λ c. search needs) (λ c. search needs)
     returns)

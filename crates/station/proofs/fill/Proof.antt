@@ -14,8 +14,8 @@ returns c =
     let num = lev .before .before .before in
     let view = num .before .before .before .before in
     let start = view .before .before in
-    fill-law (start .args .w) (start .args .n) (start .args .numbers .now) _ (read .record-numbers .result) _ _ (num .levels-numbers .result) (num .before .levels-of .result) (num .before .before .need-of .result) (num .before .before .before .all-parts .result) (view .view-of .result)
-    (start .pre) (whole .refill .ensures) (rec .put2 .ensures) (read .record-numbers .ensures) (lev .put .ensures) (num .levels-numbers .ensures) (num .before .levels-of .ensures) (num .before .before .need-of .ensures) (num .before .before .before .all-parts .ensures) (view .view-of .ensures)
+    fill-law (start .args .w) (start .args .n) (start .args .numbers .now) _ (read .record-numbers .result) _ _ (num .expansion-numbers .result) (num .before .expansion-values-of .result) (num .before .before .need-of .result) (num .before .before .before .all-parts .result) (view .view-of .result)
+    (start .pre) (whole .refill .ensures) (rec .put2 .ensures) (read .record-numbers .ensures) (lev .put .ensures) (num .expansion-numbers .ensures) (num .before .expansion-values-of .ensures) (num .before .before .need-of .ensures) (num .before .before .before .all-parts .ensures) (view .view-of .ensures)
 
 pub fill-spec : {M : Type 1} → statement M
 fill-spec =

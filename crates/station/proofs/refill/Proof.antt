@@ -11,8 +11,8 @@ returns c =
     let site = parts .before .before .before .before in
     let flags = site .before .before in
     let start = flags .before .before in
-    refill-law (start .args .w) (start .args .n) (start .args .numbers .now) _ (flags .tselec .result) (site .site-under .result) (parts .before .levels-in .result) (parts .all-parts .result)
-    (stored .store .ensures) (parts .before .levels-in .ensures) (parts .all-parts .ensures) (site .site-under .ensures) (flags .tselec .ensures)
+    refill-law (start .args .w) (start .args .n) (start .args .numbers .now) _ (flags .tselec .result) (site .site-under .result) (parts .before .expansion-values-in .result) (parts .all-parts .result)
+    (stored .store .ensures) (parts .before .expansion-values-in .ensures) (parts .all-parts .ensures) (site .site-under .ensures) (flags .tselec .ensures)
 
 pub refill-spec : {M : Type 1} → statement M
 refill-spec =

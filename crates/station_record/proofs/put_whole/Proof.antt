@@ -10,12 +10,12 @@ use mir.Val.{ofZ, toZ}
 use lib.IntN.{pos}
 use lib.ListN.{length, getD}
 use lib.Seq.{getD-set-same, getD-set-other, ext-getD}
-use Rattle.station_record.specs.Record.{wholeOf}
+use Rattle.station_record.specs.Record.{stationWhole}
 use Rattle.station_record.proofs.put_whole.Statement.{statement}
 use Rattle.station_record.proofs.put_whole.Tie as tie
 
 abbrev Inv-loop : tie.InvT-loop
-Inv-loop w n whole₀ i₀ whole i = (i ≤ 27) × (length whole ≡ 27) × ((k : ℕ) → k < i → getD whole k (pos 0) ≡ getD (wholeOf w n) k (pos 0))
+Inv-loop w n whole₀ i₀ whole i = (i ≤ 27) × (length whole ≡ 27) × ((k : ℕ) → k < i → getD whole k (pos 0) ≡ getD (stationWhole w n) k (pos 0))
 
 abbrev μ-loop : tie.MeasureT-loop
 μ-loop w n whole₀ i₀ whole i = 27 - i
@@ -31,7 +31,7 @@ loop-again c =
     )
 
 returns : tie.Need-returns Inv-loop μ-loop
-unfolding wholeOf
+unfolding stationWhole
 returns c = ext-getD (pos 0) _ _ (search needs) (λ k h. c .before .loop .inv .2 k (omega arith))
 
 pub put-whole-spec : {M : Type 1} → statement M

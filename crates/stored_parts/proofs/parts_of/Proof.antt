@@ -15,29 +15,8 @@ Inv-loop alts p₀ k₀ p k = (k ≤ length alts) × (partsFrom p (drop k alts) 
 abbrev μ-loop : tie.MeasureT-loop
 μ-loop alts p₀ k₀ p k = length alts - k
 
-no-parts-requires : tie.Need-no-parts-requires Inv-loop μ-loop
-no-parts-requires c κs = search needs
-
 loop-holds : tie.Need-loop-holds Inv-loop μ-loop
 loop-holds c = (search needs, not-begun _ _ (c .no-parts .ensures))
-
-mul-parts-at : tie.Need-mul-parts-at Inv-loop μ-loop
-mul-parts-at c = search needs
-
-shared-slice-read-parts-at : tie.Need-shared-slice-read-parts-at Inv-loop μ-loop
-shared-slice-read-parts-at c = search needs
-
-parts-at-requires : tie.Need-parts-at-requires Inv-loop μ-loop
-parts-at-requires c κs = search needs
-
-either-parts-requires : tie.Need-either-parts-requires Inv-loop μ-loop
-either-parts-requires c κs = search needs
-
-add-k : tie.Need-add-k Inv-loop μ-loop
-add-k c = search needs
-
-loop-less : tie.Need-loop-less Inv-loop μ-loop
-loop-less c = search needs
 
 loop-again : tie.Need-loop-again Inv-loop μ-loop
 loop-again c =
@@ -57,13 +36,9 @@ parts-of-spec =
     (tie.spec
     Inv-loop
     μ-loop
-    no-parts-requires
+    (λ c κs. search needs)
     loop-holds
-    mul-parts-at
-    shared-slice-read-parts-at
-    parts-at-requires
-    either-parts-requires
-    add-k
-    loop-less
+    (λ c. search needs) (λ c. search needs) (λ c κs. search needs) (λ c κs. search needs) (λ c. search needs)
+    (λ c. search needs)
     loop-again
     returns)

@@ -1,5 +1,4 @@
 -- `same_at` meets its contract.
-use mathlib.Core.Path.{sym}
 use borrow.Author.Needs.{needs}
 use borrow.Author.Tests.{eq-eqb, ne-eqb}
 use Rattle.switch_rows.specs.Rows.{sameAt}

@@ -1,7 +1,6 @@
 -- `same_expansions` meets its contract: what is left of the row, from entry i, decides.
 use mathlib.Core.Path.{_≡_, refl, sym, _∙_}
 use Prim.Native.Nat.{_≤_, _-_}
-use native.Mathlib.Omega.{arith}
 use borrow.Author.Needs.{needs}
 use borrow.Author.Tests.{not-true, not-false}
 use Rattle.switch_rows.specs.Rows.{sameFrom, sameExpansions}

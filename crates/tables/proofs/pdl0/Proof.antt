@@ -5,12 +5,9 @@ use Rattle.tables.specs.Tables.{pdlT0}
 use Rattle.tables.proofs.pdl0.Statement.{statement}
 use Rattle.tables.proofs.pdl0.Tie as tie
 
-array-copy-out-result : tie.Need-array-copy-out-result
-array-copy-out-result c = search needs
-
 returns : tie.Need-returns
 unfolding pdlT0
 returns c = refl
 
 pub pdl0-spec : {M : Type 1} → statement M
-pdl0-spec = tie.close (tie.spec array-copy-out-result returns)
+pdl0-spec = tie.close (tie.spec (λ c. search needs) returns)

@@ -5,12 +5,9 @@ use Rattle.tables.specs.Tables.{pdlT1}
 use Rattle.tables.proofs.pdl1.Statement.{statement}
 use Rattle.tables.proofs.pdl1.Tie as tie
 
-array-copy-out-result : tie.Need-array-copy-out-result
-array-copy-out-result c = search needs
-
 returns : tie.Need-returns
 unfolding pdlT1
 returns c = refl
 
 pub pdl1-spec : {M : Type 1} → statement M
-pdl1-spec = tie.close (tie.spec array-copy-out-result returns)
+pdl1-spec = tie.close (tie.spec (λ c. search needs) returns)

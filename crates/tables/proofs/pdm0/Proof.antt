@@ -5,12 +5,9 @@ use Rattle.tables.specs.Tables.{pdmT0}
 use Rattle.tables.proofs.pdm0.Statement.{statement}
 use Rattle.tables.proofs.pdm0.Tie as tie
 
-array-copy-out-result : tie.Need-array-copy-out-result
-array-copy-out-result c = search needs
-
 returns : tie.Need-returns
 unfolding pdmT0
 returns c = refl
 
 pub pdm0-spec : {M : Type 1} → statement M
-pdm0-spec = tie.close (tie.spec array-copy-out-result returns)
+pdm0-spec = tie.close (tie.spec (λ c. search needs) returns)

@@ -5,12 +5,9 @@ use Rattle.tables.specs.Tables.{pdmT1}
 use Rattle.tables.proofs.pdm1.Statement.{statement}
 use Rattle.tables.proofs.pdm1.Tie as tie
 
-array-copy-out-result : tie.Need-array-copy-out-result
-array-copy-out-result c = search needs
-
 returns : tie.Need-returns
 unfolding pdmT1
 returns c = refl
 
 pub pdm1-spec : {M : Type 1} → statement M
-pdm1-spec = tie.close (tie.spec array-copy-out-result returns)
+pdm1-spec = tie.close (tie.spec (λ c. search needs) returns)

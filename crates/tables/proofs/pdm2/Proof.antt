@@ -5,12 +5,9 @@ use Rattle.tables.specs.Tables.{pdmT2}
 use Rattle.tables.proofs.pdm2.Statement.{statement}
 use Rattle.tables.proofs.pdm2.Tie as tie
 
-array-copy-out-result : tie.Need-array-copy-out-result
-array-copy-out-result c = search needs
-
 returns : tie.Need-returns
 unfolding pdmT2
 returns c = refl
 
 pub pdm2-spec : {M : Type 1} → statement M
-pdm2-spec = tie.close (tie.spec array-copy-out-result returns)
+pdm2-spec = tie.close (tie.spec (λ c. search needs) returns)

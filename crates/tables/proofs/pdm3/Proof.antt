@@ -5,12 +5,9 @@ use Rattle.tables.specs.Tables.{pdmT3}
 use Rattle.tables.proofs.pdm3.Statement.{statement}
 use Rattle.tables.proofs.pdm3.Tie as tie
 
-array-copy-out-result : tie.Need-array-copy-out-result
-array-copy-out-result c = search needs
-
 returns : tie.Need-returns
 unfolding pdmT3
 returns c = refl
 
 pub pdm3-spec : {M : Type 1} → statement M
-pdm3-spec = tie.close (tie.spec array-copy-out-result returns)
+pdm3-spec = tie.close (tie.spec (λ c. search needs) returns)

@@ -5,12 +5,9 @@ use Rattle.tables.specs.Tables.{pdmT4}
 use Rattle.tables.proofs.pdm4.Statement.{statement}
 use Rattle.tables.proofs.pdm4.Tie as tie
 
-array-copy-out-result : tie.Need-array-copy-out-result
-array-copy-out-result c = search needs
-
 returns : tie.Need-returns
 unfolding pdmT4
 returns c = refl
 
 pub pdm4-spec : {M : Type 1} → statement M
-pdm4-spec = tie.close (tie.spec array-copy-out-result returns)
+pdm4-spec = tie.close (tie.spec (λ c. search needs) returns)

@@ -5,12 +5,9 @@ use Rattle.tables.specs.Tables.{pdmT5}
 use Rattle.tables.proofs.pdm5.Statement.{statement}
 use Rattle.tables.proofs.pdm5.Tie as tie
 
-array-copy-out-result : tie.Need-array-copy-out-result
-array-copy-out-result c = search needs
-
 returns : tie.Need-returns
 unfolding pdmT5
 returns c = refl
 
 pub pdm5-spec : {M : Type 1} → statement M
-pdm5-spec = tie.close (tie.spec array-copy-out-result returns)
+pdm5-spec = tie.close (tie.spec (λ c. search needs) returns)

@@ -5,12 +5,9 @@ use Rattle.tables.specs.Tables.{pdmT6}
 use Rattle.tables.proofs.pdm6.Statement.{statement}
 use Rattle.tables.proofs.pdm6.Tie as tie
 
-array-copy-out-result : tie.Need-array-copy-out-result
-array-copy-out-result c = search needs
-
 returns : tie.Need-returns
 unfolding pdmT6
 returns c = refl
 
 pub pdm6-spec : {M : Type 1} → statement M
-pdm6-spec = tie.close (tie.spec array-copy-out-result returns)
+pdm6-spec = tie.close (tie.spec (λ c. search needs) returns)

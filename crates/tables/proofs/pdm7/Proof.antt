@@ -5,12 +5,9 @@ use Rattle.tables.specs.Tables.{pdmT7}
 use Rattle.tables.proofs.pdm7.Statement.{statement}
 use Rattle.tables.proofs.pdm7.Tie as tie
 
-array-copy-out-result : tie.Need-array-copy-out-result
-array-copy-out-result c = search needs
-
 returns : tie.Need-returns
 unfolding pdmT7
 returns c = refl
 
 pub pdm7-spec : {M : Type 1} → statement M
-pdm7-spec = tie.close (tie.spec array-copy-out-result returns)
+pdm7-spec = tie.close (tie.spec (λ c. search needs) returns)

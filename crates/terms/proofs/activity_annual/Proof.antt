@@ -5,24 +5,6 @@ use borrow.Author.Needs.{needs}
 use Rattle.terms.proofs.activity_annual.Statement.{statement}
 use Rattle.terms.proofs.activity_annual.Tie as tie
 
-index-1-result : tie.Need-index-1-result
-index-1-result c = search needs
-
-index-2-result : tie.Need-index-2-result
-index-2-result c = search needs
-
-index-1-result-2 : tie.Need-index-1-result-2
-index-1-result-2 c = search needs
-
-index-2-result-2 : tie.Need-index-2-result-2
-index-2-result-2 c = search needs
-
-index-1-result-3 : tie.Need-index-1-result-3
-index-1-result-3 c = search needs
-
-index-2-result-3 : tie.Need-index-2-result-3
-index-2-result-3 c = search needs
-
 returns : tie.Need-returns
 unfolding activityAnnualOf
 returns c = refl
@@ -31,10 +13,6 @@ pub activity-annual-spec : {M : Type 1} → statement M
 activity-annual-spec =
     tie.close
     (tie.spec
-    index-1-result
-    index-2-result
-    index-1-result-2
-    index-2-result-2
-    index-1-result-3
-    index-2-result-3
+    (λ c. search needs) (λ c. search needs) (λ c. search needs) (λ c. search needs) (λ c. search needs)
+    (λ c. search needs)
     returns)

@@ -5,78 +5,6 @@ use borrow.Author.Needs.{needs}
 use Rattle.terms.proofs.diurnal.Statement.{statement}
 use Rattle.terms.proofs.diurnal.Tie as tie
 
-shared-slice-read-t71 : tie.Need-shared-slice-read-t71
-shared-slice-read-t71 c = search needs
-
-index-1-t71 : tie.Need-index-1-t71
-index-1-t71 c = search needs
-
-index-2-t71 : tie.Need-index-2-t71
-index-2-t71 c = search needs
-
-shared-slice-read-t72 : tie.Need-shared-slice-read-t72
-shared-slice-read-t72 c = search needs
-
-index-1-t72 : tie.Need-index-1-t72
-index-1-t72 c = search needs
-
-index-2-t72 : tie.Need-index-2-t72
-index-2-t72 c = search needs
-
-shared-slice-read-result : tie.Need-shared-slice-read-result
-shared-slice-read-result c = search needs
-
-index-1-result : tie.Need-index-1-result
-index-1-result c = search needs
-
-index-2-result : tie.Need-index-2-result
-index-2-result c = search needs
-
-shared-slice-read-result-2 : tie.Need-shared-slice-read-result-2
-shared-slice-read-result-2 c = search needs
-
-index-1-result-2 : tie.Need-index-1-result-2
-index-1-result-2 c = search needs
-
-index-2-result-2 : tie.Need-index-2-result-2
-index-2-result-2 c = search needs
-
-shared-slice-read-result-3 : tie.Need-shared-slice-read-result-3
-shared-slice-read-result-3 c = search needs
-
-index-1-result-3 : tie.Need-index-1-result-3
-index-1-result-3 c = search needs
-
-index-2-result-3 : tie.Need-index-2-result-3
-index-2-result-3 c = search needs
-
-shared-slice-read-result-4 : tie.Need-shared-slice-read-result-4
-shared-slice-read-result-4 c = search needs
-
-index-1-result-4 : tie.Need-index-1-result-4
-index-1-result-4 c = search needs
-
-index-2-result-4 : tie.Need-index-2-result-4
-index-2-result-4 c = search needs
-
-shared-slice-read-result-5 : tie.Need-shared-slice-read-result-5
-shared-slice-read-result-5 c = search needs
-
-index-1-result-5 : tie.Need-index-1-result-5
-index-1-result-5 c = search needs
-
-index-2-result-5 : tie.Need-index-2-result-5
-index-2-result-5 c = search needs
-
-shared-slice-read-result-6 : tie.Need-shared-slice-read-result-6
-shared-slice-read-result-6 c = search needs
-
-index-1-result-6 : tie.Need-index-1-result-6
-index-1-result-6 c = search needs
-
-index-2-result-6 : tie.Need-index-2-result-6
-index-2-result-6 c = search needs
-
 returns : tie.Need-returns
 unfolding diurnalOf
 returns c = refl
@@ -85,28 +13,9 @@ pub diurnal-spec : {M : Type 1} → statement M
 diurnal-spec =
     tie.close
     (tie.spec
-    shared-slice-read-t71
-    index-1-t71
-    index-2-t71
-    shared-slice-read-t72
-    index-1-t72
-    index-2-t72
-    shared-slice-read-result
-    index-1-result
-    index-2-result
-    shared-slice-read-result-2
-    index-1-result-2
-    index-2-result-2
-    shared-slice-read-result-3
-    index-1-result-3
-    index-2-result-3
-    shared-slice-read-result-4
-    index-1-result-4
-    index-2-result-4
-    shared-slice-read-result-5
-    index-1-result-5
-    index-2-result-5
-    shared-slice-read-result-6
-    index-1-result-6
-    index-2-result-6
+    (λ c. search needs) (λ c. search needs) (λ c. search needs) (λ c. search needs) (λ c. search needs)
+    (λ c. search needs) (λ c. search needs) (λ c. search needs) (λ c. search needs) (λ c. search needs)
+    (λ c. search needs) (λ c. search needs) (λ c. search needs) (λ c. search needs) (λ c. search needs)
+    (λ c. search needs) (λ c. search needs) (λ c. search needs) (λ c. search needs) (λ c. search needs)
+    (λ c. search needs) (λ c. search needs) (λ c. search needs) (λ c. search needs)
     returns)

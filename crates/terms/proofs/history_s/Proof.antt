@@ -5,18 +5,6 @@ use borrow.Author.Needs.{needs}
 use Rattle.terms.proofs.history_s.Statement.{statement}
 use Rattle.terms.proofs.history_s.Tie as tie
 
-shared-slice-read-result : tie.Need-shared-slice-read-result
-shared-slice-read-result c = search needs
-
-shared-slice-read-result-2 : tie.Need-shared-slice-read-result-2
-shared-slice-read-result-2 c = search needs
-
-index-1-result : tie.Need-index-1-result
-index-1-result c = search needs
-
-index-2-result : tie.Need-index-2-result
-index-2-result c = search needs
-
 returns : tie.Need-returns
 unfolding historySOf
 returns c = refl
@@ -25,8 +13,5 @@ pub history-s-spec : {M : Type 1} → statement M
 history-s-spec =
     tie.close
     (tie.spec
-    shared-slice-read-result
-    shared-slice-read-result-2
-    index-1-result
-    index-2-result
+    (λ c. search needs) (λ c. search needs) (λ c. search needs) (λ c. search needs)
     returns)

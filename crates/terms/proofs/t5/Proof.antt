@@ -5,18 +5,9 @@ use borrow.Author.Needs.{needs}
 use Rattle.terms.proofs.t5.Statement.{statement}
 use Rattle.terms.proofs.t5.Tie as tie
 
-shared-slice-read-result : tie.Need-shared-slice-read-result
-shared-slice-read-result c = search needs
-
-index-1-result : tie.Need-index-1-result
-index-1-result c = search needs
-
-index-2-result : tie.Need-index-2-result
-index-2-result c = search needs
-
 returns : tie.Need-returns
 unfolding t5Of
 returns c = refl
 
 pub t5-spec : {M : Type 1} → statement M
-t5-spec = tie.close (tie.spec shared-slice-read-result index-1-result index-2-result returns)
+t5-spec = tie.close (tie.spec (λ c. search needs) (λ c. search needs) (λ c. search needs) returns)

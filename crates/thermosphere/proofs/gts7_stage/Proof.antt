@@ -2,7 +2,6 @@
 use mathlib.Core.Path.{ap, _∙_}
 use mathlib.Core.List.{List}
 use Rattle.numbers.specs.Arithmetic.{_⊗_, _‼_}
-use Rattle.mixing.specs.Limits.{someMixed}
 use Rattle.mixing.proofs.Some.{n2-some}
 use Rattle.species.specs.Places.{placeAt}
 use Rattle.species.proofs.Laws.{logged-at}
@@ -32,14 +31,14 @@ returns : tie.Need-returns
 returns c = let A = (c .before .before .before .before .before .before .before .before .before .before .before .before .before .before .before .args) in
     gts7-law (A .t1) (A .x) (A .z) (A .l)
     (c .gather .result)
-    (c .before .hot-stage .result)
+    (c .before .anomalous-stage .result)
     (c .before .before .anomalous .result)
     (c .before .before .before .species-stage .result)
     (c .before .before .before .before .n2-stage .result)
     (c .before .before .before .before .before .before .before .mixed-at .result)
     (c .before .before .before .before .before .before .before .before .before .before .before .before .before .before .shape-stage .result)
     (c .gather .ensures)
-    (c .before .hot-stage .ensures)
+    (c .before .anomalous-stage .ensures)
     (c .before .before .anomalous .ensures)
     (c .before .before .before .species-stage .ensures)
     (c .before .before .before .before .n2-stage .ensures)

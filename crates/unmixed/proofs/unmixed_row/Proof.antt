@@ -8,8 +8,8 @@ returns : tie.Need-returns
 returns c =
     let A = c .before .before .before .before .before .before .before .before .before .before .args in
     row-law (A .t1) (A .x) (A .z) (A .l)
-    (c .row-from .result) (c .before .temperature-alone .result) (c .before .before .sqrt .result) (c .before .before .before .hot-stage .result) (c .before .before .before .before .anomalous .result) (c .before .before .before .before .before .six-alone .result) (c .before .before .before .before .before .before .before .n2-alone .result) (c .before .before .before .before .before .before .before .before .before .shape-stage .result) (A .m)
-    (c .row-from .ensures) (c .before .temperature-alone .ensures) (c .before .before .sqrt .ensures) (c .before .before .before .hot-stage .ensures) (c .before .before .before .before .anomalous .ensures) (c .before .before .before .before .before .six-alone .ensures) (c .before .before .before .before .before .before .before .n2-alone .ensures) (c .before .before .before .before .before .before .before .before .before .shape-stage .ensures)
+    (c .row-from .result) (c .before .temperature-alone .result) (c .before .before .sqrt .result) (c .before .before .before .anomalous-stage .result) (c .before .before .before .before .anomalous .result) (c .before .before .before .before .before .six-alone .result) (c .before .before .before .before .before .before .before .n2-alone .result) (c .before .before .before .before .before .before .before .before .before .shape-stage .result) (A .m)
+    (c .row-from .ensures) (c .before .temperature-alone .ensures) (c .before .before .sqrt .ensures) (c .before .before .before .anomalous-stage .ensures) (c .before .before .before .before .anomalous .ensures) (c .before .before .before .before .before .six-alone .ensures) (c .before .before .before .before .before .before .before .n2-alone .ensures) (c .before .before .before .before .before .before .before .before .before .shape-stage .ensures)
     (c .before .before .before .before .before .before .before .before .before .before .pre)
 
 pub unmixed-row-spec : {M : Type 1} → statement M

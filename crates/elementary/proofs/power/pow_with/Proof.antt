@@ -1,11 +1,11 @@
 -- `elementary::power::pow_with` meets its contract. Assumes nothing.
 use mathlib.Core.Path.{_≡_, sym, ap, _∙_, subst}
-use mathlib.Core.Bool.{true, false}
+use mathlib.Core.Bool.{false}
 use Prim.Native.Nat.{ℕ, _-_, _≤_, _<_}
 use borrow.Author.Needs.{needs}
-use lib.Ieee.{Float, inf, ofBits, nanBits, eq}
+use lib.Ieee.{ofBits, nanBits, eq}
 use Rattle.fixed_point.specs.Float.{nought}
-use Rattle.elementary.specs.Pow.{half, wholeOf, productOf}
+use Rattle.elementary.specs.Pow.{half, wholeExponent, powerProduct}
 use Rattle.elementary.proofs.PowCases.{pow-zero, pow-whole, pow-half, pow-of-zero, pow-of-infinity, pow-rest}
 use Rattle.elementary.proofs.power.pow_with.Statement.{statement}
 use Rattle.elementary.proofs.power.pow_with.Tie as tie
@@ -14,7 +14,7 @@ not-zero : (c : tie.Else1) → eq (c .before .args .e) nought ≡ false
 unfolding ofBits
 not-zero c = c .if1 .left
 
-not-whole : (c : tie.Else2) → wholeOf (c .before .before .before .args .e) < 1
+not-whole : (c : tie.Else2) → wholeExponent (c .before .before .before .args .e) < 1
 not-whole c = subst (λ (n : ℕ). n < 1) (c .before .whole .ensures) (c .if2 .left)
 
 not-half : (c : tie.Else3) → eq (c .before .before .before .before .args .e) half ≡ false
@@ -29,22 +29,13 @@ returns : tie.Need-returns
 unfolding ofBits
 returns c = sym (pow-zero (c .before .args .b) (c .before .args .e) (c .if1 .taken))
 
-whole-requires : tie.Need-whole-requires
-whole-requires c κs = search needs
-
-product-requires : tie.Need-product-requires
-product-requires c κs = search needs
-
 returns-2 : tie.Need-returns-2
 returns-2 c =
     let t = c .before in
     let w = t .before in
     let s = w .before .before in
-    c .product .ensures ∙ ap (λ (n : ℕ). productOf (s .args .b) (n - 1)) (w .whole .ensures)
+    c .product .ensures ∙ ap (λ (n : ℕ). powerProduct (s .args .b) (n - 1)) (w .whole .ensures)
     ∙ sym (pow-whole (s .args .b) (s .args .e) (not-zero (w .before)) (subst (λ (n : ℕ). 1 ≤ n) (w .whole .ensures) (t .if2 .taken)))
-
-sqrt-requires : tie.Need-sqrt-requires
-sqrt-requires c κs = search needs
 
 returns-3 : tie.Need-returns-3
 unfolding ofBits
@@ -57,9 +48,6 @@ returns-3 c =
 float-from-bits-sides : tie.Need-float-from-bits-sides
 unfolding nanBits
 float-from-bits-sides c = tt
-
-sides-requires : tie.Need-sides-requires
-sides-requires c κs = search needs
 
 returns-4 : tie.Need-returns-4
 unfolding ofBits
@@ -78,9 +66,6 @@ float-from-bits-sides-2 : tie.Need-float-from-bits-sides-2
 unfolding nanBits
 float-from-bits-sides-2 c = tt
 
-sides-requires-2 : tie.Need-sides-requires-2
-sides-requires-2 c κs = search needs
-
 returns-5 : tie.Need-returns-5
 unfolding ofBits
 returns-5 c =
@@ -90,9 +75,6 @@ returns-5 c =
     let f = h .before in
     let s = f .before .before .before in
     c .sides2 .ensures ∙ sym (pow-of-infinity (s .args .b) (s .args .e) (not-zero (f .before .before)) (not-whole f) (not-half h) (not-of-zero z) (t .if5 .taken))
-
-rest-with-requires : tie.Need-rest-with-requires
-rest-with-requires c κs = search needs
 
 returns-6 : tie.Need-returns-6
 unfolding ofBits
@@ -109,17 +91,16 @@ pow-with-spec =
     tie.close
     (tie.spec
     returns
-    whole-requires
-    product-requires
+    (λ c κs. search needs) (λ c κs. search needs)
     returns-2
-    sqrt-requires
+    (λ c κs. search needs)
     returns-3
     float-from-bits-sides
-    sides-requires
+    (λ c κs. search needs)
     returns-4
     float-from-bits-if5
     float-from-bits-sides-2
-    sides-requires-2
+    (λ c κs. search needs)
     returns-5
-    rest-with-requires
+    (λ c κs. search needs)
     returns-6)

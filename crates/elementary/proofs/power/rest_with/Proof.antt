@@ -1,9 +1,9 @@
 -- `elementary::power::rest_with` meets its contract. Assumes nothing.
 use mathlib.Core.Path.{_≡_, sym, ap, _∙_, subst}
-use mathlib.Core.Bool.{true, false}
+use mathlib.Core.Bool.{false}
 use borrow.Author.Needs.{needs}
 use lib.Dec.{T}
-use lib.Ieee.{Float, nan, binary64, ofBits, div, mul, lt, isNan}
+use lib.Ieee.{Float, binary64, ofBits, div, mul, lt, isNan}
 use lib.Ieee.Compare.{differs-from-itself}
 use Rattle.fixed_point.specs.Float.{nought}
 use Rattle.natural_exponential.specs.Exp.{expOf}
@@ -35,9 +35,6 @@ returns-3 c =
     let d = differs-from-itself (s .args .e) (subst T (sym (c .if3 .taken)) tt) in
     d ∙ sym (rest-nan-exponent (s .args .b) (s .args .e) (not-negative (c .before .before)) (no-nan (c .before)) (nan-is (s .args .e) d))
 
-exp-requires : tie.Need-exp-requires
-exp-requires c κs = search needs
-
 returns-4 : tie.Need-returns-4
 returns-4 c =
     let t = c .before in
@@ -46,4 +43,4 @@ returns-4 c =
     ∙ sym (rest-is (s .args .b) (s .args .e) (not-negative (t .before .before)) (no-nan (t .before)) (is-nan (s .args .e) (t .if3 .left)))
 
 pub rest-with-spec : {M : Type 1} → statement M
-rest-with-spec = tie.close (tie.spec returns returns-2 returns-3 exp-requires returns-4)
+rest-with-spec = tie.close (tie.spec returns returns-2 returns-3 (λ c κs. search needs) returns-4)

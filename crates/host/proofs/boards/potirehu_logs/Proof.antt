@@ -5,19 +5,10 @@ use Rattle.host.specs.Boards.{logCodeOf}
 use Rattle.host.proofs.boards.potirehu_logs.Statement.{statement}
 use Rattle.host.proofs.boards.potirehu_logs.Tie as tie
 
-held-in-requires : tie.Need-held-in-requires
-held-in-requires c κs = search needs
-
-log-code-requires : tie.Need-log-code-requires
-log-code-requires c κs = search needs
-
-same-length : tie.Need-same-length
-same-length c = search needs
-
 returns : tie.Need-returns
 returns c =
     let held = c .before .before .before .held-in in
     (c .log-code .ensures ∙ ap logCodeOf (held .ensures .0), held .ensures .1)
 
 pub potirehu-logs-spec : {M : Type 1} → statement M
-potirehu-logs-spec = tie.close (tie.spec held-in-requires log-code-requires same-length returns)
+potirehu-logs-spec = tie.close (tie.spec (λ c κs. search needs) (λ c κs. search needs) (λ c. search needs) returns)

@@ -5,24 +5,9 @@ use borrow.Author.Needs.{needs}
 use Rattle.places.proofs.place.place_alone.Statement.{statement}
 use Rattle.places.proofs.place.place_alone.Tie as tie
 
-array-read-za : tie.Need-array-read-za
-array-read-za c = search needs
-
-pow-requires : tie.Need-pow-requires
-pow-requires c κs = search needs
-
-over-requires : tie.Need-over-requires
-over-requires c κs = search needs
-
 returns : tie.Need-returns
 returns c = let A = (c .before .before .before .before .before .before .before .args) in
     alone-law (A .h) (A .z) (A .zlb) (A .t4) _ _ (c .over .ensures) (c .before .before .before .before .pow .ensures) (c .before .before .before .before .before .before .if1 .taken)
-
-point-of-requires : tie.Need-point-of-requires
-point-of-requires c κs = search needs
-
-place-on-requires : tie.Need-place-on-requires
-place-on-requires c κs = search needs
 
 returns-2 : tie.Need-returns-2
 unfolding placeOf
@@ -32,10 +17,7 @@ pub place-alone-spec : {M : Type 1} → statement M
 place-alone-spec =
     tie.close
     (tie.spec
-    array-read-za
-    pow-requires
-    over-requires
+    (λ c. search needs) (λ c κs. search needs) (λ c κs. search needs)
     returns
-    point-of-requires
-    place-on-requires
+    (λ c κs. search needs) (λ c κs. search needs)
     returns-2)

@@ -4,21 +4,6 @@ use borrow.Author.Needs.{needs}
 use Rattle.places.proofs.place.place_on.Statement.{statement}
 use Rattle.places.proofs.place.place_on.Tie as tie
 
-pow-requires : tie.Need-pow-requires
-pow-requires c κs = search needs
-
-log-requires : tie.Need-log-requires
-log-requires c κs = search needs
-
-pick-requires : tie.Need-pick-requires
-pick-requires c κs = search needs
-
-log-requires-2 : tie.Need-log-requires-2
-log-requires-2 c κs = search needs
-
-pick-requires-2 : tie.Need-pick-requires-2
-pick-requires-2 c κs = search needs
-
 returns : tie.Need-returns
 returns c = let A = (c .before .before .before .before .before .before .before .before .before .before .before .before .args) in
     on-law (A .h) (A .zlb) (A .p) _ _ _ _ _ (c .before .before .before .pick2 .ensures) (c .before .before .before .before .log2 .ensures) (c .before .before .before .before .before .pick .ensures) (c .before .before .before .before .before .before .before .log .ensures) (c .before .before .before .before .before .before .before .before .before .before .pow .ensures)
@@ -26,4 +11,4 @@ returns c = let A = (c .before .before .before .before .before .before .before .
 pub place-on-spec : {M : Type 1} → statement M
 place-on-spec =
     tie.close
-    (tie.spec pow-requires log-requires pick-requires log-requires-2 pick-requires-2 returns)
+    (tie.spec (λ c κs. search needs) (λ c κs. search needs) (λ c κs. search needs) (λ c κs. search needs) (λ c κs. search needs) returns)

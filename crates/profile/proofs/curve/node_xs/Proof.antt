@@ -20,26 +20,8 @@ loop-holds : tie.Need-loop-holds Inv-loop μ-loop
 unfolding nodeXsOf
 loop-holds c = (search needs, refl, simp unary-clauses)
 
-mul-zeta : tie.Need-mul-zeta Inv-loop μ-loop
-mul-zeta c = search needs
-
-shared-slice-read-zeta : tie.Need-shared-slice-read-zeta Inv-loop μ-loop
-shared-slice-read-zeta c = search needs
-
 zeta-requires : tie.Need-zeta-requires Inv-loop μ-loop
 zeta-requires c κs = tt
-
-mul-xs : tie.Need-mul-xs Inv-loop μ-loop
-mul-xs c = search needs
-
-array-write-xs : tie.Need-array-write-xs Inv-loop μ-loop
-array-write-xs c = search needs
-
-add-k : tie.Need-add-k Inv-loop μ-loop
-add-k c = search needs
-
-loop-less : tie.Need-loop-less Inv-loop μ-loop
-loop-less c = search needs
 
 loop-again : tie.Need-loop-again Inv-loop μ-loop
 loop-again c =
@@ -56,12 +38,8 @@ node-xs-spec =
     Inv-loop
     μ-loop
     loop-holds
-    mul-zeta
-    shared-slice-read-zeta
+    (λ c. search needs) (λ c. search needs)
     zeta-requires
-    mul-xs
-    array-write-xs
-    add-k
-    loop-less
+    (λ c. search needs) (λ c. search needs) (λ c. search needs) (λ c. search needs)
     loop-again
     returns)

@@ -20,24 +20,6 @@ loop-holds : tie.Need-loop-holds Inv-loop μ-loop
 unfolding nodeYsOf
 loop-holds c = (search needs, refl, simp unary-clauses)
 
-mul-ys : tie.Need-mul-ys Inv-loop μ-loop
-mul-ys c = search needs
-
-shared-slice-read-ys : tie.Need-shared-slice-read-ys Inv-loop μ-loop
-shared-slice-read-ys c = search needs
-
-mul-ys-2 : tie.Need-mul-ys-2 Inv-loop μ-loop
-mul-ys-2 c = search needs
-
-array-write-ys : tie.Need-array-write-ys Inv-loop μ-loop
-array-write-ys c = search needs
-
-add-k : tie.Need-add-k Inv-loop μ-loop
-add-k c = search needs
-
-loop-less : tie.Need-loop-less Inv-loop μ-loop
-loop-less c = search needs
-
 loop-again : tie.Need-loop-again Inv-loop μ-loop
 loop-again c =
     let at = c .before .before .loop in
@@ -53,11 +35,7 @@ node-ys-spec =
     Inv-loop
     μ-loop
     loop-holds
-    mul-ys
-    shared-slice-read-ys
-    mul-ys-2
-    array-write-ys
-    add-k
-    loop-less
+    (λ c. search needs) (λ c. search needs) (λ c. search needs) (λ c. search needs) (λ c. search needs)
+    (λ c. search needs)
     loop-again
     returns)

@@ -1,11 +1,11 @@
 -- `unset` meets its contract.
 use mathlib.Core.Path.{refl}
-use Rattle.profile.specs.Curve.{unsetOf}
+use Rattle.profile.specs.Curve.{unsetCurve}
 use Rattle.profile.proofs.curve.unset.Statement.{statement}
 use Rattle.profile.proofs.curve.unset.Tie as tie
 
 returns : tie.Need-returns
-unfolding unsetOf
+unfolding unsetCurve
 returns c = refl
 
 pub unset-spec : {M : Type 1} → statement M

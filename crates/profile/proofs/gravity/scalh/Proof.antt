@@ -4,12 +4,9 @@ use borrow.Author.Needs.{needs}
 use Rattle.profile.proofs.gravity.scalh.Statement.{statement}
 use Rattle.profile.proofs.gravity.scalh.Tie as tie
 
-pow-requires : tie.Need-pow-requires
-pow-requires c κs = search needs
-
 returns : tie.Need-returns
 unfolding scalhOf
 returns c = simp (← c .pow .ensures)
 
 pub scalh-spec : {M : Type 1} → statement M
-scalh-spec = tie.close (tie.spec pow-requires returns)
+scalh-spec = tie.close (tie.spec (λ c κs. search needs) returns)

@@ -4,12 +4,6 @@ use borrow.Author.Needs.{needs}
 use Rattle.profile.proofs.point.on_curve.Statement.{statement}
 use Rattle.profile.proofs.point.on_curve.Tie as tie
 
-pow-requires : tie.Need-pow-requires
-pow-requires c κs = search needs
-
-integral-requires : tie.Need-integral-requires
-integral-requires c κs = search needs
-
 returns : tie.Need-returns
 unfolding onCurve
 returns c = simp (← (c .before .integral .ensures), ← (c .before .before .before .before .before .pow .ensures))
@@ -18,6 +12,5 @@ pub on-curve-spec : {M : Type 1} → statement M
 on-curve-spec =
     tie.close
     (tie.spec
-    pow-requires
-    integral-requires
+    (λ c κs. search needs) (λ c κs. search needs)
     returns)

@@ -1,14 +1,14 @@
 -- `answer` meets its contract.
-use Rattle.profile.specs.Profile.{answerOf}
+use Rattle.profile.specs.Profile.{profileAnswer}
 use Rattle.profile.proofs.unchecked.answer.Statement.{statement}
 use Rattle.profile.proofs.unchecked.answer.Tie as tie
 
 returns : tie.Need-returns
-unfolding answerOf
+unfolding profileAnswer
 returns c = simp (c .if1 .taken)
 
 returns-2 : tie.Need-returns-2
-unfolding answerOf
+unfolding profileAnswer
 returns-2 c = simp (c .if1 .left)
 
 pub answer-spec : {M : Type 1} → statement M

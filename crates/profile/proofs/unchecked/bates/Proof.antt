@@ -4,12 +4,9 @@ use borrow.Author.Needs.{needs}
 use Rattle.profile.proofs.unchecked.bates.Statement.{statement}
 use Rattle.profile.proofs.unchecked.bates.Tie as tie
 
-exp-requires : tie.Need-exp-requires
-exp-requires c κs = search needs
-
 returns : tie.Need-returns
 unfolding batesOf
 returns c = simp (← c .exp .ensures)
 
 pub bates-spec : {M : Type 1} → statement M
-bates-spec = tie.close (tie.spec exp-requires returns)
+bates-spec = tie.close (tie.spec (λ c κs. search needs) returns)

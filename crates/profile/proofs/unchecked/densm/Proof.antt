@@ -4,42 +4,18 @@ use Rattle.profile.specs.Profile.{densmOf}
 use Rattle.profile.proofs.unchecked.densm.Statement.{statement}
 use Rattle.profile.proofs.unchecked.densm.Tie as tie
 
-shared-slice-read-if1 : tie.Need-shared-slice-read-if1
-shared-slice-read-if1 c = search needs
-
-answer-requires : tie.Need-answer-requires
-answer-requires c κs = search needs
-
 returns : tie.Need-returns
 unfolding densmOf
 returns c = simp (← c .answer .ensures) (simp (c .before .if1 .taken))
-
-floored-requires : tie.Need-floored-requires
-floored-requires c κs = search needs
-
-lowered-requires : tie.Need-lowered-requires
-lowered-requires c κs = search needs
-
-shared-slice-read-if2 : tie.Need-shared-slice-read-if2
-shared-slice-read-if2 c = search needs
-
-answer-requires-2 : tie.Need-answer-requires-2
-answer-requires-2 c κs = search needs
 
 returns-2 : tie.Need-returns-2
 unfolding densmOf
 returns-2 c = simp (← c .answer2 .ensures, ← c .before .before .before .lowered .ensures, ← c .before .before .before .before .floored .ensures) (simp (c .before .if2 .taken, c .before .before .before .before .before .if1 .left))
 
-layer-requires : tie.Need-layer-requires
-layer-requires c κs = search needs
-
 lowered-requires-2 : tie.Need-lowered-requires-2
 lowered-requires-2 c κs =
     let p = c .before .before .before .before .before .before .before .before .before .before .before .before .before .pre .0 in
     (p .0, p .1)
-
-answer-requires-3 : tie.Need-answer-requires-3
-answer-requires-3 c κs = search needs
 
 returns-3 : tie.Need-returns-3
 unfolding densmOf
@@ -49,15 +25,11 @@ pub densm-spec : {M : Type 1} → statement M
 densm-spec =
     tie.close
     (tie.spec
-    shared-slice-read-if1
-    answer-requires
+    (λ c. search needs) (λ c κs. search needs)
     returns
-    floored-requires
-    lowered-requires
-    shared-slice-read-if2
-    answer-requires-2
+    (λ c κs. search needs) (λ c κs. search needs) (λ c. search needs) (λ c κs. search needs)
     returns-2
-    layer-requires
+    (λ c κs. search needs)
     lowered-requires-2
-    answer-requires-3
+    (λ c κs. search needs)
     returns-3)

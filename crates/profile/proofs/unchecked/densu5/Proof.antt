@@ -4,12 +4,9 @@ use borrow.Author.Needs.{needs}
 use Rattle.profile.proofs.unchecked.densu5.Statement.{statement}
 use Rattle.profile.proofs.unchecked.densu5.Tie as tie
 
-densu-by-value-requires : tie.Need-densu-by-value-requires
-densu-by-value-requires c κs = search needs
-
 returns : tie.Need-returns
 unfolding densu5Of
 returns c = c .densu-by-value .ensures
 
 pub densu5-spec : {M : Type 1} → statement M
-densu5-spec = tie.close (tie.spec densu-by-value-requires returns)
+densu5-spec = tie.close (tie.spec (λ c κs. search needs) returns)

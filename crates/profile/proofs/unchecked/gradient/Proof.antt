@@ -4,12 +4,9 @@ use borrow.Author.Needs.{needs}
 use Rattle.profile.proofs.unchecked.gradient.Statement.{statement}
 use Rattle.profile.proofs.unchecked.gradient.Tie as tie
 
-pow-requires : tie.Need-pow-requires
-pow-requires c κs = search needs
-
 returns : tie.Need-returns
 unfolding gradientOf
 returns c = simp (← c .pow .ensures)
 
 pub gradient-spec : {M : Type 1} → statement M
-gradient-spec = tie.close (tie.spec pow-requires returns)
+gradient-spec = tie.close (tie.spec (λ c κs. search needs) returns)

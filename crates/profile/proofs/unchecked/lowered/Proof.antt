@@ -8,19 +8,10 @@ returns : tie.Need-returns
 unfolding loweredOf
 returns c = simp (c .if1 .taken)
 
-exponent-requires : tie.Need-exponent-requires
-exponent-requires c κs = search needs
-
-capped-requires : tie.Need-capped-requires
-capped-requires c κs = search needs
-
-exp-requires : tie.Need-exp-requires
-exp-requires c κs = search needs
-
 returns-2 : tie.Need-returns-2
 unfolding loweredOf
 returns-2 c = simp (← c .before .exp .ensures, ← c .before .before .capped .ensures, ← c .before .before .before .exponent .ensures) (simp (c .before .before .before .before .if1 .left))
 
 pub lowered-spec : {M : Type 1} → statement M
 lowered-spec =
-    tie.close (tie.spec returns exponent-requires capped-requires exp-requires returns-2)
+    tie.close (tie.spec returns (λ c κs. search needs) (λ c κs. search needs) (λ c κs. search needs) returns-2)

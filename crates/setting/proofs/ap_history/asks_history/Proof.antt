@@ -7,9 +7,6 @@ use borrow.Author.Needs.{needs}
 use Rattle.setting.proofs.ap_history.asks_history.Statement.{statement}
 use Rattle.setting.proofs.ap_history.asks_history.Tie as tie
 
-array-copy-out-x : tie.Need-array-copy-out-x
-array-copy-out-x c = search needs
-
 returns : tie.Need-returns
 unfolding asksHistoryOf
 returns c = sym (tested isMinusOne (given (c .before .before .args .t1) 9) 4294967295 (search needs) (c .if1 .taken))
@@ -19,4 +16,4 @@ unfolding asksHistoryOf
 returns-2 c = sym (not-minus-one (given (c .before .before .args .t1) 9) (c .if1 .left))
 
 pub asks-history-spec : {M : Type 1} → statement M
-asks-history-spec = tie.close (tie.spec array-copy-out-x returns returns-2)
+asks-history-spec = tie.close (tie.spec (λ c. search needs) returns returns-2)

@@ -4,12 +4,9 @@ use borrow.Author.Needs.{needs}
 use Rattle.setting.proofs.phases.annual_cos.Statement.{statement}
 use Rattle.setting.proofs.phases.annual_cos.Tie as tie
 
-cos-requires : tie.Need-cos-requires
-cos-requires c κs = search needs
-
 returns : tie.Need-returns
 unfolding annualCosOf
 returns c = simp (← c .cos .ensures)
 
 pub annual-cos-spec : {M : Type 1} → statement M
-annual-cos-spec = tie.close (tie.spec cos-requires returns)
+annual-cos-spec = tie.close (tie.spec (λ c κs. search needs) returns)

@@ -4,12 +4,9 @@ use borrow.Author.Needs.{needs}
 use Rattle.setting.proofs.phases.long_phase_cos.Statement.{statement}
 use Rattle.setting.proofs.phases.long_phase_cos.Tie as tie
 
-cos-requires : tie.Need-cos-requires
-cos-requires c κs = search needs
-
 returns : tie.Need-returns
 unfolding longPhaseCosOf
 returns c = simp (← c .cos .ensures)
 
 pub long-phase-cos-spec : {M : Type 1} → statement M
-long-phase-cos-spec = tie.close (tie.spec cos-requires returns)
+long-phase-cos-spec = tie.close (tie.spec (λ c κs. search needs) returns)

@@ -4,12 +4,9 @@ use borrow.Author.Needs.{needs}
 use Rattle.setting.proofs.phases.semiannual_cos.Statement.{statement}
 use Rattle.setting.proofs.phases.semiannual_cos.Tie as tie
 
-cos-requires : tie.Need-cos-requires
-cos-requires c κs = search needs
-
 returns : tie.Need-returns
 unfolding semiannualCosOf
 returns c = simp (← c .cos .ensures)
 
 pub semiannual-cos-spec : {M : Type 1} → statement M
-semiannual-cos-spec = tie.close (tie.spec cos-requires returns)
+semiannual-cos-spec = tie.close (tie.spec (λ c κs. search needs) returns)

@@ -4,12 +4,9 @@ use borrow.Author.Needs.{needs}
 use Rattle.setting.proofs.phases.ut_long_cos.Statement.{statement}
 use Rattle.setting.proofs.phases.ut_long_cos.Tie as tie
 
-cos-requires : tie.Need-cos-requires
-cos-requires c κs = search needs
-
 returns : tie.Need-returns
 unfolding utLongCosOf
 returns c = simp (← c .cos .ensures)
 
 pub ut-long-cos-spec : {M : Type 1} → statement M
-ut-long-cos-spec = tie.close (tie.spec cos-requires returns)
+ut-long-cos-spec = tie.close (tie.spec (λ c κs. search needs) returns)

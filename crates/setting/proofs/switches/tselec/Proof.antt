@@ -1,5 +1,5 @@
 -- `tselec` meets its contract: at each turn the rest of the filling gives the whole rows.
-use Prim.Native.Nat.{_+_, _-_, _≤_}
+use Prim.Native.Nat.{_-_, _≤_}
 use mathlib.Core.Path.{_≡_, refl, _∙_, sym}
 use borrow.Author.Needs.{needs}
 use lib.ListN.{length}
@@ -19,30 +19,6 @@ abbrev μ-loop : tie.MeasureT-loop
 loop-holds : tie.Need-loop-holds Inv-loop μ-loop
 loop-holds c = (search needs, refl, refl, refl, refl)
 
-main-at-requires : tie.Need-main-at-requires Inv-loop μ-loop
-main-at-requires c κs = search needs
-
-mul-sw : tie.Need-mul-sw Inv-loop μ-loop
-mul-sw c = search needs
-
-array-write-sw : tie.Need-array-write-sw Inv-loop μ-loop
-array-write-sw c = search needs
-
-cross-at-requires : tie.Need-cross-at-requires Inv-loop μ-loop
-cross-at-requires c κs = search needs
-
-mul-swc : tie.Need-mul-swc Inv-loop μ-loop
-mul-swc c = search needs
-
-array-write-swc : tie.Need-array-write-swc Inv-loop μ-loop
-array-write-swc c = search needs
-
-add-i : tie.Need-add-i Inv-loop μ-loop
-add-i c = search needs
-
-loop-less : tie.Need-loop-less Inv-loop μ-loop
-loop-less c = search needs
-
 loop-again : tie.Need-loop-again Inv-loop μ-loop
 loop-again c =
     let l = c .before .before .before .loop in
@@ -53,15 +29,6 @@ loop-again c =
       rw (c .before .main-at .ensures) (filled-more 24 (mainAt w) (l .i) (l .sw) (search needs) ∙ l .inv .3),
       rw (c .cross-at .ensures) (filled-more 24 (crossAt w) (l .i) (l .swc) (search needs) ∙ l .inv .4),
     )
-
-nine-of-requires : tie.Need-nine-of-requires Inv-loop μ-loop
-nine-of-requires c κs = search needs
-
-array-write-sw-2 : tie.Need-array-write-sw-2 Inv-loop μ-loop
-array-write-sw-2 c = search needs
-
-array-write-swc-2 : tie.Need-array-write-swc-2 Inv-loop μ-loop
-array-write-swc-2 c = search needs
 
 returns : tie.Need-returns Inv-loop μ-loop
 returns c =
@@ -79,16 +46,8 @@ tselec-spec =
     Inv-loop
     μ-loop
     loop-holds
-    main-at-requires
-    mul-sw
-    array-write-sw
-    cross-at-requires
-    mul-swc
-    array-write-swc
-    add-i
-    loop-less
+    (λ c κs. search needs) (λ c. search needs) (λ c. search needs) (λ c κs. search needs) (λ c. search needs)
+    (λ c. search needs) (λ c. search needs) (λ c. search needs)
     loop-again
-    nine-of-requires
-    array-write-sw-2
-    array-write-swc-2
+    (λ c κs. search needs) (λ c. search needs) (λ c. search needs)
     returns)

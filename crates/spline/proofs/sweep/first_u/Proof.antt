@@ -8,18 +8,6 @@ returns : tie.Need-returns
 unfolding firstUOf
 returns c = simp (c .if1 .taken)
 
-shared-slice-read-h : tie.Need-shared-slice-read-h
-shared-slice-read-h c = search needs
-
-shared-slice-read-h-2 : tie.Need-shared-slice-read-h-2
-shared-slice-read-h-2 c = search needs
-
-shared-slice-read-result : tie.Need-shared-slice-read-result
-shared-slice-read-result c = search needs
-
-shared-slice-read-result-2 : tie.Need-shared-slice-read-result-2
-shared-slice-read-result-2 c = search needs
-
 returns-2 : tie.Need-returns-2
 unfolding firstUOf
 returns-2 c = simp (c .before .before .before .before .if1 .left)
@@ -29,8 +17,5 @@ first-u-spec =
     tie.close
     (tie.spec
     returns
-    shared-slice-read-h
-    shared-slice-read-h-2
-    shared-slice-read-result
-    shared-slice-read-result-2
+    (λ c. search needs) (λ c. search needs) (λ c. search needs) (λ c. search needs)
     returns-2)

@@ -1,5 +1,5 @@
 -- `forward` meets its contract.
-use mathlib.Core.Path.{_≡_, refl, sym, ap, _∙_}
+use mathlib.Core.Path.{_≡_, refl, sym, _∙_}
 use Prim.Native.Nat.{_≤_, _-_}
 use borrow.Author.Needs.{needs}
 use lib.ListN.{length}
@@ -18,51 +18,6 @@ abbrev μ-loop : tie.MeasureT-loop
 loop-holds : tie.Need-loop-holds Inv-loop μ-loop
 unfolding forwardOf
 loop-holds c = (search needs, search needs, search needs, search needs, refl)
-
-sub-loop : tie.Need-sub-loop Inv-loop μ-loop
-sub-loop c = search needs
-
-sub-yp : tie.Need-sub-yp Inv-loop μ-loop
-sub-yp c = search needs
-
-mul-yp : tie.Need-mul-yp Inv-loop μ-loop
-mul-yp c = search needs
-
-array-read-yp : tie.Need-array-read-yp Inv-loop μ-loop
-array-read-yp c = search needs
-
-sub-up : tie.Need-sub-up Inv-loop μ-loop
-sub-up c = search needs
-
-mul-up : tie.Need-mul-up Inv-loop μ-loop
-mul-up c = search needs
-
-array-read-up : tie.Need-array-read-up Inv-loop μ-loop
-array-read-up c = search needs
-
-step-y-requires : tie.Need-step-y-requires Inv-loop μ-loop
-step-y-requires c κs = search needs
-
-step-u-requires : tie.Need-step-u-requires Inv-loop μ-loop
-step-u-requires c κs = search needs
-
-mul-y2 : tie.Need-mul-y2 Inv-loop μ-loop
-mul-y2 c = search needs
-
-array-write-y2 : tie.Need-array-write-y2 Inv-loop μ-loop
-array-write-y2 c = search needs
-
-mul-u : tie.Need-mul-u Inv-loop μ-loop
-mul-u c = search needs
-
-array-write-u : tie.Need-array-write-u Inv-loop μ-loop
-array-write-u c = search needs
-
-add-i : tie.Need-add-i Inv-loop μ-loop
-add-i c = search needs
-
-loop-less : tie.Need-loop-less Inv-loop μ-loop
-loop-less c = search needs
 
 loop-again : tie.Need-loop-again Inv-loop μ-loop
 loop-again c =
@@ -86,20 +41,8 @@ forward-spec =
     Inv-loop
     μ-loop
     loop-holds
-    sub-loop
-    sub-yp
-    mul-yp
-    array-read-yp
-    sub-up
-    mul-up
-    array-read-up
-    step-y-requires
-    step-u-requires
-    mul-y2
-    array-write-y2
-    mul-u
-    array-write-u
-    add-i
-    loop-less
+    (λ c. search needs) (λ c. search needs) (λ c. search needs) (λ c. search needs) (λ c. search needs)
+    (λ c. search needs) (λ c. search needs) (λ c κs. search needs) (λ c κs. search needs) (λ c. search needs)
+    (λ c. search needs) (λ c. search needs) (λ c. search needs) (λ c. search needs) (λ c. search needs)
     loop-again
     returns)

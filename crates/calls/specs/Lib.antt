@@ -1,3 +1,0 @@
--- The definitions that the contracts of this crate cite, and the case of document 01.
-pub mod Calls
-pub mod Cases

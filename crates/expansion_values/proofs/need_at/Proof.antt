@@ -1,0 +1,16 @@
+-- `need_at` meets its contract.
+use Rattle.expansion_values.specs.ExpansionValues.{needAt}
+use borrow.Author.Needs.{needs}
+use Rattle.expansion_values.proofs.need_at.Statement.{statement}
+use Rattle.expansion_values.proofs.need_at.Tie as tie
+
+returns : tie.Need-returns
+unfolding needAt
+returns c = simp ((c .before .pick .ensures), (c .pdl1 .ensures))
+
+pub need-at-spec : {M : Type 1} → statement M
+need-at-spec =
+    tie.close
+    (tie.spec
+    (λ c κs. search needs) (λ c κs. search needs) (λ c. search needs)
+    returns)

@@ -1,0 +1,12 @@
+-- `with_high` meets its contract.
+use mathlib.Core.Path.{refl}
+use Rattle.expansion_values.specs.ExpansionValues.{withHigh}
+use Rattle.expansion_values.proofs.with_high.Statement.{statement}
+use Rattle.expansion_values.proofs.with_high.Tie as tie
+
+returns : tie.Need-returns
+unfolding withHigh
+returns c = refl
+
+pub with-high-spec : {M : Type 1} → statement M
+with-high-spec = tie.close (tie.spec returns)

@@ -1,0 +1,153 @@
+-- The values of the expansions that gtd7 asks for from a fresh State, each worked out once.
+use mathlib.Core.Bool.{Bool, true, cond, not}
+use mathlib.Core.List.{List, [], _∷_}
+use lib.ListN.{replicate}
+use lib.Ieee.{Float, lt, le}
+use Rattle.numbers.specs.Arithmetic.{_‼_}
+use Rattle.numbers.specs.Literals.{0·0, 32·5, 72·5, 300·0}
+use Rattle.setting.specs.declared.View.{View}
+use Rattle.setting.specs.State.{freshOf}
+use Rattle.tables.specs.Tables.{ptT, psT, pdT0, pdT1, pdT2, pdT3, pdT4, pdT5, pdT6, pdT7, pdT8, pdlT1, ptlT0, ptlT1, ptlT2, ptlT3, pmaT0, pmaT1, pmaT2, pmaT3, pmaT4, pmaT5, pmaT6, pmaT7, pmaT8, pmaT9}
+use Rattle.legendre.specs.Legendre.{legendreOf}
+use Rattle.activity.specs.Activity.{apdfNextOf, aptNextOf}
+use Rattle.expansion.specs.declared.Carried.{Carried}
+use Rattle.expansion.specs.Expansion.{turnsAfterOf, globe7Value, glob7sFrom}
+use Rattle.plan.specs.declared.ExpansionValues.{ExpansionValues}
+use Rattle.expansion_values.specs.declared.Need.{Need}
+
+-- the Legendre values after any globe7 from a fresh State
+unfoldable pub legendreIn : View → List (List Float)
+legendreIn v = legendreOf (v .slat) (v .clat) (replicate 36 0·0)
+
+-- what State carries before a set's magnetic activity
+unfoldable pub quietOf : View → Carried
+quietOf v =
+    let t = turnsAfterOf v freshOf in
+    record {
+      dfa = v .dfa;
+      ctloc = t .ct;
+      stloc = t .st;
+      c2tloc = t .c2t;
+      s2tloc = t .s2t;
+      s3tloc = t .s3t;
+      c3tloc = t .c3t;
+      apdf = 0·0;
+      apt = 0·0;
+    }
+
+-- what State carries after globe7 over a set
+unfoldable pub activeOf : View → List Float → Carried → Carried
+activeOf v p c =
+    record {
+      dfa = c .dfa;
+      ctloc = c .ctloc;
+      stloc = c .stloc;
+      c2tloc = c .c2tloc;
+      s2tloc = c .s2tloc;
+      s3tloc = c .s3tloc;
+      c3tloc = c .c3tloc;
+      apdf = apdfNextOf (v .sw ‼ 9) (p ‼ 43) (p ‼ 44) (v .ap) (c .apdf);
+      apt = aptNextOf (v .sw ‼ 9) (p ‼ 51) (p ‼ 138) (p ‼ 24) (p ‼ 25) (v .«g_lat») (v .«ap_array») (c .apt);
+    }
+
+-- globe7 over a set
+unfoldable pub wideOf : View → List (List Float) → Carried → List Float → Float
+wideOf v g c p = globe7Value v p g (activeOf v p c)
+
+-- the temperatures' sets: PT and PS where they count, and PD[3], whose activity is c3
+unfoldable pub warmValues : View → List (List Float) → Carried → Carried → Need → List Float
+warmValues v g c c3 n = cond (n .pt) (wideOf v g c ptT) 0·0 ∷ cond (n .ps) (wideOf v g c psT) 0·0 ∷ globe7Value v pdT3 g c3 ∷ []
+
+-- PD[0] and PD[2]
+unfoldable pub lightValues : View → List (List Float) → Carried → List Float
+lightValues v g c = wideOf v g c pdT0 ∷ wideOf v g c pdT2 ∷ []
+
+-- PD[4] and PD[5]
+unfoldable pub heavyValues : View → List (List Float) → Carried → List Float
+heavyValues v g c = wideOf v g c pdT4 ∷ wideOf v g c pdT5 ∷ []
+
+-- PD[1], PD[6], PD[7] and PD[8], the activities of the last two c7 and c8
+abbrev pub highIn : View → List (List Float) → Carried → Carried → Carried → List Float
+highIn v g c c7 c8 = wideOf v g c pdT1 ∷ wideOf v g c pdT6 ∷ globe7Value v pdT7 g c7 ∷ globe7Value v pdT8 g c8 ∷ []
+
+-- the same where O, H, N and anomalous O count
+unfoldable pub highValues : View → List (List Float) → Carried → Carried → Carried → Bool → List Float
+highValues v g c c7 c8 on = cond (not on) (replicate 4 0·0) (highIn v g c c7 c8)
+
+-- PTL and PMA[8]
+abbrev pub nodesIn : View → List (List Float) → Carried → List Float
+nodesIn v g c = glob7sFrom v ptlT0 g c ∷ glob7sFrom v ptlT1 g c ∷ glob7sFrom v ptlT2 g c ∷ glob7sFrom v ptlT3 g c ∷ glob7sFrom v pmaT8 g c ∷ []
+
+-- the same where the nodes of the lower thermosphere count
+unfoldable pub nodeValues : View → List (List Float) → Carried → Bool → List Float
+nodeValues v g c on = cond (not on) (replicate 5 0·0) (nodesIn v g c)
+
+-- PMA[0], PMA[1], PMA[2] and PMA[9]
+abbrev pub mesoIn : View → List (List Float) → Carried → List Float
+mesoIn v g c = glob7sFrom v pmaT0 g c ∷ glob7sFrom v pmaT1 g c ∷ glob7sFrom v pmaT2 g c ∷ glob7sFrom v pmaT9 g c ∷ []
+
+-- the same where the nodes of the mesosphere count
+unfoldable pub mesoValues : View → List (List Float) → Carried → Bool → List Float
+mesoValues v g c on = cond (not on) (replicate 4 0·0) (mesoIn v g c)
+
+-- PMA[3] to PMA[7]
+abbrev pub tropoIn : View → List (List Float) → Carried → List Float
+tropoIn v g c = glob7sFrom v pmaT3 g c ∷ glob7sFrom v pmaT4 g c ∷ glob7sFrom v pmaT5 g c ∷ glob7sFrom v pmaT6 g c ∷ glob7sFrom v pmaT7 g c ∷ []
+
+-- the same where the nodes of the troposphere count
+unfoldable pub tropoValues : View → List (List Float) → Carried → Bool → List Float
+tropoValues v g c on = cond (not on) (replicate 5 0·0) (tropoIn v g c)
+
+-- which sets an altitude needs
+unfoldable pub needAt : Float → Need
+needAt alt =
+    let z = cond (lt 72·5 alt) alt 72·5 in
+    record { high = le 72·5 alt; pt = lt (pdlT1 ‼ 15) z; ps = lt 72·5 z; nodes = lt z 300·0; meso = not (le 72·5 alt); tropo = lt alt 32·5 }
+
+-- the same with those of O, H, N and anomalous O, which gts7 asks for at every altitude
+unfoldable pub withHigh : Need → Need
+withHigh a = record { high = true; pt = a .pt; ps = a .ps; nodes = a .nodes; meso = a .meso; tropo = a .tropo }
+
+-- the values that are needed, from a fresh State: the nodes of the lower thermosphere are asked for after PD[3], the lower ones after PD[7]
+-- and PD[8]; a value that is not needed is 0
+unfoldable pub expansionValuesOf : View → Need → ExpansionValues
+expansionValuesOf v n =
+    let g = legendreIn v in
+    let c = quietOf v in
+    let c3 = activeOf v pdT3 c in
+    let c7 = activeOf v pdT7 c in
+    let c8 = activeOf v pdT8 c7 in
+    let w = warmValues v g c c3 n in
+    let l = lightValues v g c in
+    let h = heavyValues v g c in
+    let b = highValues v g c c7 c8 (n .high) in
+    let a = nodeValues v g c3 (n .nodes) in
+    let m = mesoValues v g c8 (n .meso) in
+    let t = tropoValues v g c8 (n .tropo) in
+    record {
+      pt = w ‼ 0;
+      ps = w ‼ 1;
+      pd0 = l ‼ 0;
+      pd1 = b ‼ 0;
+      pd2 = l ‼ 1;
+      pd3 = w ‼ 2;
+      pd4 = h ‼ 0;
+      pd5 = h ‼ 1;
+      pd6 = b ‼ 1;
+      pd7 = b ‼ 2;
+      pd8 = b ‼ 3;
+      ptl0 = a ‼ 0;
+      ptl1 = a ‼ 1;
+      ptl2 = a ‼ 2;
+      ptl3 = a ‼ 3;
+      pma0 = m ‼ 0;
+      pma1 = m ‼ 1;
+      pma2 = m ‼ 2;
+      pma3 = t ‼ 0;
+      pma4 = t ‼ 1;
+      pma5 = t ‼ 2;
+      pma6 = t ‼ 3;
+      pma7 = t ‼ 4;
+      pma8 = a ‼ 4;
+      pma9 = m ‼ 3;
+    }

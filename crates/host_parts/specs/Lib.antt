@@ -1,2 +1,0 @@
--- What the host sees of an outcome.
-pub mod Parts

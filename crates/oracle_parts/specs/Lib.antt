@@ -1,0 +1,2 @@
+-- What the host sees of an outcome.
+pub mod OracleParts
