@@ -10,11 +10,9 @@ use lib.ListN.{length}
 use lib.Ieee.{Float, eq, ofBits}
 use Rattle.numbers.specs.Literals.{0·0}
 use Rattle.setting.specs.declared.Input.{Input}
-use Rattle.setting.specs.declared.View.{View}
 use Rattle.setting.specs.View.{viewOf}
-use Rattle.plan.specs.declared.ExpansionValues.{ExpansionValues}
-use Rattle.expansion_values.specs.declared.Need.{Need}
-use Rattle.expansion_values.specs.ExpansionValues.{needAt, expansionValuesOf}
+use Rattle.expansion_values.specs.declared.RecordValues.{RecordValues}
+use Rattle.expansion_values.specs.ExpansionValues.{needAt, recordValuesOf}
 use Rattle.gts7_arithmetic.specs.declared.Site.{Site}
 use Rattle.parameters.specs.Parameters.{presentOf}
 use Rattle.parameters.specs.declared.Parameters.{Parameters}
@@ -54,16 +52,13 @@ pub site-mass : (c : Parameters) (sw : List Float) (lat doy f107a : Float) (x : 
 unfolding siteWith
 site-mass c sw lat doy f107a x e m = ap (λ (y : Site). eq (y .nine .xmm) 0·0) e ∙ m
 
-pub row-with-law : (c : Parameters) (w : List ℤ) (n : Input) (row : List Float) (l : ExpansionValues) (a : Need) (x : Site) (v : View)
-    → row ≡ elevenFrom (v .sw) x l (n .alt)
-    → l ≡ expansionValuesOf v a
-    → a ≡ needAt (n .alt)
-    → x ≡ siteWith c (v .sw) (n .«g_lat») (v .doy) (n .f107a)
-    → v ≡ viewOf w n
+pub row-with-law : (c : Parameters) (w : List ℤ) (n : Input) (row : List Float) (v : RecordValues)
+    → row ≡ elevenFrom (v .sw) (siteWith c (v .sw) (n .«g_lat») (v .doy) (n .f107a)) (v .values) (n .alt)
+    → v ≡ recordValuesOf w n (needAt (n .alt))
     → eq (c .xmm) 0·0 ≡ false
     → row ≡ elevenWith c w n
-unfolding elevenWith
-row-with-law c w n row l a x v e0 e1 e2 e3 e4 m =
-    rw (e1, e2) at e0
-    ∙ sym (eleven-told v x (n .alt) (site-mass c (v .sw) (n .«g_lat») (v .doy) (n .f107a) x e3 m))
-    ∙ rw (e3, e4)
+unfolding elevenWith recordValuesOf
+row-with-law c w n row v e f m =
+    let u = viewOf w n in
+    (rw f at e)
+    ∙ sym (eleven-told u (siteWith c (u .sw) (n .«g_lat») (u .doy) (n .f107a)) (n .alt) (site-mass c (u .sw) (n .«g_lat») (u .doy) (n .f107a) _ refl m))

@@ -1,4 +1,4 @@
--- Why a call needs no State: run from a fresh one gtd7 gives what it makes of the Levels, and leaves what PD[7] and PD[8] leave and its own steps set.
+-- Why a call needs no State: run from a fresh one gtd7 gives what it makes of the expansions' values, and leaves what PD[7] and PD[8] leave and its own steps set.
 use mathlib.Core.Path.{_≡_, refl, sym, ap, _∙_}
 use mathlib.Core.Bool.{Bool, true, false, cond, not, false≢true}
 use mathlib.Core.List.{List}
@@ -19,7 +19,7 @@ use Rattle.tables.specs.Tables.{ptT, psT, pdT0, pdT1, pdT2, pdT3, pdT4, pdT5, p
 use Rattle.plan.specs.Fields.{Fields, fieldsOf, withFields}
 use Rattle.plan.specs.Plan.{Plan, done, ask, keep, _>>=_, one-plus-globe7, exp-globe7, one-plus-glob7s, one-minus-glob7s, onePlusGlobe7Of, expGlobe7Of, onePlusGlob7sOf, oneMinusGlob7sOf, answer, run, Ran, ends, told, fieldsAfter, stepped, answerTo, wideIn, narrowIn}
 use Rattle.expansion_values.specs.declared.Need.{Need}
-use Rattle.expansion_values.specs.ExpansionValues.{legendreIn, quietOf, activeOf, wideOf, warmValues, lightValues, heavyValues, highIn, highValues, nodesIn, nodeValues, mesoIn, mesoValues, tropoIn, tropoValues, needAt, withHigh, expansionValuesOf}
+use Rattle.expansion_values.specs.ExpansionValues.{legendreIn, quietOf, activeOf, wideOf, lightValues, heavyValues, highIn, highValues, nodesIn, nodeValues, mesoIn, mesoValues, tropoIn, tropoValues, needAt, withHigh, expansionValuesOf}
 use Rattle.expansion_values.specs.Settled.{Settled, fresh-settled, after-settled, globe7-first, globe7-second, glob7s-first, glob7s-second, Kept, kept-done, kept-ask, kept-keep, kept-then, kept-either}
 use Rattle.mixing.specs.declared.limits.Mixed.{Mixed}
 use Rattle.profile.specs.declared.unchecked.Shape.{Shape}
@@ -151,14 +151,14 @@ module _ (v : View) (n : Need) (hi : n .high ≡ true) where
 
   module _ (z : Float) where
     tinf-kept : (lt (pdlT1 ‼ 15) z ≡ true → n .pt ≡ true) → (s : State) → Settled v s → Kept v (answerTo (expansionValuesOf v n)) (Settled v) (tinfPlan (v .sw) z) s
-    unfolding tinfPlan _>>=_ expansionValuesOf warmValues
+    unfolding tinfPlan _>>=_ expansionValuesOf
     tinf-kept c s h =
         kept-either v (answerTo (expansionValuesOf v n)) (Settled v) (lt (pdlT1 ‼ 15) z) _ _ s
         (λ e. plus (Settled v) (v .sw ‼ 16) PT _ s h refl (value (n .pt) _ (c e)) (kept-done v (answerTo (expansionValuesOf v n)) (Settled v) _ _ (after-settled v ptT _ refl)))
         (λ e. kept-done v (answerTo (expansionValuesOf v n)) (Settled v) _ s h)
 
     gradient-kept : (lt 72·5 z ≡ true → n .ps ≡ true) → (s : State) → Settled v s → Kept v (answerTo (expansionValuesOf v n)) (Settled v) (gradientPlan (v .sw) z) s
-    unfolding gradientPlan _>>=_ expansionValuesOf warmValues
+    unfolding gradientPlan _>>=_ expansionValuesOf
     gradient-kept c s h =
         kept-either v (answerTo (expansionValuesOf v n)) (Settled v) (lt 72·5 z) _ _ s
         (λ e. plus (Settled v) (v .sw ‼ 19) PS _ s h refl (value (n .ps) _ (c e)) (kept-done v (answerTo (expansionValuesOf v n)) (Settled v) _ _ (after-settled v psT _ refl)))
@@ -169,7 +169,7 @@ module _ (v : View) (n : Need) (hi : n .high ≡ true) where
   After3 t = t ≡ stateAfter v pdT3 freshOf
 
   tlb-kept : (s : State) → Settled v s → Kept v (answerTo (expansionValuesOf v n)) After3 (tlbPlan (v .sw)) s
-  unfolding tlbPlan _>>=_ expansionValuesOf warmValues wideOf
+  unfolding tlbPlan _>>=_ expansionValuesOf wideOf
   tlb-kept s h = plus After3 (v .sw ‼ 17) PD3 _ s h refl refl (kept-done v (answerTo (expansionValuesOf v n)) After3 _ _ refl)
 
   -- PTL and PMA[8] from the State after PD[3]
@@ -309,7 +309,7 @@ module _ (v : View) (n : Need) (hi : n .high ≡ true) where
       (λ s2 e2. kept-then v (answerTo (expansionValuesOf v n)) After8 After8 (lowerPlan (v .sw) alt _) _ s2 (lower-kept alt (c .tropo) _ s2 e2)
       (λ s3 e3. sets (kept-done v (answerTo (expansionValuesOf v n)) After8 _ s3 e3))))))
 
--- From a fresh State gtd7 gives what it makes of the Levels that hold what its altitude needs and those of O, H, N and anomalous O, and leaves
+-- From a fresh State gtd7 gives what it makes of the expansions' values that hold what its altitude needs and those of O, H, N and anomalous O, and leaves
 -- what PD[7] and PD[8] leave, with the fields that its steps set
 pub gtd7-runs : (v : View) (n : Need) (x : Site) (alt : Float) → n .high ≡ true → NeedCovers n (needAt alt)
     → run v (gtd7Plan (v .sw) x alt) freshOf ≡ stepped (answerTo (expansionValuesOf v n)) (gtd7Plan (v .sw) x alt) (stateAfter v pdT8 (stateAfter v pdT7 freshOf))
@@ -330,7 +330,7 @@ gtd7-left v x alt = gtd7-runs v (withHigh (needAt alt)) x alt refl (highest-cove
 -- ---- the eleven numbers; below 72.5 km they do not depend on O, H, N and anomalous O
 
 four-apart : (v : View) (n : Need) → SameButFour (expansionValuesOf v n) (expansionValuesOf v (withHigh n))
-unfolding expansionValuesOf withHigh warmValues
+unfolding expansionValuesOf withHigh
 four-apart v n =
     record {
       pt = refl;
@@ -370,7 +370,7 @@ eleven-there v n x alt false gas t h c =
     ∙ ap (λ (f : Footing). rowBelowOf (v .sw ‼ 0) f alt) (sym (footing-same (expansionValuesOf v n) (expansionValuesOf v (withHigh n)) (four-apart v n) (v .sw) x true))
     ∙ eleven-below (v .sw) x (expansionValuesOf v n) alt true _ _ gas refl refl (λ e. refl) t
 
--- From a fresh State, the mass of mixed air not being 0, gtd7 gives the eleven numbers that it makes of the Levels that hold what its altitude needs
+-- From a fresh State, the mass of mixed air not being 0, gtd7 gives the eleven numbers that it makes of the expansions' values that hold what its altitude needs
 pub eleven-covered : (v : View) (n : Need) (x : Site) (alt : Float) → HasMass x → NeedCovers n (needAt alt) → elevenAtOf v x alt ≡ elevenFrom (v .sw) x (expansionValuesOf v n) alt
 unfolding needAt
 eleven-covered v n x alt gas c = eleven-there v n x alt (le 72·5 alt) gas refl (c .high) c

@@ -4,14 +4,16 @@ ghost use lib.ListN.{length};
 ghost use mathlib.Core.Bool.{true, false};
 ghost use lib.Ieee.{le, eq};
 ghost use Rattle.numbers.specs.Literals.{0·0, 72·5};
-ghost use Rattle.gts7_arithmetic.specs.Gts7Arithmetic.{HasMass};
+ghost use Rattle.expansion_values.specs.ExpansionValues.{needAt, recordValuesOf};
+ghost use Rattle.gts7_arithmetic.specs.Gts7Arithmetic.{HasMass, siteWith};
 ghost use Rattle.atmosphere.specs.Atmosphere.{elevenFrom, elevenWith, elevenOf, answerOf, rowAfter};
 ghost use Rattle.atmosphere.specs.Rows.{Founded};
 use acceptance::Answer;
 use acceptance::accepted;
 use acceptance::record_answer;
-use expansion_values::expansion_values_of;
+use expansion_values::RecordValues;
 use expansion_values::need_at;
+use expansion_values::record_values;
 use footing::Footing;
 use footing::footing_where;
 use footing::row_below;
@@ -25,7 +27,6 @@ use parameters::Parameters;
 use parameters::present;
 use plan::ExpansionValues;
 use setting::Input;
-use setting::views::view_of;
 use thermosphere::gts7_stage;
 use unmixed::unmixed_row;
 
@@ -87,17 +88,32 @@ pub fn row_at(sw: [f64; 24], x: Site, l: ExpansionValues, alt: f64, out: &mut [f
     row_on(sw, x, l, f, alt, out);
 }
 
+// What the row of a record reads of it under a switch row.
+pub fn values_at(w: [i32; 24], n: Input) -> RecordValues
+    ensures { λ r. ⌜ r ≡ recordValuesOf w n (needAt (n .alt)) ⌝ }
+{
+    let a = need_at(n.alt);
+    record_values(w, n, a)
+}
+
+// The row of a record out of that, with nine constants.
+pub fn row_from(c: Parameters, n: Input, v: RecordValues, out: &mut [f64])
+    requires { ⌜ (length (now out) ≡ 11) × (eq (c .xmm) 0·0 ≡ false) ⌝ }
+    ensures { λ _. ⌜ now (out .exit) ≡ elevenFrom (v .sw) (siteWith c (v .sw) (n .«g_lat») (v .doy) (n .f107a)) (v .values) (n .alt) ⌝ }
+{
+    let sw = v.sw;
+    let x = site_with(c, sw, n.g_lat, v.doy, n.f107a);
+    let l = v.values;
+    row_at(sw, x, l, n.alt, out);
+}
+
 // The row of a record under a switch row, with nine constants.
 pub fn row_with(c: Parameters, w: [i32; 24], n: Input, out: &mut [f64])
     requires { ⌜ (length (now out) ≡ 11) × (eq (c .xmm) 0·0 ≡ false) ⌝ }
     ensures { λ _. ⌜ now (out .exit) ≡ elevenWith c w n ⌝ }
 {
-    let v = view_of(w, n);
-    let sw = v.sw;
-    let x = site_with(c, sw, n.g_lat, v.doy, n.f107a);
-    let a = need_at(n.alt);
-    let l = expansion_values_of(v, a);
-    row_at(sw, x, l, n.alt, out);
+    let v = values_at(w, n);
+    row_from(c, n, v, out);
 }
 
 // The same with the present nine.
@@ -105,8 +121,9 @@ pub fn row_of(w: [i32; 24], n: Input, out: &mut [f64])
     requires { ⌜ length (now out) ≡ 11 ⌝ }
     ensures { λ _. ⌜ now (out .exit) ≡ elevenOf w n ⌝ }
 {
+    let v = values_at(w, n);
     let c = present();
-    row_with(c, w, n, out);
+    row_from(c, n, v, out);
 }
 
 // The answer to a record and a row of the length len.

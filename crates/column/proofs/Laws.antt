@@ -13,15 +13,14 @@ use lib.Ieee.{Float, nan}
 use Rattle.numbers.specs.Arithmetic.{_‼_}
 use Rattle.numbers.specs.Literals.{0·0}
 use Rattle.setting.specs.declared.Input.{Input}
-use Rattle.setting.specs.declared.View.{View}
 use Rattle.setting.specs.View.{viewOf}
 use Rattle.gts7_arithmetic.specs.declared.Site.{Site}
 use Rattle.gts7_arithmetic.specs.Gts7Arithmetic.{siteOf}
 use Rattle.acceptance.specs.declared.Answer.the-variants.{Accepted}
 use Rattle.acceptance.specs.Acceptance.{acceptedOf, withAltOf}
-use Rattle.plan.specs.declared.ExpansionValues.{ExpansionValues}
 use Rattle.expansion_values.specs.declared.Need.{Need}
-use Rattle.expansion_values.specs.ExpansionValues.{expansionValuesOf}
+use Rattle.expansion_values.specs.declared.RecordValues.{RecordValues}
+use Rattle.expansion_values.specs.ExpansionValues.{expansionValuesOf, recordValuesOf}
 use Rattle.stored_parts.specs.declared.Parts.{Parts}
 use Rattle.stored_parts.specs.Parts.{partsAt, noParts, eitherParts, partsFrom}
 use Rattle.stored_parts.specs.Held.{second-of, before-held}
@@ -107,12 +106,12 @@ pub rows-are : (w : List ℤ) (n : Input) (alts numbers sw xs : List Float)
     → rowsStored (sw ‼ 0) (sw ‼ 15) numbers alts ++ xs ≡ columnRows w n alts ++ xs
 rows-are w n alts numbers sw xs es en e = ap (λ (r : List Float). r ++ xs) (rows-of w n (sw ‼ 0) (sw ‼ 15) numbers alts (each-row w n alts numbers sw es en e))
 
-pub stored-are : (w : List ℤ) (n : Input) (alts rec numbers : List Float) (v : View) (x : Site) (p : Parts) (a : Need) (l : ExpansionValues)
-    → v ≡ viewOf w n → x ≡ siteOf (v .sw) (n .«g_lat») (v .doy) (n .f107a) → p ≡ partsFrom noParts alts → a ≡ needOf p → l ≡ expansionValuesOf v a
-    → numbers ≡ rec ++ storedOf p (v .sw) x l
+pub stored-are : (w : List ℤ) (n : Input) (alts rec numbers : List Float) (v : RecordValues) (x : Site) (p : Parts) (a : Need)
+    → v ≡ recordValuesOf w n a → x ≡ siteOf (v .sw) (n .«g_lat») (v .doy) (n .f107a) → p ≡ partsFrom noParts alts → a ≡ needOf p
+    → numbers ≡ rec ++ storedOf p (v .sw) x (v .values)
     → (v .sw ≡ (viewOf w n) .sw) × (numbers ≡ rec ++ storedFor w n alts)
-unfolding storedFor
-stored-are w n alts rec numbers v x p a l ev ex ep ea el en = (ap (λ (u : View). u .sw) ev, rw (en, el, ea, ep, ex, ev))
+unfolding storedFor recordValuesOf
+stored-are w n alts rec numbers v x p a ev ex ep ea en = (ap (λ (u : RecordValues). u .sw) ev, rw (en, ex, ev, ea, ep))
 
 -- ---- the call
 

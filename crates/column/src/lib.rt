@@ -11,10 +11,9 @@ ghost use Rattle.column.specs.Parts.{storedFor, rowsStored};
 use acceptance::Answer;
 use acceptance::accepted;
 use altitudes::column_answer;
-use expansion_values::expansion_values_of;
+use expansion_values::record_values;
 use gts7_arithmetic::site_of;
 use setting::Input;
-use setting::views::view_of;
 use stored::need_of;
 use stored::row_on;
 use stored::store;
@@ -41,12 +40,12 @@ pub fn stored_for(w: [i32; 24], n: Input, alts: &[f64], numbers: &mut [f64]) -> 
     requires { ⌜ length (now numbers) ≡ 234 ⌝ }
     ensures { λ r. ⌜ (r ≡ (viewOf w n) .sw) × (now (numbers .exit) ≡ take 14 (now (numbers .entry)) ++ storedFor w n (now (alts .entry))) ⌝ }
 {
-    let v = view_of(w, n);
-    let sw = v.sw;
-    let x = site_of(sw, n.g_lat, v.doy, n.f107a);
     let p = parts_of(alts);
     let a = need_of(p);
-    let l = expansion_values_of(v, a);
+    let v = record_values(w, n, a);
+    let sw = v.sw;
+    let x = site_of(sw, n.g_lat, v.doy, n.f107a);
+    let l = v.values;
     store(p, sw, x, l, numbers);
     sw
 }

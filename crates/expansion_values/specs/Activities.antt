@@ -21,7 +21,7 @@ noResponses = record { g1 = 0·0; g2 = 0·0; g3 = 0·0; g4 = 0·0; g5 = 0·0; g6
 abbrev oneActivity : Bool → Float → Responses → Activity
 oneActivity b x g = cond b (record { apdf = 0·0; g = g }) (record { apdf = x; g = noResponses })
 
--- the oneActivity that switch 9 asks for; the other is 0
+-- the one that switch 9 asks for; the other is 0
 unfoldable pub activityOf : Float → Float → List Float → Float → Float → Float → Float → Activity
 activityOf sw9 ap history p43 p44 p24 p25 =
     oneActivity (eq sw9 (neg 1·0)) (apdfFromOf p43 p44 ap) (responsesOf p24 p25 history)
@@ -30,7 +30,7 @@ activityOf sw9 ap history p43 p44 p24 p25 =
 abbrev pub activityIn : View → List Float → Activity
 activityIn v p = activityOf (v .sw ‼ 9) (v .ap) (v .«ap_array») (p ‼ 43) (p ‼ 44) (p ‼ 24) (p ‼ 25)
 
--- what State carries after globe7 of-table a set of the activity a
+-- what State carries after globe7 over a set of the activity a
 unfoldable pub activeFrom : View → Activity → Float → Float → Carried → Carried
 activeFrom v a p51 p138 c =
     record {
@@ -69,7 +69,7 @@ active-from v p c a e =
 pub of-table : (v : View) (a : Activity) (t p : List Float) → a ≡ activityIn v t → p ≡ t → a ≡ activityIn v p
 of-table v a t p e f = e ∙ ap (λ (q : List Float). activityIn v q) (sym f)
 
--- globe7 of-table a set t, from an activity that is its own: p and q are t, lent and read
+-- globe7 over a set t, from an activity that is its own: p and q are t, lent and read
 pub wide-from : (v : View) (g : List (List Float)) (c b : Carried) (a : Activity) (t p q : List Float)
     → b ≡ activeFrom v a (q ‼ 51) (q ‼ 138) c → p ≡ t → q ≡ t → a ≡ activityIn v t → globe7Value v p g b ≡ wideOf v g c t
 unfolding wideOf

@@ -2,11 +2,14 @@
 use mathlib.Core.Bool.{Bool, true, cond, not}
 use mathlib.Core.List.{List, [], _∷_}
 use lib.ListN.{replicate}
+use lib.IntN.{ℤ}
 use lib.Ieee.{Float, lt, le}
 use Rattle.numbers.specs.Arithmetic.{_‼_}
 use Rattle.numbers.specs.Literals.{0·0, 32·5, 72·5, 300·0}
+use Rattle.setting.specs.declared.Input.{Input}
 use Rattle.setting.specs.declared.View.{View}
 use Rattle.setting.specs.State.{freshOf}
+use Rattle.setting.specs.View.{viewOf}
 use Rattle.tables.specs.Tables.{ptT, psT, pdT0, pdT1, pdT2, pdT3, pdT4, pdT5, pdT6, pdT7, pdT8, pdlT1, ptlT0, ptlT1, ptlT2, ptlT3, pmaT0, pmaT1, pmaT2, pmaT3, pmaT4, pmaT5, pmaT6, pmaT7, pmaT8, pmaT9}
 use Rattle.legendre.specs.Legendre.{legendreOf}
 use Rattle.activity.specs.Activity.{apdfNextOf, aptNextOf}
@@ -14,6 +17,7 @@ use Rattle.expansion.specs.declared.Carried.{Carried}
 use Rattle.expansion.specs.Expansion.{turnsAfterOf, globe7Value, glob7sFrom}
 use Rattle.plan.specs.declared.ExpansionValues.{ExpansionValues}
 use Rattle.expansion_values.specs.declared.Need.{Need}
+use Rattle.expansion_values.specs.declared.RecordValues.{RecordValues}
 
 -- the Legendre values after any globe7 from a fresh State
 unfoldable pub legendreIn : View → List (List Float)
@@ -53,10 +57,6 @@ activeOf v p c =
 -- globe7 over a set
 unfoldable pub wideOf : View → List (List Float) → Carried → List Float → Float
 wideOf v g c p = globe7Value v p g (activeOf v p c)
-
--- the temperatures' sets: PT and PS where they count, and PD[3], whose activity is c3
-unfoldable pub warmValues : View → List (List Float) → Carried → Carried → Need → List Float
-warmValues v g c c3 n = cond (n .pt) (wideOf v g c ptT) 0·0 ∷ cond (n .ps) (wideOf v g c psT) 0·0 ∷ globe7Value v pdT3 g c3 ∷ []
 
 -- PD[0] and PD[2]
 unfoldable pub lightValues : View → List (List Float) → Carried → List Float
@@ -117,7 +117,6 @@ expansionValuesOf v n =
     let c3 = activeOf v pdT3 c in
     let c7 = activeOf v pdT7 c in
     let c8 = activeOf v pdT8 c7 in
-    let w = warmValues v g c c3 n in
     let l = lightValues v g c in
     let h = heavyValues v g c in
     let b = highValues v g c c7 c8 (n .high) in
@@ -125,12 +124,12 @@ expansionValuesOf v n =
     let m = mesoValues v g c8 (n .meso) in
     let t = tropoValues v g c8 (n .tropo) in
     record {
-      pt = w ‼ 0;
-      ps = w ‼ 1;
+      pt = cond (n .pt) (wideOf v g c ptT) 0·0;
+      ps = cond (n .ps) (wideOf v g c psT) 0·0;
       pd0 = l ‼ 0;
       pd1 = b ‼ 0;
       pd2 = l ‼ 1;
-      pd3 = w ‼ 2;
+      pd3 = globe7Value v pdT3 g c3;
       pd4 = h ‼ 0;
       pd5 = h ‼ 1;
       pd6 = b ‼ 1;
@@ -151,3 +150,7 @@ expansionValuesOf v n =
       pma8 = a ‼ 4;
       pma9 = m ‼ 3;
     }
+
+-- what gts7 and gtd7 read of a record under a switch row, its altitude apart
+unfoldable pub recordValuesOf : List ℤ → Input → Need → RecordValues
+recordValuesOf w n a = let v = viewOf w n in record { sw = v .sw; doy = v .doy; values = expansionValuesOf v a }

@@ -1,4 +1,4 @@
--- The definitions that the contracts of this crate cite (Levels), the magnetic activity that sets share (Activities), and what lets gtd7 work
+-- The definitions that the contracts of this crate cite (ExpansionValues), the magnetic activity that sets share (Activities), and what lets gtd7 work
 -- without State (Settled).
 pub mod ExpansionValues
 pub mod Activities

@@ -1,4 +1,4 @@
--- From a fresh State the answers to gtd7's questions do not depend on the questions before them: each is one of the Levels.
+-- From a fresh State the answers to gtd7's questions do not depend on the questions before them: each is one of the expansions' values.
 use mathlib.Core.Path.{_≡_, refl, sym, ap, ap₂, _∙_}
 use mathlib.Core.Bool.{Bool, true, false, cond, not, _&&_, false≢true}
 use mathlib.Core.List.{List}
@@ -73,7 +73,7 @@ fresh-settled v q e = refl
 pub after-settled : (v : View) (p : List Float) (t : State) → t ≡ stateAfter v p freshOf → Settled v t
 after-settled v p t e q f = ap (stateAfter v q) e ∙ after-after v p q f
 
--- ---- the Levels are the expansions' values from the States that gtd7 reaches
+-- ---- the values are the expansions' from the States that gtd7 reaches
 
 carried-first : (v : View) (p : List Float) → carriedOf (stateAfter v p freshOf) ≡ activeOf v p (quietOf v)
 unfolding carriedOf stateAfter freshOf quietOf activeOf

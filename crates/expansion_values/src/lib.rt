@@ -4,10 +4,11 @@ ghost use Prim.Native.Nat.{_≤_};
 ghost use mathlib.Core.Bool.{cond};
 ghost use lib.ListN.{length};
 ghost use Rattle.numbers.specs.Literals.{0·0};
-ghost use Rattle.tables.specs.Tables.{ptT, psT, pdT0, pdT1};
+ghost use Rattle.tables.specs.Tables.{ptT, psT, pdT0, pdT1, pdT3};
 ghost use Rattle.setting.specs.Shared.{Shared};
+ghost use Rattle.expansion.specs.Expansion.{globe7Value};
 ghost use Rattle.expansion_values.specs.Activities.{activityOf, activityIn, activeFrom};
-ghost use Rattle.expansion_values.specs.ExpansionValues.{quietOf, wideOf, warmValues, lightValues, heavyValues, highValues, nodeValues, mesoValues, tropoValues, needAt, withHigh, expansionValuesOf};
+ghost use Rattle.expansion_values.specs.ExpansionValues.{quietOf, wideOf, lightValues, heavyValues, highValues, nodeValues, mesoValues, tropoValues, needAt, withHigh, expansionValuesOf, recordValuesOf};
 use activity::Responses;
 use activity::apdf_from;
 use activity::apt_from;
@@ -19,8 +20,10 @@ use expansion::turns_after;
 use legendre::legendre;
 use numbers::pick;
 use plan::ExpansionValues;
+use setting::Input;
 use setting::View;
 use setting::fresh;
+use setting::views::view_of;
 use tables::pd0;
 use tables::pd1;
 use tables::pd2;
@@ -209,16 +212,13 @@ pub fn ps_value(v: View, g: [[f64; 9]; 4], c: Carried, a: Activity, on: bool) ->
     0.0
 }
 
-// PT and PS where they count, and PD[3], whose activity is c3.
-pub fn warm(v: View, g: [[f64; 9]; 4], c: Carried, a: Activity, c3: Carried, n: Need) -> [f64; 3]
-    requires { ⌜ Shared v × (a ≡ activityIn v ptT) ⌝ }
-    ensures { λ r. ⌜ r ≡ warmValues v g c c3 n ⌝ }
+// PD[3], whose activity is c3.
+pub fn pd3_value(v: View, g: [[f64; 9]; 4], c3: Carried) -> f64
+    requires { ⌜ Shared v ⌝ }
+    ensures { λ r. ⌜ r ≡ globe7Value v pdT3 g c3 ⌝ }
 {
-    let x = pt_value(v, g, c, a, n.pt);
-    let y = ps_value(v, g, c, a, n.ps);
     let p = pd3();
-    let z = globe7_value(v, &p, g, c3);
-    [x, y, z]
+    globe7_value(v, &p, g, c3)
 }
 
 // A local for all sets of a function: one table at a time lies on the stack.
@@ -363,7 +363,9 @@ pub fn expansion_values_of(v: View, n: Need) -> ExpansionValues
     let c7 = active(v, k, p7[51], p7[138], c);
     let p8 = pd8();
     let c8 = active(v, k, p8[51], p8[138], c7);
-    let w = warm(v, g, c, k, c3, n);
+    let x = pt_value(v, g, c, k, n.pt);
+    let y = ps_value(v, g, c, k, n.ps);
+    let z = pd3_value(v, g, c3);
     let l = light(v, g, c, k);
     let h = heavy(v, g, c, k);
     let b = high(v, g, c, k, c7, c8, n.high);
@@ -371,12 +373,12 @@ pub fn expansion_values_of(v: View, n: Need) -> ExpansionValues
     let m = meso(v, g, c8, n.meso);
     let t = tropo(v, g, c8, n.tropo);
     ExpansionValues {
-        pt: w[0],
-        ps: w[1],
+        pt: x,
+        ps: y,
         pd0: l[0],
         pd1: b[0],
         pd2: l[1],
-        pd3: w[2],
+        pd3: z,
         pd4: h[0],
         pd5: h[1],
         pd6: b[1],
@@ -396,5 +398,26 @@ pub fn expansion_values_of(v: View, n: Need) -> ExpansionValues
         pma7: t[4],
         pma8: a[4],
         pma9: m[3],
+    }
+}
+
+// What gts7 and gtd7 read of a record under a switch row, its altitude apart: the switches' main effects, the day as a number, the expansions'
+// values. The View ends here, so that no more of it lies on the stack.
+pub struct RecordValues {
+    pub sw: [f64; 24],
+    pub doy: f64,
+    pub values: ExpansionValues,
+}
+
+pub fn record_values(w: [i32; 24], n: Input, a: Need) -> RecordValues
+    ensures { λ r. ⌜ r ≡ recordValuesOf w n a ⌝ }
+{
+    let v = view_of(w, n);
+    let l = expansion_values_of(v, a);
+    let sw = v.sw;
+    RecordValues {
+        sw: sw,
+        doy: v.doy,
+        values: l,
     }
 }

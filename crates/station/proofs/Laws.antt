@@ -13,7 +13,6 @@ use lib.Seq.{take-at, drop-at, drop-drop, drop-length, take-take, length-take-le
 use lib.Ieee.{Float}
 use Rattle.numbers.specs.Literals.{0·0}
 use Rattle.setting.specs.declared.Input.{Input}
-use Rattle.setting.specs.declared.View.{View}
 use Rattle.setting.specs.declared.Flags.{Flags}
 use Rattle.setting.specs.Switches.{swOf, flagsOf}
 use Rattle.switch_rows.specs.Rows.{sameExpansions}
@@ -22,7 +21,8 @@ use Rattle.acceptance.specs.declared.Answer.{Answer}
 use Rattle.acceptance.specs.declared.Answer.the-variants.{Refused}
 use Rattle.acceptance.specs.Acceptance.{judgedOf, acceptedOf, withAltOf}
 use Rattle.expansion_values.specs.declared.Need.{Need}
-use Rattle.expansion_values.specs.ExpansionValues.{expansionValuesOf}
+use Rattle.expansion_values.specs.declared.RecordValues.{RecordValues}
+use Rattle.expansion_values.specs.ExpansionValues.{expansionValuesOf, recordValuesOf}
 use Rattle.plan.specs.declared.ExpansionValues.{ExpansionValues}
 use Rattle.gts7_arithmetic.specs.declared.Site.{Site}
 use Rattle.station_values.specs.StationValues.{expansionNumbers, expansionValuesIn, siteUnder}
@@ -48,21 +48,20 @@ refill-law w n xs s f x l p e0 e1 e2 e3 e4 =
     rw (e0, made, take-take 14 234 xs (lit≤ tt)) (append-assoc (take 14 xs) _ (drop 234 xs))
 
 -- the record's numbers and the expansions' values in their places
-pub fill-law : (w : List ℤ) (n : Input) (xs zs r s t k : List Float) (l : ExpansionValues) (a : Need) (p : Parts) (v : View)
+pub fill-law : (w : List ℤ) (n : Input) (xs zs r s t k : List Float) (v : RecordValues) (a : Need) (p : Parts)
     → length xs ≡ 259
     → zs ≡ refilledOf w n (putMid 0 14 (putMid 234 25 xs t) s)
     → s ≡ r
     → r ≡ recordNumbers n
     → t ≡ k
-    → k ≡ expansionNumbers l
-    → l ≡ expansionValuesOf v a
+    → k ≡ expansionNumbers (v .values)
+    → v ≡ recordValuesOf w n a
     → a ≡ needOf p
     → p ≡ allParts
-    → v ≡ viewOf w n
     → zs ≡ stationNumbers w n
-unfolding stationNumbers
-fill-law w n xs zs r s t k l a p v len e0 e1 e2 e3 e4 e5 e6 e7 e8 =
-    let held : l ≡ expansionValuesOf (viewOf w n) (needOf allParts) = rw (e5, e6, e7, e8) in
+unfolding stationNumbers recordValuesOf
+fill-law w n xs zs r s t k v a p len e0 e1 e2 e3 e4 e5 e6 e7 =
+    let held : v .values ≡ expansionValuesOf (viewOf w n) (needOf allParts) = rw (e5, e6, e7) in
     let K : List Float = expansionNumbers (expansionValuesOf (viewOf w n) (needOf allParts)) in
     let ys : List Float = putMid 234 25 xs K in
     let written : putMid 0 14 (putMid 234 25 xs t) s ≡ recordNumbers n ++ drop 14 ys = rw (e1, e2, e3, e4, held) in

@@ -9,10 +9,9 @@ use acceptance::accepted;
 use acceptance::judge;
 use acceptance::with_alt;
 use drag_sum::drag_on;
-use expansion_values::expansion_values_of;
+use expansion_values::record_values;
 use setting::Input;
 use setting::switches::tselec;
-use setting::views::view_of;
 use station_record::altitude_answer;
 use station_record::mixing_in;
 use station_record::put_whole;
@@ -56,11 +55,10 @@ pub fn fill(w: [i32; 24], n: Input, numbers: &mut [f64])
     requires { ⌜ length (now numbers) ≡ 259 ⌝ }
     ensures { λ _. ⌜ now (numbers .exit) ≡ stationNumbers w n ⌝ }
 {
-    let v = view_of(w, n);
     let p = all_parts();
     let a = need_of(p);
-    let l = expansion_values_of(v, a);
-    let k = expansion_numbers(l);
+    let v = record_values(w, n, a);
+    let k = expansion_numbers(v.values);
     put(&mut numbers[234..259], &k);
     let r = record_numbers(n);
     put(&mut numbers[0..14], &r);

@@ -1,4 +1,4 @@
--- No expansion reads entry 0 of the switch row or an entry from 15 on: two Views that differ in these entries alone have the same Levels.
+-- No expansion reads entry 0 of the switch row or an entry from 15 on: two Views that differ in these entries alone have the same values of the expansions.
 use Prim.Native.Nat.{ℕ, _+_, _<_}
 use mathlib.Core.Path.{_≡_, refl, sym, ap, ap₂, _∙_}
 use mathlib.Core.List.{List, [], _∷_}
@@ -14,7 +14,7 @@ use Rattle.expansion_parts.specs.ExpansionParts.{t8Of, history8Of, daily8Of, t1
 use Rattle.expansion.specs.declared.Carried.{Carried}
 use Rattle.expansion.specs.Expansion.{firstTermsOf, carriedOf, globe7Value, turnsAfterOf, stateAfter, globe7Of, glob7sValue, glob7sFrom, glob7sOf}
 use Rattle.expansion_values.specs.declared.Need.{Need}
-use Rattle.expansion_values.specs.ExpansionValues.{legendreIn, quietOf, activeOf, wideOf, warmValues, lightValues, heavyValues, highValues, nodeValues, mesoValues, tropoValues, expansionValuesOf}
+use Rattle.expansion_values.specs.ExpansionValues.{legendreIn, quietOf, activeOf, wideOf, lightValues, heavyValues, highValues, nodeValues, mesoValues, tropoValues, expansionValuesOf}
 
 -- a View with other rows
 abbrev pub withRows : View → List Float → List Float → View
@@ -92,7 +92,7 @@ globe7-narrowed v p s =
     ∙ ap (λ (x : Float). globe7Result x (stateAfter (narrowed v) p s)) (globe7-value-narrowed v p _ _)
 
 expansion-values-narrowed : (v : View) (n : Need) → expansionValuesOf v n ≡ expansionValuesOf (narrowed v) n
-unfolding expansionValuesOf warmValues lightValues heavyValues highValues nodeValues mesoValues tropoValues wideOf activeOf quietOf turnsAfterOf legendreIn globe7Value firstTermsOf weightedOf weightedFrom t8Of history8Of daily8Of t10Of t11Of t12Of history12Of daily12Of glob7sFrom glob7sValue t8sOf t10sOf
+unfolding expansionValuesOf lightValues heavyValues highValues nodeValues mesoValues tropoValues wideOf activeOf quietOf turnsAfterOf legendreIn globe7Value firstTermsOf weightedOf weightedFrom t8Of history8Of daily8Of t10Of t11Of t12Of history12Of daily12Of glob7sFrom glob7sValue t8sOf t10sOf
 expansion-values-narrowed v n = refl
 
 -- ---- two Views

@@ -2,19 +2,22 @@
 use mathlib.Core.Path.{ap, _∙_}
 use Rattle.parameters.specs.declared.Parameters.{Parameters}
 use Rattle.atmosphere.specs.Atmosphere.{elevenWith, elevenOf}
-use Rattle.atmosphere.proofs.Laws.{present-mass}
+use Rattle.atmosphere.proofs.Laws.{present-mass, row-with-law}
 use borrow.Author.Needs.{needs}
 use Rattle.atmosphere.proofs.row_of.Statement.{statement}
 use Rattle.atmosphere.proofs.row_of.Tie as tie
 
-row-with-requires : tie.Need-row-with-requires
-row-with-requires c κs = (search needs, (rw (← c .before .present .ensures) at present-mass))
+row-from-requires : tie.Need-row-from-requires
+row-from-requires c κs = (search needs, (rw (← c .before .present .ensures) at present-mass))
 
 returns : tie.Need-returns
 unfolding elevenOf
 returns c =
-    let A = c .before .before .before .before .before .before .args in
-    c .before .before .row-with .ensures ∙ ap (λ (k : Parameters). elevenWith k (A .w) (A .n)) (c .before .before .before .before .present .ensures)
+    let nine = c .before .before .before .before in
+    let at = nine .before in
+    let A = at .before .before .args in
+    row-with-law (nine .present .result) (A .w) (A .n) _ (at .values-at .result) (c .before .before .row-from .ensures) (at .values-at .ensures) (rw (← nine .present .ensures) at present-mass)
+    ∙ ap (λ (k : Parameters). elevenWith k (A .w) (A .n)) (nine .present .ensures)
 
 pub row-of-spec : {M : Type 1} → statement M
-row-of-spec = tie.close (tie.spec (λ c κs. search needs) row-with-requires (λ c. search needs) returns)
+row-of-spec = tie.close (tie.spec (λ c κs. search needs) (λ c κs. search needs) row-from-requires (λ c. search needs) returns)
