@@ -1,8 +1,13 @@
 -- `nitrogen_stage` meets its contract.
+use lib.Ieee.{Float}
 use Rattle.numbers.specs.Arithmetic.{_‼_}
-use Rattle.tables.specs.Tables.{pdmT6}
+use Rattle.plan.specs.Plan.{told, _>>=_}
+use Rattle.tables.specs.Tables.{pdmT6, pdT7}
+use Rattle.species.specs.Species.{nitrogenOf}
+use Rattle.species.specs.Rooted.{nitrogenRootOf, root-is, nitrogen-is}
 use Rattle.species.proofs.Laws.{logged-at}
-use Rattle.stages.proofs.Laws.{logged-there, nitrogen-law}
+use Rattle.stages.specs.Stages.{nitrogenPlan}
+use Rattle.stages.proofs.Laws.{logged-there, species-law}
 use borrow.Author.Needs.{needs}
 use Rattle.stages.proofs.nitrogen_stage.Statement.{statement}
 use Rattle.stages.proofs.nitrogen_stage.Tie as tie
@@ -14,10 +19,15 @@ nitrogen-requires : tie.Need-nitrogen-requires
 nitrogen-requires c κs = let A = c .before .before .before .before .before .args in logged-at (A .h) (A .z) (A .p) (c .before .before .before .before .before .pre .0)
 
 returns : tie.Need-returns
-returns c = let A = c .before .before .before .before .before .before .args in
-    nitrogen-law (A .t1) (A .h) (A .z) (A .p) (A .w) (A .t) (A .b28) (A .zhm) (A .xmm) (A .l)
-    (c .nitrogen .result) (c .before .nitrogen-root .result) (A .on) (c .before .before .exp .result) (c .before .before .before .before .pdm6 .result) (c .before .before .before .before .before .pd7 .result)
-    (c .nitrogen .ensures) (c .before .nitrogen-root .ensures) (c .before .before .exp .ensures) (c .before .before .before .before .pdm6 .ensures) (c .before .before .before .before .before .pd7 .ensures) (c .before .before .before .before .before .before .pre)
+unfolding told nitrogenPlan _>>=_ nitrogenRootOf
+returns c =
+    let start = c .before .before .before .before .before .before in
+    let A = start .args in
+    let q = c .before in
+    species-law (λ (db : Float). nitrogenOf (A .h) (A .on) (A .z) (A .b28) db (A .zhm) (A .xmm)) pdmT6 pdT7 _ _ _ _ _ _
+    (nitrogen-is (A .h) (A .on) (A .z) (A .p) (A .t) (q .nitrogen-root .result) (start .pre .0) (A .b28) _ (A .zhm) (A .xmm) (start .pre .2)
+    (root-is (A .on) (A .h) (pdmT6 ‼ 2) (A .w) _ _ _ _ (q .nitrogen-root .result) (q .nitrogen-root .ensures) (start .pre .1)))
+    (c .nitrogen .ensures) (c .before .before .exp .ensures) (c .before .before .before .before .pdm6 .ensures) (c .before .before .before .before .before .pd7 .ensures)
 
 pub nitrogen-stage-spec : {M : Type 1} → statement M
 nitrogen-stage-spec =

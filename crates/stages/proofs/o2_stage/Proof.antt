@@ -1,8 +1,13 @@
 -- `o2_stage` meets its contract.
+use lib.Ieee.{Float}
 use Rattle.numbers.specs.Arithmetic.{_‼_}
-use Rattle.tables.specs.Tables.{pdmT3}
+use Rattle.plan.specs.Plan.{told, _>>=_}
+use Rattle.species.specs.Species.{o2Of}
+use Rattle.species.specs.Rooted.{o2RootOf, root-is, o2-is}
+use Rattle.stages.specs.Stages.{o2Plan}
+use Rattle.tables.specs.Tables.{pdmT3, pdT4}
 use Rattle.species.proofs.Laws.{logged-at}
-use Rattle.stages.proofs.Laws.{logged-there, o2-law}
+use Rattle.stages.proofs.Laws.{logged-there, species-law}
 use borrow.Author.Needs.{needs}
 use Rattle.stages.proofs.o2_stage.Statement.{statement}
 use Rattle.stages.proofs.o2_stage.Tie as tie
@@ -14,10 +19,15 @@ o2-requires : tie.Need-o2-requires
 o2-requires c κs = let A = c .before .before .before .before .before .before .args in logged-at (A .h) (A .z) (A .p) (c .before .before .before .before .before .before .pre .0)
 
 returns : tie.Need-returns
-returns c = let A = c .before .before .before .before .before .before .before .args in
-    o2-law (A .t1) (A .h) (A .z) (A .p) (A .w) (A .t) (A .b28) (A .zhm) (A .xmm) (A .flux) (A .l)
-    (c .o2 .result) (c .before .o2-root .result) (A .on) (c .before .before .exp .result) (c .before .before .before .before .before .pdm3 .result) (c .before .before .before .before .before .before .pd4 .result) (c .before .before .before .before .pdl1 .result)
-    (c .o2 .ensures) (c .before .o2-root .ensures) (c .before .before .exp .ensures) (c .before .before .before .before .before .pdm3 .ensures) (c .before .before .before .before .before .before .pd4 .ensures) (c .before .before .before .before .pdl1 .ensures) (c .before .before .before .before .before .before .before .pre)
+unfolding told o2Plan _>>=_ o2RootOf
+returns c =
+    let start = c .before .before .before .before .before .before .before in
+    let A = start .args in
+    let q = c .before in
+    species-law (λ (db : Float). o2Of (A .h) (A .t1 ‼ 15) (A .on) (A .z) (A .b28) db (A .zhm) (A .xmm) (A .flux)) pdmT3 pdT4 _ _ _ _ _ _
+    (o2-is (A .h) (A .on) (A .z) (A .p) (A .t) (q .o2-root .result) (start .pre .0) (A .t1 ‼ 15) (A .b28) _ (A .zhm) (A .xmm) (A .flux) _ (start .pre .2)
+    (root-is (A .on) (A .h) (pdmT3 ‼ 2) (A .w) _ _ _ _ (q .o2-root .result) (q .o2-root .ensures) (start .pre .1)) (rw (c .before .before .before .before .before .pdm3 .ensures, c .before .before .before .before .pdl1 .ensures)))
+    (c .o2 .ensures) (c .before .before .exp .ensures) (c .before .before .before .before .before .pdm3 .ensures) (c .before .before .before .before .before .before .pd4 .ensures)
 
 pub o2-stage-spec : {M : Type 1} → statement M
 o2-stage-spec =
