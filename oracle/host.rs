@@ -15,12 +15,13 @@ pub type OneAltitude = unsafe extern "C" fn(
     n_row: usize,
 ) -> u64;
 
-// Calls of a library that take a record and a switch row, and then the slices named.
+// Calls of a library that take a record and a switch row, and then what is named; in brackets what stands before the record.
 macro_rules! of_a_record {
-    ($($call:ident($($slice:ident: $kind:ty, $length:ident),*);)*) => {
+    ($($call:ident($([$($first:ident: $a:ty),*],)? $($more:ident: $b:ty),*);)*) => {
         extern "C" {
             $(#[allow(dead_code)]
             pub fn $call(
+                $($($first: $a,)*)?
                 year: i32,
                 doy: i32,
                 fields: *const f64,
@@ -29,7 +30,7 @@ macro_rules! of_a_record {
                 n_ap: usize,
                 switches: *const i32,
                 n_switches: usize,
-                $($slice: $kind, $length: usize),*
+                $($more: $b),*
             ) -> u64;)*
         }
     };
@@ -38,79 +39,21 @@ macro_rules! of_a_record {
 pub(crate) use of_a_record;
 
 of_a_record! {
-    potirehu_gtd7(row: *mut f64, n_row);
-    potirehu_gtd7d(row: *mut f64, n_row);
-    potirehu_gtd7_column(altitudes: *const f64, n, rows: *mut f64, n_rows);
-    potirehu_station(whole: *mut i32, n_whole, numbers: *mut f64, n_numbers);
+    potirehu_gtd7(row: *mut f64, n_row: usize);
+    potirehu_gtd7d(row: *mut f64, n_row: usize);
+    potirehu_gtd7_column(altitudes: *const f64, n: usize, rows: *mut f64, n_rows: usize);
+    potirehu_station(whole: *mut i32, n_whole: usize, numbers: *mut f64, n_numbers: usize);
+    potirehu_crossings(altitudes: *const f64, n: usize, level: f64, list: *mut u64, n_list: usize);
+    potirehu_first_below(altitudes: *const f64, n: usize, level: f64, row: *mut f64, n_row: usize);
+    potirehu_descent(start: i64, settings: *const i32, n_settings: usize, losses: *mut i64, n_losses: usize, end: *mut i64, n_end: usize);
+    potirehu_gtd7_with([nine: *const f64, n_nine: usize], row: *mut f64, n_row: usize);
 }
 
-extern "C" {
-    #[allow(dead_code)]
-    fn potirehu_crossings(
-        year: i32,
-        doy: i32,
-        fields: *const f64,
-        n_fields: usize,
-        ap_array: *const f64,
-        n_ap: usize,
-        switches: *const i32,
-        n_switches: usize,
-        altitudes: *const f64,
-        n: usize,
-        level: f64,
-        list: *mut u64,
-        n_list: usize,
-    ) -> u64;
-}
-
-extern "C" {
-    #[allow(dead_code)]
-    fn potirehu_first_below(
-        year: i32,
-        doy: i32,
-        fields: *const f64,
-        n_fields: usize,
-        ap_array: *const f64,
-        n_ap: usize,
-        switches: *const i32,
-        n_switches: usize,
-        altitudes: *const f64,
-        n: usize,
-        level: f64,
-        row: *mut f64,
-        n_row: usize,
-    ) -> u64;
-    fn potirehu_descent(
-        year: i32,
-        doy: i32,
-        fields: *const f64,
-        n_fields: usize,
-        ap_array: *const f64,
-        n_ap: usize,
-        switches: *const i32,
-        n_switches: usize,
-        start: i64,
-        settings: *const i32,
-        n_settings: usize,
-        losses: *mut i64,
-        n_losses: usize,
-        end: *mut i64,
-        n_end: usize,
-    ) -> u64;
-    fn potirehu_gtd7_with(
-        nine: *const f64,
-        n_nine: usize,
-        year: i32,
-        doy: i32,
-        fields: *const f64,
-        n_fields: usize,
-        ap_array: *const f64,
-        n_ap: usize,
-        switches: *const i32,
-        n_switches: usize,
-        row: *mut f64,
-        n_row: usize,
-    ) -> u64;
+// Such a call, with the record's slices as they are handed over, so that they may have any length.
+macro_rules! call {
+    ($call:ident([$($first:expr),*], $year:expr, $doy:expr, $fields:expr, $ap:expr, $w:expr, $($more:expr),*)) => {
+        parted(unsafe { $call($($first,)* $year, $doy, $fields.as_ptr(), $fields.len(), $ap.as_ptr(), $ap.len(), $w.as_ptr(), $w.len(), $($more),*) })
+    };
 }
 
 extern "C" {
@@ -157,9 +100,9 @@ fn parted(code: u64) -> (u64, u64) {
     (code >> 32, code & 0xffff_ffff)
 }
 
-// A one-altitude call; the slices as they are handed over, so that they may have any length.
+// A one-altitude call.
 pub fn one_altitude(call: OneAltitude, year: i32, doy: i32, fields: &[f64], ap: &[f64], w: &[i32], row: &mut [f64]) -> (u64, u64) {
-    parted(unsafe { call(year, doy, fields.as_ptr(), fields.len(), ap.as_ptr(), ap.len(), w.as_ptr(), w.len(), row.as_mut_ptr(), row.len()) })
+    call!(call([], year, doy, fields, ap, w, row.as_mut_ptr(), row.len()))
 }
 
 pub fn ours(r: &Input, w: &[i32; 24], row: &mut [f64]) -> (u64, u64) {
@@ -169,135 +112,41 @@ pub fn ours(r: &Input, w: &[i32; 24], row: &mut [f64]) -> (u64, u64) {
 
 pub fn ours_column(r: &Input, w: &[i32; 24], alts: &[f64], rows: &mut [f64]) -> (u64, u64) {
     let (fields, ap, n_ap) = numbers(r);
-    parted(unsafe {
-        potirehu_gtd7_column(
-            r.year,
-            r.doy,
-            fields.as_ptr(),
-            8,
-            ap.as_ptr(),
-            n_ap,
-            w.as_ptr(),
-            24,
-            alts.as_ptr(),
-            alts.len(),
-            rows.as_mut_ptr(),
-            rows.len(),
-        )
-    })
+    call!(potirehu_gtd7_column([], r.year, r.doy, fields, &ap[..n_ap], w, alts.as_ptr(), alts.len(), rows.as_mut_ptr(), rows.len()))
 }
 
-// The crossings: (0, the list's length) or a refusal; the record's slices as they are handed over, so that they may have any length.
+// The crossings: (0, the list's length) or a refusal.
 #[allow(dead_code)]
 pub fn crossings(year: i32, doy: i32, fields: &[f64], ap: &[f64], w: &[i32], alts: &[f64], level: f64, list: &mut [u64]) -> (u64, u64) {
-    parted(unsafe {
-        potirehu_crossings(
-            year,
-            doy,
-            fields.as_ptr(),
-            fields.len(),
-            ap.as_ptr(),
-            ap.len(),
-            w.as_ptr(),
-            w.len(),
-            alts.as_ptr(),
-            alts.len(),
-            level,
-            list.as_mut_ptr(),
-            list.len(),
-        )
-    })
+    call!(potirehu_crossings([], year, doy, fields, ap, w, alts.as_ptr(), alts.len(), level, list.as_mut_ptr(), list.len()))
 }
 
 // The answer where no altitude is thin enough.
 #[allow(dead_code)]
 pub const NOWHERE: u64 = header("#define POTIREHU_NOWHERE ") as u64;
 
-// The first altitude thin enough: (0, its index or NOWHERE) or a refusal; the slices as they are handed over, so that they may have any length.
+// The first altitude thin enough: (0, its index or NOWHERE) or a refusal.
 #[allow(dead_code)]
 pub fn first_below(year: i32, doy: i32, fields: &[f64], ap: &[f64], w: &[i32], alts: &[f64], level: f64, row: &mut [f64]) -> (u64, u64) {
-    parted(unsafe {
-        potirehu_first_below(
-            year,
-            doy,
-            fields.as_ptr(),
-            fields.len(),
-            ap.as_ptr(),
-            ap.len(),
-            w.as_ptr(),
-            w.len(),
-            alts.as_ptr(),
-            alts.len(),
-            level,
-            row.as_mut_ptr(),
-            row.len(),
-        )
-    })
+    call!(potirehu_first_below([], year, doy, fields, ap, w, alts.as_ptr(), alts.len(), level, row.as_mut_ptr(), row.len()))
 }
 
-// A descent; the record's slices as they are handed over, so that they may have any length.
+// A descent.
 #[allow(dead_code)]
 pub fn descent(year: i32, doy: i32, fields: &[f64], ap: &[f64], w: &[i32], start: i64, settings: &[i32], losses: &mut [i64], end: &mut [i64]) -> (u64, u64) {
-    parted(unsafe {
-        potirehu_descent(
-            year,
-            doy,
-            fields.as_ptr(),
-            fields.len(),
-            ap.as_ptr(),
-            ap.len(),
-            w.as_ptr(),
-            w.len(),
-            start,
-            settings.as_ptr(),
-            settings.len(),
-            losses.as_mut_ptr(),
-            losses.len(),
-            end.as_mut_ptr(),
-            end.len(),
-        )
-    })
+    let (n_settings, n_losses, n_end) = (settings.len(), losses.len(), end.len());
+    call!(potirehu_descent([], year, doy, fields, ap, w, start, settings.as_ptr(), n_settings, losses.as_mut_ptr(), n_losses, end.as_mut_ptr(), n_end))
 }
 
-// The one-altitude call with nine constants; the slices as they are handed over, so that they may have any length.
+// The one-altitude call with nine constants.
 #[allow(dead_code)]
 pub fn gtd7_with(nine: &[f64], year: i32, doy: i32, fields: &[f64], ap: &[f64], w: &[i32], row: &mut [f64]) -> (u64, u64) {
-    parted(unsafe {
-        potirehu_gtd7_with(
-            nine.as_ptr(),
-            nine.len(),
-            year,
-            doy,
-            fields.as_ptr(),
-            fields.len(),
-            ap.as_ptr(),
-            ap.len(),
-            w.as_ptr(),
-            w.len(),
-            row.as_mut_ptr(),
-            row.len(),
-        )
-    })
+    call!(potirehu_gtd7_with([nine.as_ptr(), nine.len()], year, doy, fields, ap, w, row.as_mut_ptr(), row.len()))
 }
 
-// Prepares a station; the record's slices as they are handed over, so that they may have any length.
+// Prepares a station.
 pub fn station(year: i32, doy: i32, fields: &[f64], ap: &[f64], w: &[i32], whole: &mut [i32], numbers: &mut [f64]) -> (u64, u64) {
-    parted(unsafe {
-        potirehu_station(
-            year,
-            doy,
-            fields.as_ptr(),
-            fields.len(),
-            ap.as_ptr(),
-            ap.len(),
-            w.as_ptr(),
-            w.len(),
-            whole.as_mut_ptr(),
-            whole.len(),
-            numbers.as_mut_ptr(),
-            numbers.len(),
-        )
-    })
+    call!(potirehu_station([], year, doy, fields, ap, w, whole.as_mut_ptr(), whole.len(), numbers.as_mut_ptr(), numbers.len()))
 }
 
 pub fn station_gtd7(whole: &[i32], numbers: &[f64], alt: f64, row: &mut [f64]) -> (u64, u64) {

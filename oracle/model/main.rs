@@ -21,7 +21,7 @@ use std::time::Instant;
 type Input = untouched::astro::atmosphere::NrlmsiseInput;
 
 host::of_a_record! {
-    state_after_gtd7(numbers: *mut f64, n_numbers);
+    state_after_gtd7(numbers: *mut f64, n_numbers: usize);
 }
 
 // The record for another copy of the Rust.
