@@ -1,11 +1,11 @@
--- S8 of document 01, and its altitude case: one table, and one statement that covers it; and the cases of refusal 10 in the same form.
+-- Cases of the altitude's range, and of refusal 10: a table each, and one statement that covers it.
 use mathlib.Core.Path.{_≡_, refl}
 use mathlib.Core.Bool.{Bool, true, false, _&&_}
 use mathlib.Core.List.{List, [], _∷_, map}
 use lib.IntN.{ℤ, pos}
 use lib.ListN.{replicate, set}
 use lib.Ieee.{Float, neg, le, lt, ofBits, round}
-use Rattle.numbers.specs.Literals.{dec, 0·0, 4·0, 16·0, 70·0, 72·5, 100·0, 150·0, 400·0, 1000·0, 2500·0}
+use Rattle.numbers.specs.Literals.{dec, 0·0, 4·0, 16·0, 70·0, 72·5, 100·0, 150·0, 2500·0}
 use Rattle.numbers.specs.Tests.{finiteOf}
 use Rattle.setting.specs.declared.Input.{Input}
 use Rattle.setting.specs.declared.History.the-variants.{Present}
@@ -37,17 +37,15 @@ pub record AnswerCase : Type 0 where
   pub given : Answer
   pub answer : Answer
 
--- S8 is the first two: g_long -1,000 and -1,000.5; then alt 2,500 and 2,500.5
+-- alt 2,500 and 2,500.5
 unfoldable pub answerCases : List ℤ → List AnswerCase
 answerCases w =
-    record { given = judgedOf w (sample 400·0 (neg 1000·0)); answer = Accepted } ∷
-    record { given = judgedOf w (sample 400·0 (neg (dec 10005 1))); answer = Refused 3 5 } ∷
     record { given = judgedOf w (sample 2500·0 (neg 70·0)); answer = Accepted } ∷
     record { given = judgedOf w (sample (dec 25005 1) (neg 70·0)); answer = Refused 3 3 } ∷
     []
 
 -- with its array there, no row finds the history lacking
-array-there : (b : Bool) → (b && false) ≡ false
+pub array-there : (b : Bool) → (b && false) ≡ false
 array-there true = refl
 array-there false = refl
 

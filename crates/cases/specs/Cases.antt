@@ -1,11 +1,12 @@
 -- S1 to S10 of document 01: one table, and one statement that covers it; and ccor at e = 70 and -70.
 use Prim.Native.Nat.{_≤_}
-use mathlib.Core.Path.{_≡_, refl, ap}
+use mathlib.Core.Path.{_≡_, refl}
 use mathlib.Core.List.{List, [], _∷_}
 use lib.IntN.{ℤ, pos}
-use lib.ListN.{length, getD}
-use lib.Ieee.{Float, neg, ofBits, add, sub, mul, div, lt, eq, isNan, round}
+use lib.ListN.{length}
+use lib.Ieee.{Float, neg, ofBits, add, sub, mul, div, lt, le, eq, isNan, round}
 use Rattle.numbers.specs.Arithmetic.{_⊕_, _⊖_, _⊘_, _‼_}
+use Rattle.numbers.specs.Tests.{finiteOf}
 use Rattle.numbers.specs.Literals.{dec, 0·0, 0·5, 1·0, 2·0, 3·0, 4·0, 5·0, 70·0, 100·0, 400·0, 1000·0}
 use Rattle.elementary.specs.Exp.{expOf}
 use Rattle.natural_exponential.specs.Exp.{coarse, fine}
@@ -14,14 +15,15 @@ use Rattle.spline.specs.Nodes.{splintOf, searched, spliniOf, integral, segmentO
 use Rattle.setting.specs.declared.Input.{Input}
 use Rattle.setting.specs.declared.State.{State}
 use Rattle.setting.specs.Switches.{given, swOf, swcOf}
+use Rattle.setting.specs.ApHistory.{asksHistoryOf, lacksHistoryOf}
 use Rattle.setting.specs.Cases.{s5, s6}
 use Rattle.expansion_calls.specs.declared.Expanded.{Expanded}
 use Rattle.expansion_calls.specs.ExpansionCalls.{acceptedCall, glob7sCallOf}
 use Rattle.expansion_calls.specs.Cases.{s7}
 use Rattle.acceptance.specs.declared.Answer.{Answer}
 use Rattle.acceptance.specs.declared.Answer.the-variants.{Accepted, Refused}
-use Rattle.acceptance.specs.Acceptance.{judgedOf}
-use Rattle.acceptance.specs.Cases as accept
+use Rattle.acceptance.specs.Acceptance.{withinOf, arrayUnfitOf, unfitOf, arrayOutsideOf, outsideOf, foundOf, judgedOf}
+use Rattle.acceptance.specs.Cases.{sample, array-there}
 
 -- a case: what the definition gives, and document 01's figure or answer
 pub data Case : Type 0 where
@@ -58,8 +60,8 @@ cases zhm xmm xm r w p n s =
     number (swOf w ‼ 3) 0·0 ∷ number (swcOf w ‼ 3) 1·0 ∷
     number (swOf w ‼ 9) 2·0 ∷ number (swcOf w ‼ 9) 2·0 ∷
     expanded (glob7sCallOf w n p s) (acceptedCall (neg 1·0) s) ∷
-    answer (judgedOf w (accept.sample 400·0 (neg 1000·0))) Accepted ∷
-    answer (judgedOf w (accept.sample 400·0 (neg (dec 10005 1)))) (Refused 3 5) ∷
+    answer (judgedOf w (sample 400·0 (neg 1000·0))) Accepted ∷
+    answer (judgedOf w (sample 400·0 (neg (dec 10005 1)))) (Refused 3 5) ∷
     number (splintOf xa ya y2a 2 0·5) 3·0 ∷
     number (spliniOf xa ya y2a 2 0·5) (dec 125 2) ∷
     []
@@ -73,14 +75,9 @@ spline-holds : (splintOf xa ya y2a 2 0·5 ≡ 3·0) × (spliniOf xa ya y2a 2 0·
 unfolding splintOf searched spliniOf integral segmentOf ofBits dec add sub mul div lt eq neg round
 spline-holds = (refl, refl)
 
--- S8, from the table in the crate acceptance
-long : (w : List ℤ) → judgedOf w (accept.sample 400·0 (neg 1000·0)) ≡ Accepted
-unfolding accept.answerCases
-long w = ap (λ (l : List Answer). getD l 0 Accepted) (accept.answer-cases-hold w)
-
-short : (w : List ℤ) → judgedOf w (accept.sample 400·0 (neg (dec 10005 1))) ≡ Refused 3 5
-unfolding accept.answerCases
-short w = ap (λ (l : List Answer). getD l 1 Accepted) (accept.answer-cases-hold w)
+longitude-holds : (w : List ℤ) → (judgedOf w (sample 400·0 (neg 1000·0)) ≡ Accepted) × (judgedOf w (sample 400·0 (neg (dec 10005 1))) ≡ Refused 3 5)
+unfolding judgedOf lacksHistoryOf outsideOf arrayOutsideOf unfitOf arrayUnfitOf foundOf withinOf finiteOf dec neg le lt round ofBits
+longitude-holds w = (rw (array-there (asksHistoryOf w)) refl, rw (array-there (asksHistoryOf w)) refl)
 
 -- Each case holds: S5 and S6 where switches 3 and 9 are at 2, S7 where there are 100 to 150 coefficients and p[99] = 1.
 pub cases-hold : (zhm xmm xm r : Float) (w : List ℤ) (p : List Float) (n : Input) (s : State)
@@ -90,7 +87,8 @@ cases-hold zhm xmm xm r w p n s three nine lo hi e =
     let m = mixing-holds zhm xmm xm r in
     let a = s5 w three in
     let b = s6 w nine in
-    (m .0, (m .1, (m .2, (m .3, (a .0, (a .1, (b .0, (b .1, (s7 w n p s lo hi e, (long w, (short w, (spline-holds .0, (spline-holds .1, tt)))))))))))))
+    let l = longitude-holds w in
+    (m .0, (m .1, (m .2, (m .3, (a .0, (a .1, (b .0, (b .1, (s7 w n p s lo hi e, (l .0, (l .1, (spline-holds .0, (spline-holds .1, tt)))))))))))))
 
 -- e exactly 70, and exactly -70, takes the formula
 pub ccor-at-70 : (alt r h1 zh : Float) → (alt ⊖ zh) ⊘ h1 ≡ 70·0 → ccorOf alt r h1 zh ≡ expOf (r ⊘ (1·0 ⊕ expOf 70·0))

@@ -418,13 +418,6 @@ pub is-110·0 : 110·0 ≡ dec 110 0
 unfolding ofBits dec round
 is-110·0 = refl
 
-abbrev pub 120·0 : Float
-120·0 = ofBits binary64 0x405e000000000000
-
-pub is-120·0 : 120·0 ≡ dec 120 0
-unfolding ofBits dec round
-is-120·0 = refl
-
 abbrev pub 150·0 : Float
 150·0 = ofBits binary64 0x4062c00000000000
 

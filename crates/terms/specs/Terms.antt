@@ -76,12 +76,14 @@ activityTermOf g a k0 k1 k2 k3 k4 k5 cd14 c5 z =
 -- t[10]: what the cosine of longitude is multiplied by
 unfoldable pub longCosOf : List Float → List (List Float) → Float → Float → Float
 longCosOf p g c5 cd14 =
-    p ‼ 64 ⊗ at g 1 2 ⊕ p ‼ 65 ⊗ at g 1 4 ⊕ p ‼ 66 ⊗ at g 1 6 ⊕ p ‼ 103 ⊗ at g 1 1 ⊕ p ‼ 104 ⊗ at g 1 3 ⊕ p ‼ 105 ⊗ at g 1 5 ⊕ c5 ⊗ (p ‼ 109 ⊗ at g 1 1 ⊕ p ‼ 110 ⊗ at g 1 3 ⊕ p ‼ 111 ⊗ at g 1 5) ⊗ cd14
+    p ‼ 64 ⊗ at g 1 2 ⊕ p ‼ 65 ⊗ at g 1 4 ⊕ p ‼ 66 ⊗ at g 1 6 ⊕ p ‼ 103 ⊗ at g 1 1 ⊕ p ‼ 104 ⊗ at g 1 3 ⊕ p ‼ 105 ⊗ at g 1 5
+    ⊕ c5 ⊗ (p ‼ 109 ⊗ at g 1 1 ⊕ p ‼ 110 ⊗ at g 1 3 ⊕ p ‼ 111 ⊗ at g 1 5) ⊗ cd14
 
 -- t[10]: what the sine of longitude is multiplied by
 unfoldable pub longSinOf : List Float → List (List Float) → Float → Float → Float
 longSinOf p g c5 cd14 =
-    p ‼ 90 ⊗ at g 1 2 ⊕ p ‼ 91 ⊗ at g 1 4 ⊕ p ‼ 92 ⊗ at g 1 6 ⊕ p ‼ 106 ⊗ at g 1 1 ⊕ p ‼ 107 ⊗ at g 1 3 ⊕ p ‼ 108 ⊗ at g 1 5 ⊕ c5 ⊗ (p ‼ 112 ⊗ at g 1 1 ⊕ p ‼ 113 ⊗ at g 1 3 ⊕ p ‼ 114 ⊗ at g 1 5) ⊗ cd14
+    p ‼ 90 ⊗ at g 1 2 ⊕ p ‼ 91 ⊗ at g 1 4 ⊕ p ‼ 92 ⊗ at g 1 6 ⊕ p ‼ 106 ⊗ at g 1 1 ⊕ p ‼ 107 ⊗ at g 1 3 ⊕ p ‼ 108 ⊗ at g 1 5
+    ⊕ c5 ⊗ (p ‼ 112 ⊗ at g 1 1 ⊕ p ‼ 113 ⊗ at g 1 3 ⊕ p ‼ 114 ⊗ at g 1 5) ⊗ cd14
 
 -- t[11]: the UT part
 unfoldable pub utMeanOf : List Float → List (List Float) → Float → Float → Float → Float → Float
