@@ -126,16 +126,15 @@ def names():
 def proof(function, definition, constant):
     read_row = "[" in constant
     needs = "use borrow.Author.Needs.{needs}\n" if read_row else ""
-    row = "array-copy-out-result : tie.Need-array-copy-out-result\narray-copy-out-result c = search needs\n\n" if read_row else ""
     return (
         f"-- `{function}` is the definition's list. Made by scripts/tables.py.\n"
         f"use mathlib.Core.Path.{{refl}}\n{needs}"
         f"use Rattle.tables.specs.Tables.{{{definition}}}\n"
         f"use Rattle.tables.proofs.{function}.Statement.{{statement}}\n"
-        f"use Rattle.tables.proofs.{function}.Tie as tie\n\n{row}"
+        f"use Rattle.tables.proofs.{function}.Tie as tie\n\n"
         f"returns : tie.Need-returns\nunfolding {definition}\nreturns c = refl\n\n"
         f"pub {function}-spec : {{M : Type 1}} → statement M\n"
-        f"{function}-spec = tie.close (tie.spec {'array-copy-out-result ' if read_row else ''}returns)\n"
+        f"{function}-spec = tie.close (tie.spec {'(λ c. search needs) ' if read_row else ''}returns)\n"
     )
 
 
