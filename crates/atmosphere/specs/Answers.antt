@@ -2,9 +2,7 @@
 use mathlib.Core.Path.{_≡_, refl, sym, ap, _∙_}
 use mathlib.Core.Bool.{Bool, true, false, cond, not, false≢true}
 use mathlib.Core.List.{List}
-use Prim.Native.Nat.{ℕ}
 use borrow.Author.Tests.{not-false}
-use lib.ListN.{replicate}
 use lib.Ieee.{Float, ne, lt, le, ofBits}
 use Rattle.numbers.specs.Arithmetic.{_⊕_, _⊖_, _⊗_, _‼_}
 use Rattle.numbers.specs.Literals.{0·0, 1·0, 32·5, 72·5, 300·0}
@@ -19,7 +17,7 @@ use Rattle.tables.specs.Tables.{ptT, psT, pdT0, pdT1, pdT2, pdT3, pdT4, pdT5, p
 use Rattle.plan.specs.Fields.{Fields, fieldsOf, withFields}
 use Rattle.plan.specs.Plan.{Plan, done, ask, keep, _>>=_, one-plus-globe7, exp-globe7, one-plus-glob7s, one-minus-glob7s, onePlusGlobe7Of, expGlobe7Of, onePlusGlob7sOf, oneMinusGlob7sOf, answer, run, Ran, ends, told, fieldsAfter, stepped, answerTo, wideIn, narrowIn}
 use Rattle.expansion_values.specs.declared.Need.{Need}
-use Rattle.expansion_values.specs.ExpansionValues.{legendreIn, quietOf, activeOf, wideOf, lightValues, heavyValues, highIn, highValues, nodesIn, nodeValues, mesoIn, mesoValues, tropoIn, tropoValues, needAt, withHigh, expansionValuesOf}
+use Rattle.expansion_values.specs.ExpansionValues.{legendreIn, quietOf, activeOf, wideOf, needAt, withHigh, expansionValuesOf}
 use Rattle.expansion_values.specs.Settled.{Settled, fresh-settled, after-settled, globe7-first, globe7-second, glob7s-first, glob7s-second, Kept, kept-done, kept-ask, kept-keep, kept-then, kept-either}
 use Rattle.mixing.specs.declared.limits.Mixed.{Mixed}
 use Rattle.profile.specs.declared.unchecked.Shape.{Shape}
@@ -83,11 +81,7 @@ takes-history PD6 = refl
 takes-history PD7 = refl
 takes-history PD8 = refl
 
--- an entry of a list that is there where a set is needed
-needed : (b : Bool) (xs ys : List Float) (i : ℕ) → b ≡ true → ys ‼ i ≡ cond (not b) xs ys ‼ i
-needed true xs ys i e = refl
-needed false xs ys i e = absurd (false≢true e)
-
+-- a value is there where its set is needed
 value : (b : Bool) (x : Float) → b ≡ true → x ≡ cond b x 0·0
 value true x e = refl
 value false x e = absurd (false≢true e)
@@ -98,9 +92,6 @@ same-globe7 v p s e = cc e
 
 -- gts7 asks for O, H, N and anomalous O at every altitude
 module _ (v : View) (n : Need) (hi : n .high ≡ true) where
-  abbrev highest : List Float
-  highest = highIn v (legendreIn v) (quietOf v) (activeOf v pdT7 (quietOf v)) (activeOf v pdT8 (activeOf v pdT7 (quietOf v)))
-
   -- a step that sets fields
   sets : {A : Type 0} {Q : State → Type 0} {u : Fields → Fields} {m : Plan A} {s : State} → Kept v (answerTo (expansionValuesOf v n)) Q m s → Kept v (answerTo (expansionValuesOf v n)) Q (keep u m) s
   sets h = kept-keep v (answerTo (expansionValuesOf v n)) h
@@ -173,21 +164,19 @@ module _ (v : View) (n : Need) (hi : n .high ≡ true) where
   tlb-kept s h = plus After3 (v .sw ‼ 17) PD3 _ s h refl refl (kept-done v (answerTo (expansionValuesOf v n)) After3 _ _ refl)
 
   -- PTL and PMA[8] from the State after PD[3]
-  in-nodes : (s : State) → After3 s → (q : List Float) (i : ℕ)
-      → glob7sFrom v q (legendreIn v) (activeOf v pdT3 (quietOf v)) ≡ nodeValues v (legendreIn v) (activeOf v pdT3 (quietOf v)) (n .nodes) ‼ i
-      → glob7sOf v q s ≡ nodeValues v (legendreIn v) (activeOf v pdT3 (quietOf v)) (n .nodes) ‼ i
-  in-nodes s h q i x = ap (glob7sOf v q) h ∙ glob7s-first v pdT3 q ∙ x
+  in-nodes : (s : State) → After3 s → n .nodes ≡ true → (q : List Float) → glob7sOf v q s ≡ cond (n .nodes) (glob7sFrom v q (legendreIn v) (activeOf v pdT3 (quietOf v))) 0·0
+  in-nodes s h c q = ap (glob7sOf v q) h ∙ glob7s-first v pdT3 q ∙ value (n .nodes) _ c
 
   nodes-kept : (z : Float) → (lt z 300·0 ≡ true → n .nodes ≡ true) → (s : State) → After3 s → Kept v (answerTo (expansionValuesOf v n)) After3 (nodesPlan (v .sw) z) s
-  unfolding nodesPlan _>>=_ expansionValuesOf nodeValues
+  unfolding nodesPlan _>>=_ expansionValuesOf
   nodes-kept z c s h =
       kept-either v (answerTo (expansionValuesOf v n)) After3 (lt z 300·0) _ _ s
       (λ e.
-      minus-s After3 (v .sw ‼ 18) PTL0 _ s (in-nodes s h ptlT0 0 (needed (n .nodes) (replicate 5 0·0) (nodesIn v (legendreIn v) (activeOf v pdT3 (quietOf v))) 0 (c e)))
-      (minus-s After3 (v .sw ‼ 18) PTL1 _ s (in-nodes s h ptlT1 1 (needed (n .nodes) (replicate 5 0·0) (nodesIn v (legendreIn v) (activeOf v pdT3 (quietOf v))) 1 (c e)))
-      (minus-s After3 (v .sw ‼ 18) PTL2 _ s (in-nodes s h ptlT2 2 (needed (n .nodes) (replicate 5 0·0) (nodesIn v (legendreIn v) (activeOf v pdT3 (quietOf v))) 2 (c e)))
-      (minus-s After3 (v .sw ‼ 18 ⊗ v .sw ‼ 20) PTL3 _ s (in-nodes s h ptlT3 3 (needed (n .nodes) (replicate 5 0·0) (nodesIn v (legendreIn v) (activeOf v pdT3 (quietOf v))) 3 (c e)))
-      (plus-s After3 (v .sw ‼ 18 ⊗ v .sw ‼ 20) PMA8 _ s (in-nodes s h pmaT8 4 (needed (n .nodes) (replicate 5 0·0) (nodesIn v (legendreIn v) (activeOf v pdT3 (quietOf v))) 4 (c e)))
+      minus-s After3 (v .sw ‼ 18) PTL0 _ s (in-nodes s h (c e) ptlT0)
+      (minus-s After3 (v .sw ‼ 18) PTL1 _ s (in-nodes s h (c e) ptlT1)
+      (minus-s After3 (v .sw ‼ 18) PTL2 _ s (in-nodes s h (c e) ptlT2)
+      (minus-s After3 (v .sw ‼ 18 ⊗ v .sw ‼ 20) PTL3 _ s (in-nodes s h (c e) ptlT3)
+      (plus-s After3 (v .sw ‼ 18 ⊗ v .sw ‼ 20) PMA8 _ s (in-nodes s h (c e) pmaT8)
       (sets (kept-done v (answerTo (expansionValuesOf v n)) After3 _ s h)))))))
       (λ e. sets (kept-done v (answerTo (expansionValuesOf v n)) After3 _ s h))
 
@@ -202,7 +191,7 @@ module _ (v : View) (n : Need) (hi : n .high ≡ true) where
       (λ s4 h4. kept-done v (answerTo (expansionValuesOf v n)) After3 _ s4 h4))))
 
   n2-kept : (h : Shape) (on : Bool) (z zhf xmm : Float) (s : State) → Settled v s → Kept v (answerTo (expansionValuesOf v n)) (Settled v) (n2Plan (v .sw) h on z zhf xmm) s
-  unfolding n2Plan _>>=_ expansionValuesOf lightValues
+  unfolding n2Plan _>>=_ expansionValuesOf
   n2-kept h on z zhf xmm s e = expo (Settled v) (v .sw ‼ 21) PD2 _ s e refl refl (sets (sets (sets (kept-done v (answerTo (expansionValuesOf v n)) (Settled v) _ _ (after-settled v pdT2 _ refl)))))
 
   -- the State after PD[7]
@@ -211,28 +200,28 @@ module _ (v : View) (n : Need) (hi : n .high ≡ true) where
 
   module _ (h : Shape) (on : Bool) (z b28 flux zhm xmm : Float) where
     helium-kept : (s : State) → Settled v s → Kept v (answerTo (expansionValuesOf v n)) (Settled v) (heliumPlan (v .sw) h on z b28 zhm xmm) s
-    unfolding heliumPlan _>>=_ expansionValuesOf lightValues
+    unfolding heliumPlan _>>=_ expansionValuesOf
     helium-kept s e = expo (Settled v) (v .sw ‼ 21) PD0 _ s e refl refl (sets (sets (kept-done v (answerTo (expansionValuesOf v n)) (Settled v) _ _ (after-settled v pdT0 _ refl))))
 
     oxygen-kept : (s : State) → Settled v s → Kept v (answerTo (expansionValuesOf v n)) (Settled v) (oxygenPlan (v .sw) h on z zhm xmm flux) s
-    unfolding oxygenPlan _>>=_ expansionValuesOf highValues
-    oxygen-kept s e = expo (Settled v) (v .sw ‼ 21) PD1 _ s e refl (needed (n .high) (replicate 4 0·0) highest 0 hi) (sets (sets (kept-done v (answerTo (expansionValuesOf v n)) (Settled v) _ _ (after-settled v pdT1 _ refl))))
+    unfolding oxygenPlan _>>=_ expansionValuesOf
+    oxygen-kept s e = expo (Settled v) (v .sw ‼ 21) PD1 _ s e refl (value (n .high) _ hi) (sets (sets (kept-done v (answerTo (expansionValuesOf v n)) (Settled v) _ _ (after-settled v pdT1 _ refl))))
 
     o2-kept : (s : State) → Settled v s → Kept v (answerTo (expansionValuesOf v n)) (Settled v) (o2Plan (v .sw) h on z b28 zhm xmm flux) s
-    unfolding o2Plan _>>=_ expansionValuesOf heavyValues
+    unfolding o2Plan _>>=_ expansionValuesOf
     o2-kept s e = expo (Settled v) (v .sw ‼ 21) PD4 _ s e refl refl (sets (sets (kept-done v (answerTo (expansionValuesOf v n)) (Settled v) _ _ (after-settled v pdT4 _ refl))))
 
     argon-kept : (s : State) → Settled v s → Kept v (answerTo (expansionValuesOf v n)) (Settled v) (argonPlan (v .sw) h on z b28 zhm xmm) s
-    unfolding argonPlan _>>=_ expansionValuesOf heavyValues
+    unfolding argonPlan _>>=_ expansionValuesOf
     argon-kept s e = expo (Settled v) (v .sw ‼ 21) PD5 _ s e refl refl (sets (sets (kept-done v (answerTo (expansionValuesOf v n)) (Settled v) _ _ (after-settled v pdT5 _ refl))))
 
     hydrogen-kept : (s : State) → Settled v s → Kept v (answerTo (expansionValuesOf v n)) (Settled v) (hydrogenPlan (v .sw) h on z b28 zhm xmm) s
-    unfolding hydrogenPlan _>>=_ expansionValuesOf highValues
-    hydrogen-kept s e = expo (Settled v) (v .sw ‼ 21) PD6 _ s e refl (needed (n .high) (replicate 4 0·0) highest 1 hi) (sets (sets (kept-done v (answerTo (expansionValuesOf v n)) (Settled v) _ _ (after-settled v pdT6 _ refl))))
+    unfolding hydrogenPlan _>>=_ expansionValuesOf
+    hydrogen-kept s e = expo (Settled v) (v .sw ‼ 21) PD6 _ s e refl (value (n .high) _ hi) (sets (sets (kept-done v (answerTo (expansionValuesOf v n)) (Settled v) _ _ (after-settled v pdT6 _ refl))))
 
     nitrogen-kept : (s : State) → Settled v s → Kept v (answerTo (expansionValuesOf v n)) After7 (nitrogenPlan (v .sw) h on z b28 zhm xmm) s
-    unfolding nitrogenPlan _>>=_ expansionValuesOf highValues wideOf
-    nitrogen-kept s e = expo After7 (v .sw ‼ 21) PD7 _ s e refl (needed (n .high) (replicate 4 0·0) highest 2 hi) (sets (sets (kept-done v (answerTo (expansionValuesOf v n)) After7 _ _ refl)))
+    unfolding nitrogenPlan _>>=_ expansionValuesOf wideOf
+    nitrogen-kept s e = expo After7 (v .sw ‼ 21) PD7 _ s e refl (value (n .high) _ hi) (sets (sets (kept-done v (answerTo (expansionValuesOf v n)) After7 _ _ refl)))
 
   species-kept : (h : Shape) (m : Mixed) (z b28 flux xmm : Float) (s : State) → Settled v s → Kept v (answerTo (expansionValuesOf v n)) After7 (speciesPlan (v .sw) h m z b28 flux xmm) s
   unfolding speciesPlan
@@ -251,10 +240,10 @@ module _ (v : View) (n : Need) (hi : n .high ≡ true) where
   After8 t = t ≡ stateAfter v pdT8 (stateAfter v pdT7 freshOf)
 
   anomalous-kept : (h : Shape) (z : Float) (s : State) → After7 s → Kept v (answerTo (expansionValuesOf v n)) After8 (anomalousPlan (v .sw) h z) s
-  unfolding anomalousPlan _>>=_ answer expGlobe7Of globe7Of expansionValuesOf highValues
+  unfolding anomalousPlan _>>=_ answer expGlobe7Of globe7Of expansionValuesOf wideOf
   anomalous-kept h z s e =
       kept-ask v (answerTo (expansionValuesOf v n)) After8 (exp-globe7 (v .sw ‼ 21) PD8) _ s (stateAfter v pdT8 (stateAfter v pdT7 freshOf))
-      (ap (λ (t : State). expOf (v .sw ‼ 21 ⊗ (globe7Of v pdT8 t) .value)) e ∙ ap (λ (y : Float). expOf (v .sw ‼ 21 ⊗ y)) (globe7-second v pdT7 pdT8 ∙ needed (n .high) (replicate 4 0·0) highest 3 hi))
+      (ap (λ (t : State). expOf (v .sw ‼ 21 ⊗ (globe7Of v pdT8 t) .value)) e ∙ ap (λ (y : Float). expOf (v .sw ‼ 21 ⊗ y)) (globe7-second v pdT7 pdT8 ∙ value (n .high) _ hi))
       (ap (stateAfter v pdT8) e)
       (sets (kept-done v (answerTo (expansionValuesOf v n)) After8 _ _ refl))
 
@@ -270,31 +259,32 @@ module _ (v : View) (n : Need) (hi : n .high ≡ true) where
 
   -- ---- the lower nodes, from the State that gts7 leaves
 
-  in-meso : (s : State) → After8 s → (q : List Float) → glob7sOf v q s ≡ glob7sFrom v q (legendreIn v) (activeOf v pdT8 (activeOf v pdT7 (quietOf v)))
-  in-meso s h q = ap (glob7sOf v q) h ∙ glob7s-second v pdT7 pdT8 q
+  -- the lower sets, where b says that they are needed
+  in-lower : (s : State) → After8 s → (b : Bool) → b ≡ true → (q : List Float) → glob7sOf v q s ≡ cond b (glob7sFrom v q (legendreIn v) (activeOf v pdT8 (activeOf v pdT7 (quietOf v)))) 0·0
+  in-lower s h b c q = ap (glob7sOf v q) h ∙ glob7s-second v pdT7 pdT8 q ∙ value b _ c
 
   meso-kept : n .meso ≡ true → (u : Gts7Output) (s : State) → After8 s → Kept v (answerTo (expansionValuesOf v n)) After8 (mesoPlan (v .sw) u) s
-  unfolding mesoPlan mesoNodesPlan _>>=_ expansionValuesOf mesoValues
+  unfolding mesoPlan mesoNodesPlan _>>=_ expansionValuesOf
   meso-kept c u s h =
-      let there : (i : ℕ) → mesoIn v (legendreIn v) (activeOf v pdT8 (activeOf v pdT7 (quietOf v))) ‼ i ≡ cond (not (n .meso)) (replicate 4 0·0) (mesoIn v (legendreIn v) (activeOf v pdT8 (activeOf v pdT7 (quietOf v)))) ‼ i = λ i. needed (n .meso) (replicate 4 0·0) _ i c in
-      minus-s After8 (v .sw ‼ 20) PMA0 _ s (in-meso s h pmaT0 ∙ there 0)
-      (minus-s After8 (v .sw ‼ 20) PMA1 _ s (in-meso s h pmaT1 ∙ there 1)
-      (minus-s After8 (v .sw ‼ 20 ⊗ v .sw ‼ 22) PMA2 _ s (in-meso s h pmaT2 ∙ there 2)
-      (plus-s After8 (v .sw ‼ 20 ⊗ v .sw ‼ 22) PMA9 _ s (in-meso s h pmaT9 ∙ there 3)
+      let there = in-lower s h (n .meso) c in
+      minus-s After8 (v .sw ‼ 20) PMA0 _ s (there pmaT0)
+      (minus-s After8 (v .sw ‼ 20) PMA1 _ s (there pmaT1)
+      (minus-s After8 (v .sw ‼ 20 ⊗ v .sw ‼ 22) PMA2 _ s (there pmaT2)
+      (plus-s After8 (v .sw ‼ 20 ⊗ v .sw ‼ 22) PMA9 _ s (there pmaT9)
       (sets (sets (kept-done v (answerTo (expansionValuesOf v n)) After8 _ s h))))))
 
   lower-kept : (alt : Float) → (lt alt 32·5 ≡ true → n .tropo ≡ true) → (m : Meso) (s : State) → After8 s → Kept v (answerTo (expansionValuesOf v n)) After8 (lowerPlan (v .sw) alt m) s
-  unfolding lowerPlan _>>=_ expansionValuesOf tropoValues
+  unfolding lowerPlan _>>=_ expansionValuesOf
   lower-kept alt c m s h =
       kept-either v (answerTo (expansionValuesOf v n)) After8 (not (lt alt 32·5)) _ _ s
       (λ e. kept-done v (answerTo (expansionValuesOf v n)) After8 _ s h)
       (λ e.
-      let there : (i : ℕ) → tropoIn v (legendreIn v) (activeOf v pdT8 (activeOf v pdT7 (quietOf v))) ‼ i ≡ cond (not (n .tropo)) (replicate 5 0·0) (tropoIn v (legendreIn v) (activeOf v pdT8 (activeOf v pdT7 (quietOf v)))) ‼ i = λ i. needed (n .tropo) (replicate 5 0·0) _ i (c (not-false _ e)) in
-      minus-s After8 (v .sw ‼ 22) PMA3 _ s (in-meso s h pmaT3 ∙ there 0)
-      (minus-s After8 (v .sw ‼ 22) PMA4 _ s (in-meso s h pmaT4 ∙ there 1)
-      (minus-s After8 (v .sw ‼ 22) PMA5 _ s (in-meso s h pmaT5 ∙ there 2)
-      (minus-s After8 (v .sw ‼ 22) PMA6 _ s (in-meso s h pmaT6 ∙ there 3)
-      (plus-s After8 (v .sw ‼ 22) PMA7 _ s (in-meso s h pmaT7 ∙ there 4)
+      let there = in-lower s h (n .tropo) (c (not-false _ e)) in
+      minus-s After8 (v .sw ‼ 22) PMA3 _ s (there pmaT3)
+      (minus-s After8 (v .sw ‼ 22) PMA4 _ s (there pmaT4)
+      (minus-s After8 (v .sw ‼ 22) PMA5 _ s (there pmaT5)
+      (minus-s After8 (v .sw ‼ 22) PMA6 _ s (there pmaT6)
+      (plus-s After8 (v .sw ‼ 22) PMA7 _ s (there pmaT7)
       (sets (kept-done v (answerTo (expansionValuesOf v n)) After8 _ s h)))))))
 
   gtd7-kept : (x : Site) (alt : Float) → NeedCovers n (needAt alt) → Kept v (answerTo (expansionValuesOf v n)) After8 (gtd7Plan (v .sw) x alt) freshOf

@@ -77,11 +77,6 @@ not-above : (x y : Float) → le x y ≡ false → lt x y ≡ false
 unfolding le
 not-above x y e = neither (lt x y) (eq x y) e .0
 
--- f is the footing of an altitude, where it lies below 72.5 km, and the mass of mixed air is not 0 there; below 32.5 km with the nodes of the
--- troposphere
-abbrev pub Founded : List Float → Site → ExpansionValues → Footing → Float → Type 0
-Founded sw x l f alt = le 72·5 alt ≡ false → HasMass x × (tropo : Bool) × (f ≡ footingOf sw x l tropo) × (lt alt 32·5 ≡ true → tropo ≡ true)
-
 pub eleven-below : (sw : List Float) (x : Site) (l : ExpansionValues) (alt : Float) (tropo : Bool) (f : Footing) (row : List Float)
     → HasMass x
     → row ≡ rowBelowOf (sw ‼ 0) f alt

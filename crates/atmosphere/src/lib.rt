@@ -7,15 +7,13 @@ ghost use Rattle.numbers.specs.Literals.{0·0, 72·5};
 ghost use Rattle.expansion_values.specs.ExpansionValues.{needAt, recordValuesOf};
 ghost use Rattle.gts7_arithmetic.specs.Gts7Arithmetic.{HasMass, siteWith};
 ghost use Rattle.atmosphere.specs.Atmosphere.{elevenFrom, elevenWith, elevenOf, answerOf, rowAfter};
-ghost use Rattle.atmosphere.specs.Rows.{Founded};
 use acceptance::Answer;
 use acceptance::accepted;
 use acceptance::record_answer;
 use expansion_values::RecordValues;
 use expansion_values::need_at;
 use expansion_values::record_values;
-use footing::Footing;
-use footing::footing_where;
+use footing::footing_of;
 use footing::row_below;
 use gts7_arithmetic::Site;
 use gts7_arithmetic::site_with;
@@ -47,15 +45,24 @@ pub fn row_above(sw: [f64; 24], x: Site, l: ExpansionValues, alt: f64) -> [f64; 
     row
 }
 
-// The eleven numbers at an altitude, by the way that it takes; f is its footing where it lies below 72.5 km.
-pub fn eleven(sw: [f64; 24], x: Site, l: ExpansionValues, f: Footing, alt: f64) -> [f64; 11]
-    requires { ⌜ Founded sw x l f alt ⌝ }
+// The eleven numbers below 72.5 km.
+pub fn row_lower(sw: [f64; 24], x: Site, l: ExpansionValues, alt: f64) -> [f64; 11]
+    requires { ⌜ HasMass x × (le 72·5 alt ≡ false) ⌝ }
+    ensures { λ r. ⌜ r ≡ elevenFrom sw x l alt ⌝ }
+{
+    let f = footing_of(sw, x, l, alt < 32.5);
+    row_below(sw[0], f, alt)
+}
+
+// The eleven numbers at an altitude, by the way that it takes.
+pub fn eleven(sw: [f64; 24], x: Site, l: ExpansionValues, alt: f64) -> [f64; 11]
+    requires { ⌜ HasMass x ⌝ }
     ensures { λ r. ⌜ r ≡ elevenFrom sw x l alt ⌝ }
 {
     if alt >= 72.5 {
         return row_above(sw, x, l, alt);
     }
-    row_below(sw[0], f, alt)
+    row_lower(sw, x, l, alt)
 }
 
 // The eleven numbers into a row of eleven.
@@ -70,22 +77,13 @@ pub fn put(out: &mut [f64], v: [f64; 11])
     }
 }
 
-// The eleven numbers at an altitude into a lent row, from what was worked out before.
-pub fn row_on(sw: [f64; 24], x: Site, l: ExpansionValues, f: Footing, alt: f64, out: &mut [f64])
-    requires { ⌜ (length (now out) ≡ 11) × Founded sw x l f alt ⌝ }
-    ensures { λ _. ⌜ now (out .exit) ≡ elevenFrom sw x l alt ⌝ }
-{
-    let row = eleven(sw, x, l, f, alt);
-    put(out, row);
-}
-
-// The same for an altitude alone.
+// The same, written.
 pub fn row_at(sw: [f64; 24], x: Site, l: ExpansionValues, alt: f64, out: &mut [f64])
     requires { ⌜ (length (now out) ≡ 11) × HasMass x ⌝ }
     ensures { λ _. ⌜ now (out .exit) ≡ elevenFrom sw x l alt ⌝ }
 {
-    let f = footing_where(!(alt >= 72.5), sw, x, l, alt < 32.5);
-    row_on(sw, x, l, f, alt, out);
+    let row = eleven(sw, x, l, alt);
+    put(out, row);
 }
 
 // What the row of a record reads of it under a switch row.

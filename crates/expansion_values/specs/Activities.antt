@@ -1,5 +1,5 @@
 -- Magnetic activity by the coefficients that sets share: what is worked out once for them, and that it is what each of them would work out.
-use mathlib.Core.Path.{_≡_, refl, sym, ap, ap₂, _∙_}
+use mathlib.Core.Path.{_≡_, refl, ap, _∙_}
 use mathlib.Core.Bool.{Bool, true, false, cond, not, _&&_}
 use mathlib.Core.List.{List}
 use lib.Ieee.{Float, neg, eq, ne}
@@ -12,8 +12,7 @@ use Rattle.activity.specs.Activity.{apdfFromOf, apdfNextOf, exp1Of}
 use Rattle.activity.specs.Responses.{responsesOf, sg0From, aptFrom, apt-from}
 use Rattle.expansion.specs.declared.Carried.{Carried}
 use Rattle.expansion_values.specs.declared.Activity.{Activity}
-use Rattle.expansion.specs.Expansion.{globe7Value}
-use Rattle.expansion_values.specs.ExpansionValues.{activeOf, wideOf}
+use Rattle.expansion_values.specs.ExpansionValues.{activeOf}
 
 abbrev pub noResponses : Responses
 noResponses = record { g1 = 0·0; g2 = 0·0; g3 = 0·0; g4 = 0·0; g5 = 0·0; g6 = 0·0 }
@@ -30,9 +29,9 @@ activityOf sw9 ap history p43 p44 p24 p25 =
 abbrev pub activityIn : View → List Float → Activity
 activityIn v p = activityOf (v .sw ‼ 9) (v .ap) (v .«ap_array») (p ‼ 43) (p ‼ 44) (p ‼ 24) (p ‼ 25)
 
--- what State carries after globe7 over a set of the activity a
-unfoldable pub activeFrom : View → Activity → Float → Float → Carried → Carried
-activeFrom v a p51 p138 c =
+-- what State carries, its activities apart
+abbrev pub carrying : Carried → Float → Float → Carried
+carrying c x y =
     record {
       dfa = c .dfa;
       ctloc = c .ctloc;
@@ -41,9 +40,14 @@ activeFrom v a p51 p138 c =
       s2tloc = c .s2tloc;
       s3tloc = c .s3tloc;
       c3tloc = c .c3tloc;
-      apdf = cond (eq (v .sw ‼ 9) (neg 1·0)) (c .apdf) (a .apdf);
-      apt = aptFrom (v .sw ‼ 9) p51 p138 (v .«g_lat») (a .g) (c .apt);
+      apdf = x;
+      apt = y;
     }
+
+-- what State carries after globe7 over a set of the activity a
+unfoldable pub activeFrom : View → Activity → Float → Float → Carried → Carried
+activeFrom v a p51 p138 c =
+    carrying c (cond (eq (v .sw ‼ 9) (neg 1·0)) (c .apdf) (a .apdf)) (aptFrom (v .sw ‼ 9) p51 p138 (v .«g_lat») (a .g) (c .apt))
 
 daily : (b : Bool) (old x : Float) (g : Responses) → cond b old ((oneActivity b x g) .apdf) ≡ cond b old x
 daily true old x g = refl
@@ -64,17 +68,6 @@ active-from v p c a e =
       history (eq (v .sw ‼ 9) (neg 1·0)) (ne (p ‼ 51) 0·0) (c .apt) (exp1Of (p ‼ 51) (p ‼ 138) (v .«g_lat»)) (apdfFromOf (p ‼ 43) (p ‼ 44) (v .ap)) (responsesOf (p ‼ 24) (p ‼ 25) (v .«ap_array»)),
       apt-from (v .sw ‼ 9) (p ‼ 51) (p ‼ 138) (p ‼ 24) (p ‼ 25) (v .«g_lat») (v .«ap_array») (c .apt),
     )
-
--- an activity is that of a set which is this table
-pub of-table : (v : View) (a : Activity) (t p : List Float) → a ≡ activityIn v t → p ≡ t → a ≡ activityIn v p
-of-table v a t p e f = e ∙ ap (λ (q : List Float). activityIn v q) (sym f)
-
--- globe7 over a set t, from an activity that is its own: p and q are t, lent and read
-pub wide-from : (v : View) (g : List (List Float)) (c b : Carried) (a : Activity) (t p q : List Float)
-    → b ≡ activeFrom v a (q ‼ 51) (q ‼ 138) c → p ≡ t → q ≡ t → a ≡ activityIn v t → globe7Value v p g b ≡ wideOf v g c t
-unfolding wideOf
-wide-from v g c b a t p q e f h k =
-    ap₂ (λ (r : List Float) (x : Carried). globe7Value v r g x) f (e ∙ ap (λ (r : List Float). activeFrom v a (r ‼ 51) (r ‼ 138) c) h ∙ active-from v t c a k)
 
 -- ---- the sets that have PT's
 

@@ -1,6 +1,6 @@
 -- The values of the expansions that gtd7 asks for from a fresh State, each worked out once.
 use mathlib.Core.Bool.{Bool, true, cond, not}
-use mathlib.Core.List.{List, [], _∷_}
+use mathlib.Core.List.{List}
 use lib.ListN.{replicate}
 use lib.IntN.{ℤ}
 use lib.Ieee.{Float, lt, le}
@@ -58,46 +58,6 @@ activeOf v p c =
 unfoldable pub wideOf : View → List (List Float) → Carried → List Float → Float
 wideOf v g c p = globe7Value v p g (activeOf v p c)
 
--- PD[0] and PD[2]
-unfoldable pub lightValues : View → List (List Float) → Carried → List Float
-lightValues v g c = wideOf v g c pdT0 ∷ wideOf v g c pdT2 ∷ []
-
--- PD[4] and PD[5]
-unfoldable pub heavyValues : View → List (List Float) → Carried → List Float
-heavyValues v g c = wideOf v g c pdT4 ∷ wideOf v g c pdT5 ∷ []
-
--- PD[1], PD[6], PD[7] and PD[8], the activities of the last two c7 and c8
-abbrev pub highIn : View → List (List Float) → Carried → Carried → Carried → List Float
-highIn v g c c7 c8 = wideOf v g c pdT1 ∷ wideOf v g c pdT6 ∷ globe7Value v pdT7 g c7 ∷ globe7Value v pdT8 g c8 ∷ []
-
--- the same where O, H, N and anomalous O count
-unfoldable pub highValues : View → List (List Float) → Carried → Carried → Carried → Bool → List Float
-highValues v g c c7 c8 on = cond (not on) (replicate 4 0·0) (highIn v g c c7 c8)
-
--- PTL and PMA[8]
-abbrev pub nodesIn : View → List (List Float) → Carried → List Float
-nodesIn v g c = glob7sFrom v ptlT0 g c ∷ glob7sFrom v ptlT1 g c ∷ glob7sFrom v ptlT2 g c ∷ glob7sFrom v ptlT3 g c ∷ glob7sFrom v pmaT8 g c ∷ []
-
--- the same where the nodes of the lower thermosphere count
-unfoldable pub nodeValues : View → List (List Float) → Carried → Bool → List Float
-nodeValues v g c on = cond (not on) (replicate 5 0·0) (nodesIn v g c)
-
--- PMA[0], PMA[1], PMA[2] and PMA[9]
-abbrev pub mesoIn : View → List (List Float) → Carried → List Float
-mesoIn v g c = glob7sFrom v pmaT0 g c ∷ glob7sFrom v pmaT1 g c ∷ glob7sFrom v pmaT2 g c ∷ glob7sFrom v pmaT9 g c ∷ []
-
--- the same where the nodes of the mesosphere count
-unfoldable pub mesoValues : View → List (List Float) → Carried → Bool → List Float
-mesoValues v g c on = cond (not on) (replicate 4 0·0) (mesoIn v g c)
-
--- PMA[3] to PMA[7]
-abbrev pub tropoIn : View → List (List Float) → Carried → List Float
-tropoIn v g c = glob7sFrom v pmaT3 g c ∷ glob7sFrom v pmaT4 g c ∷ glob7sFrom v pmaT5 g c ∷ glob7sFrom v pmaT6 g c ∷ glob7sFrom v pmaT7 g c ∷ []
-
--- the same where the nodes of the troposphere count
-unfoldable pub tropoValues : View → List (List Float) → Carried → Bool → List Float
-tropoValues v g c on = cond (not on) (replicate 5 0·0) (tropoIn v g c)
-
 -- which sets an altitude needs
 unfoldable pub needAt : Float → Need
 needAt alt =
@@ -108,8 +68,8 @@ needAt alt =
 unfoldable pub withHigh : Need → Need
 withHigh a = record { high = true; pt = a .pt; ps = a .ps; nodes = a .nodes; meso = a .meso; tropo = a .tropo }
 
--- the values that are needed, from a fresh State: the nodes of the lower thermosphere are asked for after PD[3], the lower ones after PD[7]
--- and PD[8]; a value that is not needed is 0
+-- the values that are needed, from a fresh State: PD[8] is asked for after PD[7], the nodes of the lower thermosphere after PD[3], the lower ones
+-- after PD[7] and PD[8]; a value that is not needed is 0
 unfoldable pub expansionValuesOf : View → Need → ExpansionValues
 expansionValuesOf v n =
     let g = legendreIn v in
@@ -117,38 +77,32 @@ expansionValuesOf v n =
     let c3 = activeOf v pdT3 c in
     let c7 = activeOf v pdT7 c in
     let c8 = activeOf v pdT8 c7 in
-    let l = lightValues v g c in
-    let h = heavyValues v g c in
-    let b = highValues v g c c7 c8 (n .high) in
-    let a = nodeValues v g c3 (n .nodes) in
-    let m = mesoValues v g c8 (n .meso) in
-    let t = tropoValues v g c8 (n .tropo) in
     record {
       pt = cond (n .pt) (wideOf v g c ptT) 0·0;
       ps = cond (n .ps) (wideOf v g c psT) 0·0;
-      pd0 = l ‼ 0;
-      pd1 = b ‼ 0;
-      pd2 = l ‼ 1;
-      pd3 = globe7Value v pdT3 g c3;
-      pd4 = h ‼ 0;
-      pd5 = h ‼ 1;
-      pd6 = b ‼ 1;
-      pd7 = b ‼ 2;
-      pd8 = b ‼ 3;
-      ptl0 = a ‼ 0;
-      ptl1 = a ‼ 1;
-      ptl2 = a ‼ 2;
-      ptl3 = a ‼ 3;
-      pma0 = m ‼ 0;
-      pma1 = m ‼ 1;
-      pma2 = m ‼ 2;
-      pma3 = t ‼ 0;
-      pma4 = t ‼ 1;
-      pma5 = t ‼ 2;
-      pma6 = t ‼ 3;
-      pma7 = t ‼ 4;
-      pma8 = a ‼ 4;
-      pma9 = m ‼ 3;
+      pd0 = wideOf v g c pdT0;
+      pd1 = cond (n .high) (wideOf v g c pdT1) 0·0;
+      pd2 = wideOf v g c pdT2;
+      pd3 = wideOf v g c pdT3;
+      pd4 = wideOf v g c pdT4;
+      pd5 = wideOf v g c pdT5;
+      pd6 = cond (n .high) (wideOf v g c pdT6) 0·0;
+      pd7 = cond (n .high) (wideOf v g c pdT7) 0·0;
+      pd8 = cond (n .high) (wideOf v g c7 pdT8) 0·0;
+      ptl0 = cond (n .nodes) (glob7sFrom v ptlT0 g c3) 0·0;
+      ptl1 = cond (n .nodes) (glob7sFrom v ptlT1 g c3) 0·0;
+      ptl2 = cond (n .nodes) (glob7sFrom v ptlT2 g c3) 0·0;
+      ptl3 = cond (n .nodes) (glob7sFrom v ptlT3 g c3) 0·0;
+      pma0 = cond (n .meso) (glob7sFrom v pmaT0 g c8) 0·0;
+      pma1 = cond (n .meso) (glob7sFrom v pmaT1 g c8) 0·0;
+      pma2 = cond (n .meso) (glob7sFrom v pmaT2 g c8) 0·0;
+      pma3 = cond (n .tropo) (glob7sFrom v pmaT3 g c8) 0·0;
+      pma4 = cond (n .tropo) (glob7sFrom v pmaT4 g c8) 0·0;
+      pma5 = cond (n .tropo) (glob7sFrom v pmaT5 g c8) 0·0;
+      pma6 = cond (n .tropo) (glob7sFrom v pmaT6 g c8) 0·0;
+      pma7 = cond (n .tropo) (glob7sFrom v pmaT7 g c8) 0·0;
+      pma8 = cond (n .nodes) (glob7sFrom v pmaT8 g c3) 0·0;
+      pma9 = cond (n .meso) (glob7sFrom v pmaT9 g c8) 0·0;
     }
 
 -- what gts7 and gtd7 read of a record under a switch row, its altitude apart

@@ -1,14 +1,16 @@
 // The values of the expansions that gtd7 asks for from a fresh State, each worked out once.
 ghost use mathlib.Core.Path.{_≡_};
-ghost use Prim.Native.Nat.{_≤_};
+ghost use Prim.Native.Nat.{_<_, _≤_};
 ghost use mathlib.Core.Bool.{cond};
 ghost use lib.ListN.{length};
 ghost use Rattle.numbers.specs.Literals.{0·0};
-ghost use Rattle.tables.specs.Tables.{ptT, psT, pdT0, pdT1, pdT3};
+ghost use Rattle.tables.specs.Tables.{ptT, pdT0, pdT1, pdT3, pdT7, pdT8};
 ghost use Rattle.setting.specs.Shared.{Shared};
-ghost use Rattle.expansion.specs.Expansion.{globe7Value};
-ghost use Rattle.expansion_values.specs.Activities.{activityOf, activityIn, activeFrom};
-ghost use Rattle.expansion_values.specs.ExpansionValues.{quietOf, wideOf, lightValues, heavyValues, highValues, nodeValues, mesoValues, tropoValues, needAt, withHigh, expansionValuesOf, recordValuesOf};
+ghost use Rattle.expansion.specs.Expansion.{globe7Value, glob7sFrom};
+ghost use Rattle.numbers.specs.Arithmetic.{_‼_};
+ghost use Rattle.expansion_values.specs.Activities.{activityOf, activityIn, activeFrom, carrying};
+ghost use Rattle.expansion_values.specs.ExpansionValues.{legendreIn, quietOf, activeOf, wideOf, needAt, withHigh, expansionValuesOf, recordValuesOf};
+ghost use Rattle.expansion_values.specs.Sets.{globe7Set, globe7Needed, globe7Before, globe7Values, glob7sSet, glob7sNeeded, glob7sEnd, glob7sBefore, glob7sValues};
 use activity::Responses;
 use activity::apdf_from;
 use activity::apt_from;
@@ -188,165 +190,314 @@ pub fn active(v: View, a: Activity, p51: f64, p138: f64, c: Carried) -> Carried
     out
 }
 
-pub fn pt_value(v: View, g: [[f64; 9]; 4], c: Carried, a: Activity, on: bool) -> f64
-    requires { ⌜ Shared v × (a ≡ activityIn v ptT) ⌝ }
-    ensures { λ r. ⌜ r ≡ cond on (wideOf v g c ptT) 0·0 ⌝ }
+// Switch 9, and the latitude. Each is read in a function of its own: a View that is read and handed on in one function is copied for each call.
+pub fn nine_in(v: View) -> f64
+    ensures { λ r. ⌜ r ≡ v .sw ‼ 9 ⌝ }
+{
+    v.sw[9]
+}
+
+pub fn latitude_in(v: View) -> f64
+    ensures { λ r. ⌜ r ≡ v .«g_lat» ⌝ }
+{
+    v.g_lat
+}
+
+pub fn legendre_in(v: View) -> [[f64; 9]; 4]
+    ensures { λ r. ⌜ r ≡ legendreIn v ⌝ }
+{
+    legendre(v.slat, v.clat, [0.0; 36])
+}
+
+// globe7 from what State carries, but for apdf and apt.
+pub fn globe7_with(v: View, p: &[f64], g: [[f64; 9]; 4], c: Carried, apdf: f64, apt: f64) -> f64
+    requires { ⌜ (length (now p) ≡ 150) × Shared v ⌝ }
+    ensures { λ r. ⌜ r ≡ globe7Value v (now (p .entry)) g (carrying c apdf apt) ⌝ }
+{
+    let mut s = c;
+    s.apdf = apdf;
+    s.apt = apt;
+    globe7_value(v, p, g, s)
+}
+
+// The set k of globe7, k from 0: PT, PD[0] to PD[8], PS. It is put where one lies; an array that a match gives is copied once more.
+pub fn put_globe7_set(k: usize, p: &mut [f64; 150])
+    requires { ⌜ k < 11 ⌝ }
+    ensures { λ _. ⌜ now (p .exit) ≡ globe7Set k ⌝ }
+{
+    match k {
+        0 => {
+            *p = pt();
+        }
+        1 => {
+            *p = pd0();
+        }
+        2 => {
+            *p = pd1();
+        }
+        3 => {
+            *p = pd2();
+        }
+        4 => {
+            *p = pd3();
+        }
+        5 => {
+            *p = pd4();
+        }
+        6 => {
+            *p = pd5();
+        }
+        7 => {
+            *p = pd6();
+        }
+        8 => {
+            *p = pd7();
+        }
+        9 => {
+            *p = pd8();
+        }
+        _ => {
+            *p = ps();
+        }
+    }
+}
+
+// Whether the set k is needed.
+pub fn globe7_needed(n: Need, k: usize) -> bool
+    ensures { λ r. ⌜ r ≡ globe7Needed n k ⌝ }
+{
+    if k == 0 {
+        return n.pt;
+    }
+    if k == 10 {
+        return n.ps;
+    }
+    if (k == 2) | (k > 6) {
+        return n.high;
+    }
+    true
+}
+
+// The activity of the set k: PD[0] and PD[1] have their own, every other set has PT's, which is a.
+pub fn globe7_activity(k: usize, v: View, a: Activity) -> Activity
+    requires { ⌜ a ≡ activityIn v ptT ⌝ }
+    ensures { λ r. ⌜ r ≡ activityIn v (globe7Set k) ⌝ }
+{
+    if k == 1 {
+        return activity0(v);
+    }
+    if k == 2 {
+        return activity1(v);
+    }
+    a
+}
+
+// globe7 over the set k, which is p, where it is needed; c7 is what PD[7] leaves.
+pub fn globe7_at(
+    on: bool,
+    k: usize,
+    v: View,
+    p: &[f64],
+    g: [[f64; 9]; 4],
+    c: Carried,
+    a: Activity,
+    c7: Carried,
+) -> f64
+    requires { ⌜ (length (now p) ≡ 150) × Shared v × (now p ≡ globe7Set k) × (a ≡ activityIn v ptT) × (c7 ≡ activeOf v pdT7 c) ⌝ }
+    ensures { λ r. ⌜ r ≡ cond on (wideOf v g (globe7Before v c k) (globe7Set k)) 0·0 ⌝ }
 {
     if on {
-        let p = pt();
-        let b = active(v, a, p[51], p[138], c);
-        return globe7_value(v, &p, g, b);
+        let b = globe7_activity(k, v, a);
+        let nine = nine_in(v);
+        let latitude = latitude_in(v);
+        let apdf = pick(nine == -1.0, c.apdf, b.apdf);
+        let before = pick(k == 9, c7.apt, c.apt);
+        let r = b.g;
+        let apt = apt_from(nine, p[51], p[138], latitude, r, before);
+        return globe7_with(v, p, g, c, apdf, apt);
     }
     0.0
 }
 
-pub fn ps_value(v: View, g: [[f64; 9]; 4], c: Carried, a: Activity, on: bool) -> f64
-    requires { ⌜ Shared v × (a ≡ activityIn v ptT) ⌝ }
-    ensures { λ r. ⌜ r ≡ cond on (wideOf v g c psT) 0·0 ⌝ }
-{
-    if on {
-        let p = ps();
-        let b = active(v, a, p[51], p[138], c);
-        return globe7_value(v, &p, g, b);
-    }
-    0.0
-}
-
-// PD[3], whose activity is c3.
-pub fn pd3_value(v: View, g: [[f64; 9]; 4], c3: Carried) -> f64
-    requires { ⌜ Shared v ⌝ }
-    ensures { λ r. ⌜ r ≡ globe7Value v pdT3 g c3 ⌝ }
-{
-    let p = pd3();
-    globe7_value(v, &p, g, c3)
-}
-
-// A local for all sets of a function: one table at a time lies on the stack.
-
-// PD[0] and PD[2].
-pub fn light(v: View, g: [[f64; 9]; 4], c: Carried, a: Activity) -> [f64; 2]
-    requires { ⌜ Shared v × (a ≡ activityIn v ptT) ⌝ }
-    ensures { λ r. ⌜ r ≡ lightValues v g c ⌝ }
-{
-    let a0 = activity0(v);
-    let q0 = pd0();
-    let c0 = active(v, a0, q0[51], q0[138], c);
-    let q2 = pd2();
-    let c2 = active(v, a, q2[51], q2[138], c);
-    let mut p = pd0();
-    let x = globe7_value(v, &p, g, c0);
-    p = pd2();
-    let y = globe7_value(v, &p, g, c2);
-    [x, y]
-}
-
-// PD[4] and PD[5].
-pub fn heavy(v: View, g: [[f64; 9]; 4], c: Carried, a: Activity) -> [f64; 2]
-    requires { ⌜ Shared v × (a ≡ activityIn v ptT) ⌝ }
-    ensures { λ r. ⌜ r ≡ heavyValues v g c ⌝ }
-{
-    let q4 = pd4();
-    let c4 = active(v, a, q4[51], q4[138], c);
-    let q5 = pd5();
-    let c5 = active(v, a, q5[51], q5[138], c);
-    let mut p = pd4();
-    let x = globe7_value(v, &p, g, c4);
-    p = pd5();
-    let y = globe7_value(v, &p, g, c5);
-    [x, y]
-}
-
-// PD[1], PD[6], PD[7] and PD[8], where O, H, N and anomalous O count; the activities of the last two are c7 and c8.
-pub fn high(
+// globe7 over its sets. A loop, so that it stands here once, and what it reads of the View is read in place.
+pub fn globe7_values(
+    n: Need,
     v: View,
     g: [[f64; 9]; 4],
     c: Carried,
     a: Activity,
     c7: Carried,
-    c8: Carried,
+) -> [f64; 11]
+    requires { ⌜ Shared v × (a ≡ activityIn v ptT) × (c7 ≡ activeOf v pdT7 c) ⌝ }
+    ensures { λ r. ⌜ r ≡ globe7Values n v g c ⌝ }
+{
+    let mut p = [0.0; 150];
+    let mut x = [0.0; 11];
+    let mut k = 0;
+    while k < 11 {
+        let on = globe7_needed(n, k);
+        put_globe7_set(k, &mut p);
+        x[k] = globe7_at(on, k, v, &p, g, c, a, c7);
+        k += 1;
+    }
+    x
+}
+
+// The set k of glob7s, k from 0: PTL and PMA[8], PMA[0], PMA[1], PMA[2] and PMA[9], PMA[3] to PMA[7].
+pub fn put_glob7s_set(k: usize, p: &mut [f64; 100])
+    requires { ⌜ k < 14 ⌝ }
+    ensures { λ _. ⌜ now (p .exit) ≡ glob7sSet k ⌝ }
+{
+    match k {
+        0 => {
+            *p = ptl0();
+        }
+        1 => {
+            *p = ptl1();
+        }
+        2 => {
+            *p = ptl2();
+        }
+        3 => {
+            *p = ptl3();
+        }
+        4 => {
+            *p = pma8();
+        }
+        5 => {
+            *p = pma0();
+        }
+        6 => {
+            *p = pma1();
+        }
+        7 => {
+            *p = pma2();
+        }
+        8 => {
+            *p = pma9();
+        }
+        9 => {
+            *p = pma3();
+        }
+        10 => {
+            *p = pma4();
+        }
+        11 => {
+            *p = pma5();
+        }
+        12 => {
+            *p = pma6();
+        }
+        _ => {
+            *p = pma7();
+        }
+    }
+}
+
+// Whether the set k is needed.
+pub fn glob7s_needed(n: Need, k: usize) -> bool
+    ensures { λ r. ⌜ r ≡ glob7sNeeded n k ⌝ }
+{
+    if k < 5 {
+        return n.nodes;
+    }
+    if k < 9 {
+        return n.meso;
+    }
+    n.tropo
+}
+
+// How many sets stand before the last that is needed.
+pub fn glob7s_end(n: Need) -> usize
+    ensures { λ r. ⌜ r ≡ glob7sEnd n ⌝ }
+{
+    if n.tropo {
+        return 14;
+    }
+    if n.meso {
+        return 9;
+    }
+    if n.nodes {
+        return 5;
+    }
+    0
+}
+
+// What State carries before the set k: c3 for the lower thermosphere, c8 below it.
+pub fn glob7s_before(k: usize, c3: Carried, c8: Carried) -> Carried
+    ensures { λ r. ⌜ r ≡ glob7sBefore k c3 c8 ⌝ }
+{
+    if k < 5 {
+        return c3;
+    }
+    c8
+}
+
+// glob7s over the set k, which is p, where it is needed.
+pub fn glob7s_at(
     on: bool,
-) -> [f64; 4]
+    k: usize,
+    v: View,
+    p: &[f64],
+    g: [[f64; 9]; 4],
+    c3: Carried,
+    c8: Carried,
+) -> f64
+    requires { ⌜ (100 ≤ length (now p)) × Shared v × (now p ≡ glob7sSet k) ⌝ }
+    ensures { λ r. ⌜ r ≡ cond on (glob7sFrom v (glob7sSet k) g (glob7sBefore k c3 c8)) 0·0 ⌝ }
+{
+    if on {
+        let c = glob7s_before(k, c3, c8);
+        return glob7s_from(v, p, g, c);
+    }
+    0.0
+}
+
+// glob7s over its sets, the first end of which hold all that are needed.
+pub fn glob7s_filled(
+    end: usize,
+    n: Need,
+    v: View,
+    g: [[f64; 9]; 4],
+    c3: Carried,
+    c8: Carried,
+) -> [f64; 14]
+    requires { ⌜ (end ≡ glob7sEnd n) × Shared v ⌝ }
+    ensures { λ r. ⌜ r ≡ glob7sValues n v g c3 c8 ⌝ }
+{
+    let mut p = [0.0; 100];
+    let mut x = [0.0; 14];
+    let mut k = 0;
+    while k < end {
+        let on = glob7s_needed(n, k);
+        put_glob7s_set(k, &mut p);
+        x[k] = glob7s_at(on, k, v, &p, g, c3, c8);
+        k += 1;
+    }
+    x
+}
+
+// glob7s over its sets; a is the activity of PT, and c7 what PD[7] leaves. What PD[3] and PD[8] leave is worked out only where a set is needed.
+pub fn glob7s_values(
+    n: Need,
+    v: View,
+    g: [[f64; 9]; 4],
+    c: Carried,
+    a: Activity,
+    c7: Carried,
+) -> [f64; 14]
     requires { ⌜ Shared v × (a ≡ activityIn v ptT) ⌝ }
-    ensures { λ r. ⌜ r ≡ highValues v g c c7 c8 on ⌝ }
+    ensures { λ r. ⌜ r ≡ glob7sValues n v g (activeOf v pdT3 c) (activeOf v pdT8 c7) ⌝ }
 {
-    if !on {
-        return [0.0; 4];
+    let end = glob7s_end(n);
+    if end == 0 {
+        return [0.0; 14];
     }
-    let a1 = activity1(v);
-    let q1 = pd1();
-    let c1 = active(v, a1, q1[51], q1[138], c);
-    let q6 = pd6();
-    let c6 = active(v, a, q6[51], q6[138], c);
-    let mut p = pd1();
-    let x = globe7_value(v, &p, g, c1);
-    p = pd6();
-    let y = globe7_value(v, &p, g, c6);
-    p = pd7();
-    let z = globe7_value(v, &p, g, c7);
-    p = pd8();
-    let w = globe7_value(v, &p, g, c8);
-    [x, y, z, w]
-}
-
-// PTL and PMA[8], where the nodes of the lower thermosphere count.
-pub fn nodes(v: View, g: [[f64; 9]; 4], c: Carried, on: bool) -> [f64; 5]
-    requires { ⌜ Shared v ⌝ }
-    ensures { λ r. ⌜ r ≡ nodeValues v g c on ⌝ }
-{
-    if !on {
-        return [0.0; 5];
-    }
-    let mut p = ptl0();
-    let a = glob7s_from(v, &p, g, c);
-    p = ptl1();
-    let b = glob7s_from(v, &p, g, c);
-    p = ptl2();
-    let d = glob7s_from(v, &p, g, c);
-    p = ptl3();
-    let e = glob7s_from(v, &p, g, c);
-    p = pma8();
-    let f = glob7s_from(v, &p, g, c);
-    [a, b, d, e, f]
-}
-
-// PMA[0], PMA[1], PMA[2] and PMA[9], where the nodes of the mesosphere count.
-pub fn meso(v: View, g: [[f64; 9]; 4], c: Carried, on: bool) -> [f64; 4]
-    requires { ⌜ Shared v ⌝ }
-    ensures { λ r. ⌜ r ≡ mesoValues v g c on ⌝ }
-{
-    if !on {
-        return [0.0; 4];
-    }
-    let mut p = pma0();
-    let a = glob7s_from(v, &p, g, c);
-    p = pma1();
-    let b = glob7s_from(v, &p, g, c);
-    p = pma2();
-    let d = glob7s_from(v, &p, g, c);
-    p = pma9();
-    let e = glob7s_from(v, &p, g, c);
-    [a, b, d, e]
-}
-
-// PMA[3] to PMA[7], where the nodes of the troposphere count.
-pub fn tropo(v: View, g: [[f64; 9]; 4], c: Carried, on: bool) -> [f64; 5]
-    requires { ⌜ Shared v ⌝ }
-    ensures { λ r. ⌜ r ≡ tropoValues v g c on ⌝ }
-{
-    if !on {
-        return [0.0; 5];
-    }
-    let mut p = pma3();
-    let a = glob7s_from(v, &p, g, c);
-    p = pma4();
-    let b = glob7s_from(v, &p, g, c);
-    p = pma5();
-    let d = glob7s_from(v, &p, g, c);
-    p = pma6();
-    let e = glob7s_from(v, &p, g, c);
-    p = pma7();
-    let f = glob7s_from(v, &p, g, c);
-    [a, b, d, e, f]
+    let p3 = pd3();
+    let c3 = active(v, a, p3[51], p3[138], c);
+    let p8 = pd8();
+    let c8 = active(v, a, p8[51], p8[138], c7);
+    glob7s_filled(end, n, v, g, c3, c8)
 }
 
 // The values that are needed; the others are 0.
@@ -354,50 +505,39 @@ pub fn expansion_values_of(v: View, n: Need) -> ExpansionValues
     requires { ⌜ Shared v ⌝ }
     ensures { λ r. ⌜ r ≡ expansionValuesOf v n ⌝ }
 {
-    let g = legendre(v.slat, v.clat, [0.0; 36]);
+    let g = legendre_in(v);
     let c = quiet(v);
     let k = common(v);
-    let p3 = pd3();
-    let c3 = active(v, k, p3[51], p3[138], c);
     let p7 = pd7();
     let c7 = active(v, k, p7[51], p7[138], c);
-    let p8 = pd8();
-    let c8 = active(v, k, p8[51], p8[138], c7);
-    let x = pt_value(v, g, c, k, n.pt);
-    let y = ps_value(v, g, c, k, n.ps);
-    let z = pd3_value(v, g, c3);
-    let l = light(v, g, c, k);
-    let h = heavy(v, g, c, k);
-    let b = high(v, g, c, k, c7, c8, n.high);
-    let a = nodes(v, g, c3, n.nodes);
-    let m = meso(v, g, c8, n.meso);
-    let t = tropo(v, g, c8, n.tropo);
+    let x = globe7_values(n, v, g, c, k, c7);
+    let y = glob7s_values(n, v, g, c, k, c7);
     ExpansionValues {
-        pt: x,
-        ps: y,
-        pd0: l[0],
-        pd1: b[0],
-        pd2: l[1],
-        pd3: z,
-        pd4: h[0],
-        pd5: h[1],
-        pd6: b[1],
-        pd7: b[2],
-        pd8: b[3],
-        ptl0: a[0],
-        ptl1: a[1],
-        ptl2: a[2],
-        ptl3: a[3],
-        pma0: m[0],
-        pma1: m[1],
-        pma2: m[2],
-        pma3: t[0],
-        pma4: t[1],
-        pma5: t[2],
-        pma6: t[3],
-        pma7: t[4],
-        pma8: a[4],
-        pma9: m[3],
+        pt: x[0],
+        ps: x[10],
+        pd0: x[1],
+        pd1: x[2],
+        pd2: x[3],
+        pd3: x[4],
+        pd4: x[5],
+        pd5: x[6],
+        pd6: x[7],
+        pd7: x[8],
+        pd8: x[9],
+        ptl0: y[0],
+        ptl1: y[1],
+        ptl2: y[2],
+        ptl3: y[3],
+        pma0: y[5],
+        pma1: y[6],
+        pma2: y[7],
+        pma3: y[9],
+        pma4: y[10],
+        pma5: y[11],
+        pma6: y[12],
+        pma7: y[13],
+        pma8: y[4],
+        pma9: y[8],
     }
 }
 

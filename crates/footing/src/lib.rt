@@ -206,36 +206,6 @@ pub fn footing_of(sw: [f64; 24], x: Site, l: ExpansionValues, tropo: bool) -> Fo
     standing(sw[0], x, h, b, y, d, e, k)
 }
 
-// The same where an altitude below 72.5 km is asked for; elsewhere nothing reads it.
-pub fn footing_where(on: bool, sw: [f64; 24], x: Site, l: ExpansionValues, tropo: bool) -> Footing
-    ensures { λ r. ⌜ (on ≡ true → r ≡ footingOf sw x l tropo) ⌝ }
-{
-    if on {
-        return footing_of(sw, x, l, tropo);
-    }
-    let m = Meso {
-        tn2: [0.0; 4],
-        tgn2: [0.0; 2],
-    };
-    let s = blank();
-    let k = Curves {
-        upper: s,
-        d32: 0.0,
-        lower: s,
-    };
-    Footing {
-        x: x,
-        tinf: 0.0,
-        dm28m: 0.0,
-        he: 0.0,
-        n2: 0.0,
-        o2: 0.0,
-        ar: 0.0,
-        meso: m,
-        curves: k,
-    }
-}
-
 // densm for N2, from its layers; at 32.5 km, where gtd7 does not set the nodes of the troposphere and still reads them, from the nodes.
 pub fn reached(x: Site, d: f64, m: Meso, k: Curves, alt: f64) -> Profile
     ensures { λ r. ⌜ r ≡ reachedOf x d m k alt ⌝ }

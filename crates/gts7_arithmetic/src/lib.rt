@@ -1,6 +1,6 @@
 // The arithmetic of gts7 around its expansions and species: place, temperatures, nodes, totals.
 ghost use mathlib.Core.Path.{_≡_};
-ghost use Rattle.species.specs.Places.{spineAt};
+ghost use Rattle.species.specs.Places.{spineAt, placeAt};
 ghost use Rattle.gts7_arithmetic.specs.Gts7Arithmetic.{siteWith, siteOf, variedOf, meanOf, shapeOf, anomalousOf, massOf, unitsOf, rowOf, gatherOf};
 use elementary::root::sqrt;
 use elementary::trigonometry::cos;
@@ -10,6 +10,7 @@ use numbers::DR;
 use numbers::pick;
 use parameters::Parameters;
 use parameters::present;
+use places::place::Place;
 use places::place::Spine;
 use profile::gravity::glatf;
 use profile::unchecked::Shape;
@@ -234,9 +235,18 @@ pub fn row_from(sw0: f64, tinf: f64, n2: f64, y: SixSpecies, oh: f64, t1: f64) -
     ]
 }
 
-// Totals, units and the temperature at altitude; s is the spine of h.
-pub fn gather(sw0: f64, h: Shape, s: Spine, z: f64, x: Blend, y: SixSpecies, oh: f64) -> Gts7Output
-    requires { ⌜ s ≡ spineAt h ⌝ }
+// Totals, units and the temperature at altitude; s is the spine of h, and p its place at z.
+pub fn gather(
+    sw0: f64,
+    h: Shape,
+    s: Spine,
+    z: f64,
+    p: Place,
+    x: Blend,
+    y: SixSpecies,
+    oh: f64,
+) -> Gts7Output
+    requires { ⌜ (s ≡ spineAt h) × (p ≡ placeAt h z) ⌝ }
     ensures { λ r. ⌜ r ≡ gatherOf sw0 h z x y oh ⌝ }
 {
     let all = mass(
@@ -261,7 +271,7 @@ pub fn gather(sw0: f64, h: Shape, s: Spine, z: f64, x: Blend, y: SixSpecies, oh:
         oh,
     );
     let r = sqrt(z * z);
-    let t = temperature(h, s, r);
+    let t = temperature(h, s, z, p, r);
     Gts7Output {
         d: d,
         t1: t,

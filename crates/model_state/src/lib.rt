@@ -216,7 +216,8 @@ pub fn gather_step(
 {
     let a = sqrt(z * z);
     let s1 = densu_sets(s, h, a);
-    let u = gather(sw0, h, k, z, b, y, o);
+    let p = place_at(h, k, z);
+    let u = gather(sw0, h, k, z, p, b, y, o);
     UpperLeft {
         value: u,
         state: s1,

@@ -52,3 +52,16 @@ pub fn plus_zero(x: f64) -> bool
     }
     f64::to_bits(x) == 0
 }
+
+// True only where x and y are the same number, its sign with it.
+pub fn same(x: f64, y: f64) -> bool
+    ensures { λ r. ⌜ (r ≡ true → x ≡ y) ⌝ }
+{
+    if !(x == x) {
+        return false;
+    }
+    if !(y == y) {
+        return false;
+    }
+    f64::to_bits(x) == f64::to_bits(y)
+}

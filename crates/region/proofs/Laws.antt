@@ -1,6 +1,6 @@
 -- The logarithms of places that were worked out, and the temperature at one.
 use mathlib.Core.Path.{_≡_, refl, sym, ap, _∙_, subst}
-use mathlib.Core.Bool.{Bool, false, cond}
+use mathlib.Core.Bool.{Bool, true, false, cond}
 use mathlib.Core.List.{List}
 use lib.Ieee.{Float, lt}
 use Rattle.numbers.specs.Arithmetic.{_‼_}
@@ -29,6 +29,17 @@ turbopauses-logged h zhf w e = (
 pub under-logged : (re : Float) (s : Spine) (z za low : Float) (p : Place) → p ≡ underOf re s z za low → s .lt ≡ logOf (s .rt) → Logged p
 unfolding underOf
 under-logged re s z za low p e l = subst Logged (sym e) (l, refl)
+
+pub warm-under : (h : Shape) (s : Spine) (z r : Float) (p : Place) (l : List Float)
+    → p ≡ underOf (h .re) s z (pdlT1 ‼ 15) 72·5
+    → r ≡ z
+    → l ≡ pdlT1
+    → lt r (l ‼ 15) ≡ true
+    → p .tz ≡ temperatureAt h s r
+unfolding temperatureAt
+warm-under h s z r p l e0 e1 e2 e3 =
+    ap (λ (q : Place). q .tz) e0 ∙ ap (λ (x : Float). (underOf (h .re) s x (pdlT1 ‼ 15) 72·5) .tz) (sym e1)
+    ∙ sym (ap (λ (b : Bool). cond b ((underOf (h .re) s r (pdlT1 ‼ 15) 72·5) .tz) ((placeAt h r) .tz)) (rw e2 at e3))
 
 pub warm-over : (h : Shape) (s : Spine) (r : Float) (l : List Float) (w : Place) → w ≡ placeAt h r → l ≡ pdlT1 → lt r (l ‼ 15) ≡ false → w .tz ≡ temperatureAt h s r
 unfolding temperatureAt

@@ -3,6 +3,10 @@
 ghost use mathlib.Core.Path.{_≡_};
 ghost use Rattle.elementary.specs.Log.{logOf};
 ghost use Rattle.parameters.specs.Parameters.{presentOf};
+ghost use Rattle.numbers.specs.Arithmetic.{_‼_};
+ghost use Rattle.numbers.specs.Literals.{72·5};
+ghost use Rattle.tables.specs.Tables.{pdlT1};
+ghost use Rattle.places.specs.Place.{underOf};
 ghost use Rattle.places.specs.Thinning.{Logged};
 ghost use Rattle.species.specs.Places.{spineAt, placeAt};
 ghost use Rattle.region.specs.Region.{baseOf, thinBasesOf, denseBasesOf, basesOf, turbopausesOf, rootsFrom, rootsOf, sixAt, rowAt, rowOver, temperatureAt, rowUnder};
@@ -15,6 +19,7 @@ use gts7_arithmetic::row_from;
 use mixing::limits::Mixed;
 use mixing::limits::mixed_at;
 use mixing::limits::some_mixed;
+use numbers::same;
 use parameters::present;
 use places::place::Place;
 use places::place::Spine;
@@ -43,6 +48,7 @@ use species::oxygen;
 use species::oxygen_root;
 use species::place_alone_at;
 use species::place_at;
+use species::temperature_alone;
 use tables::pd0;
 use tables::pd1;
 use tables::pd2;
@@ -314,16 +320,20 @@ pub fn row_over(sw0: f64, sw15: f64, h: Shape, q: Roots, z: f64) -> [f64; 11]
     let g = anomalous(h);
     let k = place_alone_at(g, z);
     let r = sqrt(z * z);
-    let w = place_alone_at(h, r);
-    row_at(sw0, sw15, z, h.tinf, q, p, k, w.tz)
+    let t1 = temperature_alone(h, z, p, r);
+    row_at(sw0, sw15, z, h.tinf, q, p, k, t1)
 }
 
-// The temperature at r, which is z but for its rounding: below za from the spine.
-pub fn temperature_at(h: Shape, s: Spine, r: f64) -> f64
+// The temperature at r, below za from the spine; p is what the spine gives at z.
+pub fn temperature_at(h: Shape, s: Spine, z: f64, p: Place, r: f64) -> f64
+    requires { ⌜ p ≡ underOf (h .re) s z (pdlT1 ‼ 15) 72·5 ⌝ }
     ensures { λ t. ⌜ t ≡ temperatureAt h s r ⌝ }
 {
     let l = pdl1();
     if r < l[15] {
+        if same(r, z) {
+            return p.tz;
+        }
         return temperature_under(h.re, s, r, l[15], 72.5);
     }
     let w = place_alone_at(h, r);
@@ -339,6 +349,6 @@ pub fn row_under(sw0: f64, sw15: f64, h: Shape, s: Spine, g: Spine, q: Roots, z:
     let p = under(h.re, s, z, l[15], 72.5);
     let k = under(h.re, g, z, l[15], 72.5);
     let r = sqrt(z * z);
-    let t1 = temperature_at(h, s, r);
+    let t1 = temperature_at(h, s, z, p, r);
     row_at(sw0, sw15, z, h.tinf, q, p, k, t1)
 }

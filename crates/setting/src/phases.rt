@@ -1,11 +1,13 @@
 // The cosines with a phase that the expansions read.
 ghost use mathlib.Core.Path.{_≡_};
+ghost use Rattle.elementary.specs.Trig.{cosOf};
 ghost use Rattle.setting.specs.Phases.{annualCosOf, semiannualCosOf, localCosOf, utCosOf, utLongCosOf, longPhaseCosOf};
 use elementary::trigonometry::cos;
 use numbers::DGTR;
 use numbers::DR;
 use numbers::HR;
 use numbers::SR;
+use numbers::same;
 
 // cd32 and cd14: the cosine over the year with phase x.
 pub fn annual_cos(doy: f64, x: f64) -> f64
@@ -47,4 +49,15 @@ pub fn long_phase_cos(glong: f64, x: f64) -> f64
     ensures { λ r. ⌜ r ≡ longPhaseCosOf glong x ⌝ }
 {
     cos(DGTR * (glong - x))
+}
+
+// The cosine of x, where c is that of y.
+pub fn cos_again(x: f64, y: f64, c: f64) -> f64
+    requires { ⌜ c ≡ cosOf y ⌝ }
+    ensures { λ r. ⌜ r ≡ cosOf x ⌝ }
+{
+    if same(x, y) {
+        return c;
+    }
+    cos(x)
 }

@@ -1,16 +1,13 @@
 // The switch row as numbers: the Rust's tselec.
 ghost use mathlib.Core.Path.{_≡_};
-ghost use Prim.Native.Nat.{_<_};
 ghost use lib.Ieee.{binary64, ofInt};
 ghost use Rattle.setting.specs.Switches.{given, isOne, aboveZero, onOff, flagsOf};
 use super::Flags;
 
 // The main effect of an entry other than 9: on only for the value 1.
-pub fn main_at(w: [i32; 24], i: usize) -> f64
-    requires { ⌜ i < 24 ⌝ }
-    ensures { λ r. ⌜ r ≡ onOff (isOne (given w i)) ⌝ }
+pub fn main_of(x: i32) -> f64
+    ensures { λ r. ⌜ r ≡ onOff (isOne x) ⌝ }
 {
-    let x = w[i];
     if x == 1 {
         return 1.0;
     }
@@ -18,11 +15,9 @@ pub fn main_at(w: [i32; 24], i: usize) -> f64
 }
 
 // The cross effect of an entry other than 9: on for any value above 0.
-pub fn cross_at(w: [i32; 24], i: usize) -> f64
-    requires { ⌜ i < 24 ⌝ }
-    ensures { λ r. ⌜ r ≡ onOff (aboveZero (given w i)) ⌝ }
+pub fn cross_of(x: i32) -> f64
+    ensures { λ r. ⌜ r ≡ onOff (aboveZero x) ⌝ }
 {
-    let x = w[i];
     if x > 0 {
         return 1.0;
     }
@@ -45,8 +40,9 @@ pub fn tselec(w: [i32; 24]) -> Flags
     let mut swc = [0.0; 24];
     let mut i = 0;
     while i < 24 {
-        sw[i] = main_at(w, i);
-        swc[i] = cross_at(w, i);
+        let x = w[i];
+        sw[i] = main_of(x);
+        swc[i] = cross_of(x);
         i += 1;
     }
     let nine = nine_of(w);

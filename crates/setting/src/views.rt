@@ -1,12 +1,14 @@
 // The View of a row and a record.
 ghost use mathlib.Core.Path.{_≡_};
 ghost use lib.Ieee.{binary64, ofInt};
+ghost use Rattle.numbers.specs.Arithmetic.{_⊗_};
+ghost use Rattle.numbers.specs.Constants.{dgtr, hr};
+ghost use Rattle.elementary.specs.Trig.{cosOf};
 ghost use Rattle.setting.specs.View.{turnedOf, plainOf, viewOf};
 use super::Input;
 use super::View;
 use super::phases::annual_cos;
-use super::phases::local_cos;
-use super::phases::long_phase_cos;
+use super::phases::cos_again;
 use super::phases::semiannual_cos;
 use super::phases::ut_cos;
 use super::phases::ut_long_cos;
@@ -46,7 +48,7 @@ pub fn turned(lst: f64) -> Turns
     }
 }
 
-// The cosines of the phase 0.
+// The cosines of the phase 0; ct and clong, those of local time and of the longitude, are among them.
 pub struct Plain {
     pub year: f64,
     pub half_year: f64,
@@ -56,15 +58,16 @@ pub struct Plain {
     pub long: f64,
 }
 
-pub fn phase_zero(doy: f64, sec: f64, g_long: f64, lst: f64) -> Plain
+pub fn phase_zero(doy: f64, sec: f64, g_long: f64, lst: f64, ct: f64, clong: f64) -> Plain
+    requires { ⌜ (ct ≡ cosOf (hr ⊗ lst)) × (clong ≡ cosOf (dgtr ⊗ «g_long»)) ⌝ }
     ensures { λ r. ⌜ r ≡ plainOf doy sec «g_long» lst ⌝ }
 {
     let year = annual_cos(doy, 0.0);
     let half_year = semiannual_cos(doy, 0.0);
-    let local = local_cos(lst, 0.0);
+    let local = cos_again(HR * (lst - 0.0), HR * lst, ct);
     let ut = ut_cos(sec, 0.0);
     let ut_long = ut_long_cos(sec, 0.0, g_long);
-    let long = long_phase_cos(g_long, 0.0);
+    let long = cos_again(DGTR * (g_long - 0.0), DGTR * g_long, clong);
     Plain {
         year: year,
         half_year: half_year,
@@ -93,7 +96,7 @@ pub fn view_of(w: [i32; 24], n: Input) -> View
     let slong = sin(DGTR * n.g_long);
     let clong = cos(DGTR * n.g_long);
     let t = turned(n.lst);
-    let z = phase_zero(doy, n.sec, n.g_long, n.lst);
+    let z = phase_zero(doy, n.sec, n.g_long, n.lst, t.ct, clong);
     let sw = f.sw;
     let swc = f.swc;
     let ap_array = n.ap_array;

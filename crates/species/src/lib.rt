@@ -7,10 +7,10 @@ ghost use Rattle.species.specs.Species.{densityOf, temperatureOf};
 ghost use Rattle.species.specs.Rooted.{gasOf, mixingOf, turbopauseDensityOf, gasRoot, n2RootOf, heliumRootOf, oxygenRootOf, o2RootOf, argonRootOf, hydrogenRootOf, nitrogenRootOf, blendedOf, n2From, heliumFrom, oxygenFrom, o2MixedFrom, o2From, argonFrom, hydrogenFrom, nitrogenFrom, anomalousFactorOf, anomalousOxygenFrom};
 use elementary::exponential::exp;
 use elementary::logarithm::log;
-use elementary::root::sqrt;
 use mixing::ccor;
 use mixing::ccor2;
 use mixing::dnet;
+use numbers::same;
 use places::place::Place;
 use places::place::Spine;
 use places::place::place_alone;
@@ -137,14 +137,29 @@ pub fn density(h: Shape, z: f64, p: Place, dlb: f64, xm: f64, alpha: f64) -> f64
     gas(p, dlb, xm, alpha)
 }
 
-// densu over gts7's nodes: the temperature at z.
-pub fn temperature(h: Shape, s: Spine, z: f64) -> f64
-    requires { ⌜ s ≡ spineAt h ⌝ }
-    ensures { λ r. ⌜ r ≡ temperatureOf h z ⌝ }
+// densu over gts7's nodes: the temperature at r. It is p's where r is z, the altitude of p, as the root of z * z is.
+pub fn temperature(h: Shape, s: Spine, z: f64, p: Place, r: f64) -> f64
+    requires { ⌜ (s ≡ spineAt h) × (p ≡ placeAt h z) ⌝ }
+    ensures { λ t. ⌜ t ≡ temperatureOf h r ⌝ }
 {
+    if same(r, z) {
+        return p.tz;
+    }
     let m = ptm();
     let l = pdl1();
-    temperature_of(h, s, z, m[5], [l[15], 110.0, 100.0, 90.0, 72.5])
+    temperature_of(h, s, r, m[5], [l[15], 110.0, 100.0, 90.0, 72.5])
+}
+
+// The same where no other altitude of the shape is read.
+pub fn temperature_alone(h: Shape, z: f64, p: Place, r: f64) -> f64
+    requires { ⌜ p ≡ placeAt h z ⌝ }
+    ensures { λ t. ⌜ t ≡ placeAt h r .tz ⌝ }
+{
+    if same(r, z) {
+        return p.tz;
+    }
+    let w = place_alone_at(h, r);
+    w.tz
 }
 
 // The mixed density at the turbopause w, where it is asked for; xm and alpha are those of the gas less those of mixed air.
@@ -226,14 +241,14 @@ pub fn argon_root(on: bool, w: Place, db: f64, b28: f64, xmm: f64) -> Root
     root_of(on, w, db, 40.0 - xmm, 0.17 - 1.0, b28 * m[1])
 }
 
+// The root of the square of a coefficient is the coefficient.
 pub fn hydrogen_root(on: bool, w: Place, db: f64, b28: f64, xmm: f64) -> Root
     requires { ⌜ (on ≡ true → Logged w) ⌝ }
     ensures { λ r. ⌜ r ≡ hydrogenRootOf on w db b28 xmm ⌝ }
 {
     let m = pdm5();
     let l = pdl1();
-    let e = sqrt(l[17] * l[17]);
-    root_of(on, w, db, 1.0 - xmm, -0.38 - 1.0, b28 * m[1] * e)
+    root_of(on, w, db, 1.0 - xmm, -0.38 - 1.0, b28 * m[1] * l[17])
 }
 
 pub fn nitrogen_root(on: bool, w: Place, db: f64, b28: f64, xmm: f64) -> Root
@@ -242,8 +257,7 @@ pub fn nitrogen_root(on: bool, w: Place, db: f64, b28: f64, xmm: f64) -> Root
 {
     let m = pdm6();
     let l = pdl0();
-    let e = sqrt(l[2] * l[2]);
-    root_of(on, w, db, 14.0 - xmm, 0.0 - 1.0, b28 * m[1] * e)
+    root_of(on, w, db, 14.0 - xmm, 0.0 - 1.0, b28 * m[1] * l[2])
 }
 
 // A species above and below its turbopause, blended: t thins out what is mixed.

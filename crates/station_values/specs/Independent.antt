@@ -14,7 +14,7 @@ use Rattle.expansion_parts.specs.ExpansionParts.{t8Of, history8Of, daily8Of, t1
 use Rattle.expansion.specs.declared.Carried.{Carried}
 use Rattle.expansion.specs.Expansion.{firstTermsOf, carriedOf, globe7Value, turnsAfterOf, stateAfter, globe7Of, glob7sValue, glob7sFrom, glob7sOf}
 use Rattle.expansion_values.specs.declared.Need.{Need}
-use Rattle.expansion_values.specs.ExpansionValues.{legendreIn, quietOf, activeOf, wideOf, lightValues, heavyValues, highValues, nodeValues, mesoValues, tropoValues, expansionValuesOf}
+use Rattle.expansion_values.specs.ExpansionValues.{legendreIn, quietOf, activeOf, wideOf, expansionValuesOf}
 
 -- a View with other rows
 abbrev pub withRows : View → List Float → List Float → View
@@ -92,7 +92,7 @@ globe7-narrowed v p s =
     ∙ ap (λ (x : Float). globe7Result x (stateAfter (narrowed v) p s)) (globe7-value-narrowed v p _ _)
 
 expansion-values-narrowed : (v : View) (n : Need) → expansionValuesOf v n ≡ expansionValuesOf (narrowed v) n
-unfolding expansionValuesOf lightValues heavyValues highValues nodeValues mesoValues tropoValues wideOf activeOf quietOf turnsAfterOf legendreIn globe7Value firstTermsOf weightedOf weightedFrom t8Of history8Of daily8Of t10Of t11Of t12Of history12Of daily12Of glob7sFrom glob7sValue t8sOf t10sOf
+unfolding expansionValuesOf wideOf activeOf quietOf turnsAfterOf legendreIn globe7Value firstTermsOf weightedOf weightedFrom t8Of history8Of daily8Of t10Of t11Of t12Of history12Of daily12Of glob7sFrom glob7sValue t8sOf t10sOf
 expansion-values-narrowed v n = refl
 
 -- ---- two Views

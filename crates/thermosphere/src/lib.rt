@@ -177,5 +177,5 @@ pub fn gts7_stage(sw: [f64; 24], x: Site, z: f64, l: ExpansionValues) -> Gts7Out
     let y = species_stage(sw, h, s, k, z, p, t, b.b, x.flux, c.xmm, l);
     let g = anomalous(h);
     let o = anomalous_stage(sw, g, z, l);
-    gather(sw[0], h, s, z, b, y, o)
+    gather(sw[0], h, s, z, p, b, y, o)
 }

@@ -8,7 +8,7 @@ ghost use Rattle.elementary.specs.Exp.{expOf};
 ghost use Rattle.tables.specs.Tables.{pdT2, pdmT2};
 ghost use Rattle.mixing.specs.Limits.{mixedAt, someMixed};
 ghost use Rattle.plan.specs.Plan.{told, answerTo};
-ghost use Rattle.species.specs.Species.{densityOf, temperatureOf};
+ghost use Rattle.species.specs.Species.{densityOf};
 ghost use Rattle.species.specs.Places.{placeAt};
 ghost use Rattle.stages.specs.Stages.{speciesPlan, gts7Plan};
 ghost use Rattle.lower_atmosphere.specs.LowerAtmosphere.{gtd7Above};
@@ -25,6 +25,7 @@ use plan::ExpansionValues;
 use profile::unchecked::Shape;
 use species::density;
 use species::place_alone_at;
+use species::temperature_alone;
 use stages::anomalous_stage;
 use stages::argon_stage;
 use stages::helium_stage;
@@ -90,14 +91,6 @@ pub fn six_alone(
     }
 }
 
-// The temperature at z, no other altitude of the shape being read.
-pub fn temperature_alone(h: Shape, z: f64) -> f64
-    ensures { λ r. ⌜ r ≡ temperatureOf h z ⌝ }
-{
-    let p = place_alone_at(h, z);
-    p.tz
-}
-
 // m says which species are mixed: none.
 pub fn unmixed_row(sw: [f64; 24], x: Site, m: Mixed, z: f64, l: ExpansionValues) -> [f64; 11]
     requires { ⌜ (m ≡ mixedAt (x .nine) (sw ‼ 15) z) × (someMixed m ≡ false) ⌝ }
@@ -111,6 +104,6 @@ pub fn unmixed_row(sw: [f64; 24], x: Site, m: Mixed, z: f64, l: ExpansionValues)
     let k = anomalous(h);
     let oh = anomalous_stage(sw, k, z, l);
     let r = sqrt(z * z);
-    let t1 = temperature_alone(h, r);
+    let t1 = temperature_alone(h, z, p, r);
     row_from(sw[0], h.tinf, n2, y, oh, t1)
 }

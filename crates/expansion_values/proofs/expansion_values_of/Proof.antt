@@ -1,78 +1,37 @@
 -- `expansion_values_of` meets its contract.
-use Rattle.expansion_values.proofs.Laws.{expansion-values-law}
+use mathlib.Core.Path.{_∙_}
+use Rattle.tables.specs.Tables.{pdT7}
+use Rattle.expansion_values.specs.Activities.{in-pd7}
+use Rattle.expansion_values.proofs.Laws.{after-set, expansion-values-law}
 use borrow.Author.Needs.{needs}
 use Rattle.expansion_values.proofs.expansion_values_of.Statement.{statement}
 use Rattle.expansion_values.proofs.expansion_values_of.Tie as tie
 
--- the View's shared values, n calls after the first, and the sets' common activity
-light-requires : tie.Need-light-requires
-light-requires c κs = (c .before .before .before .before .before .before .before .before .before .before .before .before .pre, c .before .before .before .before .before .before .before .before .before .common .ensures)
-
-heavy-requires : tie.Need-heavy-requires
-heavy-requires c κs = (c .before .before .before .before .before .before .before .before .before .before .before .before .before .pre, c .before .before .before .before .before .before .before .before .before .before .common .ensures)
-
-high-requires : tie.Need-high-requires
-high-requires c κs = (c .before .before .before .before .before .before .before .before .before .before .before .before .before .before .pre, c .before .before .before .before .before .before .before .before .before .before .before .common .ensures)
-
-nodes-requires : tie.Need-nodes-requires
-nodes-requires c κs = c .before .before .before .before .before .before .before .before .before .before .before .before .before .before .before .pre
-
-meso-requires : tie.Need-meso-requires
-meso-requires c κs = c .before .before .before .before .before .before .before .before .before .before .before .before .before .before .before .before .pre
-
-tropo-requires : tie.Need-tropo-requires
-tropo-requires c κs = c .before .before .before .before .before .before .before .before .before .before .before .before .before .before .before .before .before .pre
+globe7-values-requires : tie.Need-globe7-values-requires
+globe7-values-requires c κs =
+    let s = c .before .before .before .before .before in
+    let k = c .before .before .common .ensures in
+    (s .pre, k, after-set (s .args .v) pdT7 _ _ _ _ (c .active .ensures) (c .before .pd7 .ensures) (k ∙ in-pd7 (s .args .v)))
 
 returns : tie.Need-returns
 returns c =
-    let A = c .before .before .before .before .before .before .before .before .before .before .before .before .before .before .before .before .before .before .args in
-    expansion-values-law (A .v) (A .n)
-    (c .tropo .result)
-    (c .before .meso .result)
-    (c .before .before .nodes .result)
-    (c .before .before .before .high .result)
-    (c .before .before .before .before .heavy .result)
-    (c .before .before .before .before .before .light .result)
-    (c .before .before .before .before .before .before .pd3-value .result)
-    (c .before .before .before .before .before .before .before .ps-value .result)
-    (c .before .before .before .before .before .before .before .before .pt-value .result)
-    (c .before .before .before .before .before .before .before .before .before .active3 .result)
-    (c .before .before .before .before .before .before .before .before .before .before .pd8 .result)
-    (c .before .before .before .before .before .before .before .before .before .before .before .active2 .result)
-    (c .before .before .before .before .before .before .before .before .before .before .before .before .pd7 .result)
-    (c .before .before .before .before .before .before .before .before .before .before .before .before .before .active .result)
-    (c .before .before .before .before .before .before .before .before .before .before .before .before .before .before .pd3 .result)
-    (c .before .before .before .before .before .before .before .before .before .before .before .before .before .before .before .common .result)
-    (c .before .before .before .before .before .before .before .before .before .before .before .before .before .before .before .before .quiet .result)
-    (c .before .before .before .before .before .before .before .before .before .before .before .before .before .before .before .before .before .legendre .result)
-    (c .tropo .ensures)
-    (c .before .meso .ensures)
-    (c .before .before .nodes .ensures)
-    (c .before .before .before .high .ensures)
-    (c .before .before .before .before .heavy .ensures)
-    (c .before .before .before .before .before .light .ensures)
-    (c .before .before .before .before .before .before .pd3-value .ensures)
-    (c .before .before .before .before .before .before .before .ps-value .ensures)
-    (c .before .before .before .before .before .before .before .before .pt-value .ensures)
-    (c .before .before .before .before .before .before .before .before .before .active3 .ensures)
-    (c .before .before .before .before .before .before .before .before .before .before .pd8 .ensures)
-    (c .before .before .before .before .before .before .before .before .before .before .before .active2 .ensures)
-    (c .before .before .before .before .before .before .before .before .before .before .before .before .pd7 .ensures)
-    (c .before .before .before .before .before .before .before .before .before .before .before .before .before .active .ensures)
-    (c .before .before .before .before .before .before .before .before .before .before .before .before .before .before .pd3 .ensures)
-    (c .before .before .before .before .before .before .before .before .before .before .before .before .before .before .before .common .ensures)
-    (c .before .before .before .before .before .before .before .before .before .before .before .before .before .before .before .before .quiet .ensures)
-    (c .before .before .before .before .before .before .before .before .before .before .before .before .before .before .before .before .before .legendre .ensures)
+    let s = c .before .before .before .before .before .before .before in
+    let v = s .args .v in
+    expansion-values-law v (s .args .n) _ _ _ _ _
+    (c .glob7s-values .ensures)
+    (c .before .globe7-values .ensures)
+    (after-set v pdT7 _ _ _ _ (c .before .before .active .ensures) (c .before .before .before .pd7 .ensures) (c .before .before .before .before .common .ensures ∙ in-pd7 v))
+    (c .before .before .before .before .before .quiet .ensures)
+    (c .before .before .before .before .before .before .legendre-in .ensures)
 
 pub expansion-values-of-spec : {M : Type 1} → statement M
 expansion-values-of-spec =
     tie.close
     (tie.spec
     (λ c κs. search needs) (λ c κs. search needs) (λ c κs. search needs) (λ c κs. search needs) (λ c. search needs) (λ c. search needs)
-    (λ c κs. search needs) (λ c κs. search needs) (λ c. search needs) (λ c. search needs) (λ c κs. search needs) (λ c κs. search needs)
-    (λ c. search needs) (λ c. search needs) (λ c κs. search needs) (λ c κs. search needs) (λ c κs. search needs) (λ c κs. search needs)
-    light-requires heavy-requires high-requires nodes-requires meso-requires tropo-requires
-    (λ c. search needs) (λ c. search needs) (λ c. search needs) (λ c. search needs) (λ c. search needs) (λ c. search needs)
-    (λ c. search needs) (λ c. search needs) (λ c. search needs) (λ c. search needs) (λ c. search needs) (λ c. search needs)
-    (λ c. search needs) (λ c. search needs) (λ c. search needs) (λ c. search needs) (λ c. search needs) (λ c. search needs)
-    (λ c. search needs) (λ c. search needs) (λ c. search needs) (λ c. search needs) returns)
+    (λ c κs. search needs) globe7-values-requires
+    (λ c κs. (c .before .before .before .before .before .before .pre, c .before .before .before .common .ensures)) (λ c. search needs)
+    (λ c. search needs) (λ c. search needs) (λ c. search needs) (λ c. search needs) (λ c. search needs) (λ c. search needs) (λ c. search needs)
+    (λ c. search needs) (λ c. search needs) (λ c. search needs) (λ c. search needs) (λ c. search needs) (λ c. search needs) (λ c. search needs)
+    (λ c. search needs) (λ c. search needs) (λ c. search needs) (λ c. search needs) (λ c. search needs) (λ c. search needs) (λ c. search needs)
+    (λ c. search needs) (λ c. search needs) (λ c. search needs) returns)

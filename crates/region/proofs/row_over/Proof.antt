@@ -7,7 +7,7 @@ use Rattle.region.proofs.row_over.Tie as tie
 
 returns : tie.Need-returns
 unfolding rowOver
-returns c = simp (c .row-at .ensures, c .before .place-alone-at3 .ensures, c .before .before .sqrt .ensures, c .before .before .before .place-alone-at2 .ensures, c .before .before .before .before .anomalous .ensures, c .before .before .before .before .before .place-alone-at .ensures)
+returns c = simp (c .row-at .ensures, c .before .temperature-alone .ensures, c .before .before .sqrt .ensures, c .before .before .before .place-alone-at2 .ensures, c .before .before .before .before .anomalous .ensures, c .before .before .before .before .before .place-alone-at .ensures)
 
 pub row-over-spec : {M : Type 1} → statement M
 row-over-spec =

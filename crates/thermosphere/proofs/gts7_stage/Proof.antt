@@ -50,4 +50,4 @@ gts7-stage-spec =
     tie.close
     (tie.spec (λ c κs. search needs) (λ c κs. search needs) (λ c κs. c .spine-at .ensures) (λ c κs. search needs) (λ c. search needs)
     (λ c κs. c .before .before .before .spine-at .ensures) (λ c. search needs) (λ c κs. search needs) (λ c κs. search needs) mixing-requires n2-stage-requires
-    species-stage-requires (λ c κs. search needs) (λ c κs. search needs) (λ c. search needs) (λ c κs. c .before .before .before .before .before .before .before .before .before .before .before .before .spine-at .ensures) returns)
+    species-stage-requires (λ c κs. search needs) (λ c κs. search needs) (λ c. search needs) (λ c κs. (c .before .before .before .before .before .before .before .before .before .before .before .before .spine-at .ensures, c .before .before .before .before .before .before .before .before .before .before .before .place-at .ensures)) returns)

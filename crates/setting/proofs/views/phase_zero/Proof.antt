@@ -1,12 +1,13 @@
 -- `phase_zero` meets its contract.
+use Rattle.setting.specs.Phases.{localCosOf, longPhaseCosOf}
 use Rattle.setting.specs.View.{plainOf}
 use borrow.Author.Needs.{needs}
 use Rattle.setting.proofs.views.phase_zero.Statement.{statement}
 use Rattle.setting.proofs.views.phase_zero.Tie as tie
 
 returns : tie.Need-returns
-unfolding plainOf
-returns c = simp ((c .long-phase-cos .ensures), (c .before .ut-long-cos .ensures), (c .before .before .ut-cos .ensures), (c .before .before .before .local-cos .ensures), (c .before .before .before .before .semiannual-cos .ensures), (c .before .before .before .before .before .annual-cos .ensures))
+unfolding plainOf localCosOf longPhaseCosOf
+returns c = simp ((c .cos-again2 .ensures), (c .before .ut-long-cos .ensures), (c .before .before .ut-cos .ensures), (c .before .before .before .cos-again .ensures), (c .before .before .before .before .semiannual-cos .ensures), (c .before .before .before .before .before .annual-cos .ensures))
 
 pub phase-zero-spec : {M : Type 1} → statement M
 phase-zero-spec =
