@@ -1,6 +1,6 @@
 -- The reduction of exp's argument: n times log 2 is taken off m, or m off n times log 2. Assumes nothing.
 use mathlib.Core.Path.{_≡_, refl, sym, subst}
-use Prim.Native.Nat.{ℕ, zero, suc, _+_, _-_, _*_, _/_, _^_, _≤_, _<_}
+use Prim.Native.Nat.{ℕ, zero, suc, _+_, _*_, _/_, _^_, _≤_, _<_}
 use native.Mathlib.Omega.{arith}
 use native.Mathlib.Nat.{add-zero, not-suc-le-zero, le-of-suc-le-suc}
 use Rattle.natural_exponential.specs.Exp.{timesOf, gapOf, expRest}
@@ -42,7 +42,7 @@ pub record Reduced (s m n : ℕ) : Type 0 where
   pub fewer : s ≡ 0 → n ≤ 1022
   pub some : chooseOf s (n * 6243314768165359) m ≤ 2 ^ 53 + chooseOf s m (n * 6243314768165359)
   pub small : gapOf s m n * 32 + n * 6 < 2 ^ 64
-  pub more : (1 - s ≡ 0 → ⊥) → n * 6 ≤ gapOf s m n * 32
+  pub more : s ≡ 0 → n * 6 ≤ gapOf s m n * 32
   pub inside : expRest s m n ≤ 2 ^ 59
 
 module _ (m n : ℕ) (f : n ≤ 1022) (h : n * 6243314768165359 ≤ m) (k : m ≤ n * 6243314768165359 + 6243314768165359 + 12884901888) where
@@ -51,9 +51,15 @@ module _ (m n : ℕ) (f : n ≤ 1022) (h : n * 6243314768165359 ≤ m) (k : m �
 
 module _ (m n : ℕ) (f : n ≤ 1074) (h : n * 6243314768165359 ≤ m) (k : m ≤ n * 6243314768165359 + 6243314768165359 + 12884901888) where
   downwards : Reduced 1 m (n + 1)
-  downwards = record { few = omega arith; fewer = λ z. absurd (positive 0 z); some = omega arith; small = omega arith; more = λ z. absurd (z refl); inside = omega arith }
+  downwards = record { few = omega arith; fewer = λ z. absurd (positive 0 z); some = omega arith; small = omega arith; more = λ z. absurd (positive 0 z); inside = omega arith }
+
+pub risen : (m : ℕ) → m ≤ 709 * 2 ^ 53 → Reduced 0 m (timesOf m)
+risen m h = upwards m (timesOf m) (times-few m h) (times-le m) (times-ge m (omega arith))
+
+pub fallen : (m : ℕ) → m ≤ 745 * 2 ^ 53 → Reduced 1 m (timesOf m + 1)
+fallen m h = downwards m (timesOf m) (times-many m h) (times-le m) (times-ge m h)
 
 pub reduced : (s m : ℕ) → s ≤ 1 → m ≤ 745 * 2 ^ 53 → (s ≡ 0 → m ≤ 709 * 2 ^ 53) → Reduced s m (timesOf m + s)
-reduced zero m l h k = subst (λ (n : ℕ). Reduced 0 m n) (sym (add-zero (timesOf m))) (upwards m (timesOf m) (times-few m (k refl)) (times-le m) (times-ge m h))
-reduced (suc zero) m l h k = downwards m (timesOf m) (times-many m h) (times-le m) (times-ge m h)
+reduced zero m l h k = subst (λ (n : ℕ). Reduced 0 m n) (sym (add-zero (timesOf m))) (risen m (k refl))
+reduced (suc zero) m l h k = fallen m h
 reduced (suc (suc s)) m l h k = absurd (not-suc-le-zero (le-of-suc-le-suc l))

@@ -1,5 +1,4 @@
 // exp on f64, by whole numbers alone.
-use fixed_point::choose;
 use fixed_point::high;
 use fixed_point::offset;
 use fixed_point::scaled;
@@ -165,16 +164,15 @@ pub fn kernel(t: u64) -> u64
     compounded(c, expm1(t % 281474976710656))
 }
 
-// v / 128 * 2^k / 2^1138 as a float. v / 128 over 2^115 is one, and so it is over 2^51: only the last step rounds, below
-// 2^-1022 too. Above 2^959 it is a quotient, so that the usual way stays a test and a product.
+// v / 128 * 2^k / 2^1138 as a float. From k = 116 on 2^(k - 1138) is a float by its bits, and the one product is exact.
+// Below that v / 128 over 2^115 is exact, and only the last product rounds, below 2^-1022 too.
 pub fn assembled(v: u64, k: u64) -> f64
     requires { ⌜ (128 ≤ v) × (v < 2 ^ 60) × (1 ≤ k) × (k ≤ 2109) ⌝ }
     ensures { λ r. ⌜ r ≡ assembledOf v k ⌝ }
 {
     let q = v / 128;
-    if 2046 < k {
-        return (q as f64) * f64::from_bits(4377498837804122112)
-            / f64::from_bits((2110 - k) * 4503599627370496);
+    if 115 < k {
+        return (q as f64) * f64::from_bits((k - 115) * 4503599627370496);
     }
     (q as f64) * f64::from_bits(4089268461652410368) * f64::from_bits(k * 4503599627370496)
 }
@@ -185,17 +183,24 @@ pub struct Rest {
     pub k: u64,
 }
 
-// For |x| = m in units of 2^-53: n times log 2 is taken off m, or m off n times log 2, and 2^n or 2^-n is left to the exponent.
-pub fn reduced(s: u64, m: u64) -> Rest
-    requires { ⌜ (s ≤ 1) × (m ≤ 745 * 2 ^ 53) × (s ≡ 0 → m ≤ 709 * 2 ^ 53) ⌝ }
-    ensures { λ r. ⌜ (r .t ≡ expRest s m (timesOf m + s)) × (r .k ≡ offsetOf s 1087 (timesOf m + s)) × (r .t ≤ 2 ^ 59) × (1 ≤ r .k) × (r .k ≤ 2109) ⌝ }
+// For x = m in units of 2^-53, above 1: n times log 2 is taken off m, and 2^n is left to the exponent.
+pub fn risen(m: u64) -> Rest
+    requires { ⌜ m ≤ 709 * 2 ^ 53 ⌝ }
+    ensures { λ r. ⌜ (r .t ≡ expRest 0 m (timesOf m)) × (r .k ≡ offsetOf 0 1087 (timesOf m)) × (r .t ≤ 2 ^ 59) × (1 ≤ r .k) × (r .k ≤ 2109) ⌝ }
 {
-    let n = m / 4294967296 * 3098164009 / 4503599627370496 + s;
-    let u = n * 6243314768165359;
-    let d = 9007199254740992 + choose(s, m, u) - choose(s, u, m);
-    let t = offset(1 - s, d * 32, n * 6);
-    let k = offset(s, 1087, n);
-    Rest { t: t, k: k }
+    let n = m / 4294967296 * 3098164009 / 4503599627370496;
+    let t = (9007199254740992 + m - n * 6243314768165359) * 32 - n * 6;
+    Rest { t: t, k: 1087 + n }
+}
+
+// For -x = m: m is taken off n times log 2, and 2^-n is left to the exponent.
+pub fn fallen(m: u64) -> Rest
+    requires { ⌜ m ≤ 745 * 2 ^ 53 ⌝ }
+    ensures { λ r. ⌜ (r .t ≡ expRest 1 m (timesOf m + 1)) × (r .k ≡ offsetOf 1 1087 (timesOf m + 1)) × (r .t ≤ 2 ^ 59) × (1 ≤ r .k) × (r .k ≤ 2109) ⌝ }
+{
+    let n = m / 4294967296 * 3098164009 / 4503599627370496 + 1;
+    let t = (9007199254740992 + n * 6243314768165359 - m) * 32 + n * 6;
+    Rest { t: t, k: 1087 - n }
 }
 
 // For |x| = m in units of 2^-58, at most 1: nothing is taken off.
@@ -213,11 +218,13 @@ pub fn rest_of(x: f64) -> Rest
     ensures { λ r. ⌜ (assembledOf (kernelOf (r .t)) (r .k) ≡ expOf x) × (r .t ≤ 2 ^ 59) × (1 ≤ r .k) × (r .k ≤ 2109) ⌝ }
 {
     let b = f64::to_bits(x);
-    let s = b / 9223372036854775808;
     if 4607182418800017408 < b % 9223372036854775808 {
-        return reduced(s, scaled(x, 53));
+        if b < 9223372036854775808 {
+            return risen(scaled(x, 53));
+        }
+        return fallen(scaled(x, 53));
     }
-    near(s, scaled(x, 58))
+    near(b / 9223372036854775808, scaled(x, 58))
 }
 
 // The usual range first; one call of the kernel for every x, so that it stands in line.
