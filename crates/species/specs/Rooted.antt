@@ -59,74 +59,95 @@ hydrogenRootOf on w db b28 xmm = gasRoot on w db (1·0 ⊖ xmm) (neg 0·38 ⊖ 1
 unfoldable pub nitrogenRootOf : Bool → Place → Float → Float → Float → Root
 nitrogenRootOf on w db b28 xmm = gasRoot on w db (14·0 ⊖ xmm) (0·0 ⊖ 1·0) (b28 ⊗ pdmT6 ‼ 1 ⊗ sqrtOf (pdlT0 ‼ 2 ⊗ pdlT0 ‼ 2))
 
--- a species above and below its turbopause, blended
-unfoldable pub blendedOf : Place → Thinning → Root → Float → Float → Float → Float → Mixture
-blendedOf p t q xm alpha zhm xmm =
-    let d0 = gasOf p (q .db) xm alpha in
-    let dm = thinnedOf t (q .b) in
-    record { dens = dnetOf d0 dm zhm xmm xm; dm = dm }
+-- a species blended at its turbopause: dd is its density where nothing is mixed, b the mixed one at the turbopause
+unfoldable pub blendedOf : Float → Thinning → Float → Float → Float → Float → Mixture
+blendedOf dd t b xm zhm xmm =
+    let dm = thinnedOf t b in
+    record { dens = dnetOf dd dm zhm xmm xm; dm = dm }
+
+-- what mixing makes of each species' density dd at a place, and the species from its Root
+unfoldable pub blendedN2 : Bool → Float → Thinning → Root → Float → Mixture
+blendedN2 on dd t q xmm =
+    cond (not on) (record { dens = dd; dm = 0·0 })
+    (blendedOf dd t (q .b) 28·0 (pdmT2 ‼ 3 ⊗ pdlT1 ‼ 5) xmm)
 
 unfoldable pub n2From : Bool → Place → Thinning → Root → Float → Mixture
-n2From on p t q xmm =
-    cond (not on) (record { dens = gasOf p (q .db) 28·0 0·0; dm = 0·0 })
-    (blendedOf p t q 28·0 0·0 (pdmT2 ‼ 3 ⊗ pdlT1 ‼ 5) xmm)
+n2From on p t q xmm = blendedN2 on (gasOf p (q .db) 28·0 0·0) t q xmm
 
-unfoldable pub heliumFrom : Bool → Float → Place → Thinning → Root → Float → Float → Mixture
-heliumFrom on z p t q zhm xmm =
-    cond (not on) (record { dens = gasOf p (q .db) 4·0 (neg 0·38); dm = 0·0 }) (
+unfoldable pub blendedHelium : Bool → Float → Float → Thinning → Root → Float → Float → Mixture
+blendedHelium on z dd t q zhm xmm =
+    cond (not on) (record { dens = dd; dm = 0·0 }) (
     let m = pdmT0 in
     let l = pdlT1 in
-    let x = blendedOf p t q 4·0 (neg 0·38) zhm xmm in
+    let x = blendedOf dd t (q .b) 4·0 zhm xmm in
     let c = ccorOf z (q .r) (m ‼ 5 ⊗ l ‼ 1) (m ‼ 4 ⊗ l ‼ 0) in
     record { dens = x .dens ⊗ c; dm = x .dm })
 
-unfoldable pub oxygenFrom : Bool → Float → Place → Thinning → Root → Float → Float → Mixture
-oxygenFrom on z p t q zhm xmm =
-    cond (not on) (record { dens = gasOf p (q .db) 16·0 0·0; dm = 0·0 }) (
+unfoldable pub heliumFrom : Bool → Float → Place → Thinning → Root → Float → Float → Mixture
+heliumFrom on z p t q zhm xmm = blendedHelium on z (gasOf p (q .db) 4·0 (neg 0·38)) t q zhm xmm
+
+unfoldable pub blendedOxygen : Bool → Float → Float → Thinning → Root → Float → Float → Mixture
+blendedOxygen on z dd t q zhm xmm =
+    cond (not on) (record { dens = dd; dm = 0·0 }) (
     let m = pdmT1 in
     let l = pdlT1 in
-    let x = blendedOf p t q 16·0 0·0 zhm xmm in
+    let x = blendedOf dd t (q .b) 16·0 zhm xmm in
     let c = ccor2Of z (q .r) (m ‼ 5 ⊗ l ‼ 3) (m ‼ 4 ⊗ l ‼ 2) (m ‼ 5 ⊗ l ‼ 4) in
     let e = ccorOf z (m ‼ 3 ⊗ l ‼ 14) (m ‼ 7 ⊗ l ‼ 13) (m ‼ 6 ⊗ l ‼ 12) in
     record { dens = x .dens ⊗ c ⊗ e; dm = x .dm })
 
-unfoldable pub o2MixedFrom : Bool → Float → Place → Thinning → Root → Float → Float → Mixture
-o2MixedFrom on z p t q zhm xmm =
-    cond (not on) (record { dens = gasOf p (q .db) 32·0 0·0; dm = 0·0 }) (
+unfoldable pub oxygenFrom : Bool → Float → Place → Thinning → Root → Float → Float → Mixture
+oxygenFrom on z p t q zhm xmm = blendedOxygen on z (gasOf p (q .db) 16·0 0·0) t q zhm xmm
+
+unfoldable pub blendedO2 : Bool → Float → Float → Thinning → Root → Float → Float → Mixture
+blendedO2 on z dd t q zhm xmm =
+    cond (not on) (record { dens = dd; dm = 0·0 }) (
     let m = pdmT3 in
     let l = pdlT1 in
-    let x = blendedOf p t q 32·0 0·0 zhm xmm in
+    let x = blendedOf dd t (q .b) 32·0 zhm xmm in
     let c = ccorOf z (q .r) (m ‼ 5 ⊗ l ‼ 7) (m ‼ 4 ⊗ l ‼ 6) in
     record { dens = x .dens ⊗ c; dm = x .dm })
 
-unfoldable pub argonFrom : Bool → Float → Place → Thinning → Root → Float → Float → Mixture
-argonFrom on z p t q zhm xmm =
-    cond (not on) (record { dens = gasOf p (q .db) 40·0 0·17; dm = 0·0 }) (
+unfoldable pub o2MixedFrom : Bool → Float → Place → Thinning → Root → Float → Float → Mixture
+o2MixedFrom on z p t q zhm xmm = blendedO2 on z (gasOf p (q .db) 32·0 0·0) t q zhm xmm
+
+unfoldable pub blendedArgon : Bool → Float → Float → Thinning → Root → Float → Float → Mixture
+blendedArgon on z dd t q zhm xmm =
+    cond (not on) (record { dens = dd; dm = 0·0 }) (
     let m = pdmT4 in
     let l = pdlT1 in
-    let x = blendedOf p t q 40·0 0·17 zhm xmm in
+    let x = blendedOf dd t (q .b) 40·0 zhm xmm in
     let c = ccorOf z (q .r) (m ‼ 5 ⊗ l ‼ 9) (m ‼ 4 ⊗ l ‼ 8) in
     record { dens = x .dens ⊗ c; dm = x .dm })
 
-unfoldable pub hydrogenFrom : Bool → Float → Place → Thinning → Root → Float → Float → Mixture
-hydrogenFrom on z p t q zhm xmm =
-    cond (not on) (record { dens = gasOf p (q .db) 1·0 (neg 0·38); dm = 0·0 }) (
+unfoldable pub argonFrom : Bool → Float → Place → Thinning → Root → Float → Float → Mixture
+argonFrom on z p t q zhm xmm = blendedArgon on z (gasOf p (q .db) 40·0 0·17) t q zhm xmm
+
+unfoldable pub blendedHydrogen : Bool → Float → Float → Thinning → Root → Float → Float → Mixture
+blendedHydrogen on z dd t q zhm xmm =
+    cond (not on) (record { dens = dd; dm = 0·0 }) (
     let m = pdmT5 in
     let l = pdlT1 in
-    let x = blendedOf p t q 1·0 (neg 0·38) zhm xmm in
+    let x = blendedOf dd t (q .b) 1·0 zhm xmm in
     let c = ccorOf z (q .r) (m ‼ 5 ⊗ l ‼ 11) (m ‼ 4 ⊗ l ‼ 10) in
     let e = ccorOf z (m ‼ 3 ⊗ l ‼ 20) (m ‼ 7 ⊗ l ‼ 19) (m ‼ 6 ⊗ l ‼ 18) in
     record { dens = x .dens ⊗ c ⊗ e; dm = x .dm })
 
-unfoldable pub nitrogenFrom : Bool → Float → Place → Thinning → Root → Float → Float → Mixture
-nitrogenFrom on z p t q zhm xmm =
-    cond (not on) (record { dens = gasOf p (q .db) 14·0 0·0; dm = 0·0 }) (
+unfoldable pub hydrogenFrom : Bool → Float → Place → Thinning → Root → Float → Float → Mixture
+hydrogenFrom on z p t q zhm xmm = blendedHydrogen on z (gasOf p (q .db) 1·0 (neg 0·38)) t q zhm xmm
+
+unfoldable pub blendedNitrogen : Bool → Float → Float → Thinning → Root → Float → Float → Mixture
+blendedNitrogen on z dd t q zhm xmm =
+    cond (not on) (record { dens = dd; dm = 0·0 }) (
     let m = pdmT6 in
     let l = pdlT0 in
-    let x = blendedOf p t q 14·0 0·0 zhm xmm in
+    let x = blendedOf dd t (q .b) 14·0 zhm xmm in
     let c = ccorOf z (q .r) (m ‼ 5 ⊗ l ‼ 1) (m ‼ 4 ⊗ l ‼ 0) in
     let e = ccorOf z (m ‼ 3 ⊗ l ‼ 5) (m ‼ 7 ⊗ l ‼ 4) (m ‼ 6 ⊗ l ‼ 3) in
     record { dens = x .dens ⊗ c ⊗ e; dm = x .dm })
+
+unfoldable pub nitrogenFrom : Bool → Float → Place → Thinning → Root → Float → Float → Mixture
+nitrogenFrom on z p t q zhm xmm = blendedNitrogen on z (gasOf p (q .db) 14·0 0·0) t q zhm xmm
 
 unfoldable pub o2From : Float → Bool → Float → Place → Thinning → Root → Float → Float → Float → Mixture
 o2From sw15 on z p t q rate zhm xmm =
@@ -218,7 +239,7 @@ module _ (own : Bool) (h : Shape) (z : Float) (p : Place) (t : Thinning) (q : Ro
       ∙ ap (λ (x : Thinning). thinnedOf x (densityOf h zh db (xm ⊖ xmm) (alpha ⊖ 1·0))) (thins o)
       ∙ gas-is h z p at _ xmm 0·0
 
-  blended-is : own ≡ true → blendedOf p t q xm alpha zhm xmm ≡ record { dens = (mixedOf h z db zh xm alpha zhm xmm) .dens; dm = (mixedOf h z db zh xm alpha zhm xmm) .dm }
+  blended-is : own ≡ true → blendedOf (gasOf p (q .db) xm alpha) t (q .b) xm zhm xmm ≡ record { dens = (mixedOf h z db zh xm alpha zhm xmm) .dens; dm = (mixedOf h z db zh xm alpha zhm xmm) .dm }
   unfolding blendedOf mixedOf
   blended-is o = rw (plain, here o)
 
@@ -230,7 +251,7 @@ module _ (h : Shape) (on : Bool) (z : Float) (p : Place) (t : Thinning) (q : Roo
   pub n2-is : (db zhf xmm : Float) → Mixes on p xmm t
       → (q .db ≡ db) × (q .b ≡ densityOf h (pdmT2 ‼ 2 ⊗ zhf) db (28·0 ⊖ xmm) (0·0 ⊖ 1·0))
       → _≡_ {A = Blend} (record { dens = (n2From on p t q xmm) .dens; b = q .b; dm = (n2From on p t q xmm) .dm }) (n2Of h on z db zhf xmm)
-  unfolding n2From n2Of mixedOf
+  unfolding n2From blendedN2 n2Of mixedOf
   n2-is db zhf xmm thins e =
       let rooted : Rooted on h (pdmT2 ‼ 2 ⊗ zhf) db (28·0 ⊖ xmm) (0·0 ⊖ 1·0) (q .r) q = record { lower = e .0; upper = λ o. e .1; rate = λ o. refl } in
       ap (λ (b : Float). record { dens = (n2From on p t q xmm) .dens; b = b; dm = (n2From on p t q xmm) .dm }) (e .1)
@@ -243,7 +264,7 @@ module _ (h : Shape) (on : Bool) (z : Float) (p : Place) (t : Thinning) (q : Roo
   pub helium-is : (b28 db zhm xmm : Float) → Mixes on p xmm t
       → Rooted on h (pdmT0 ‼ 2) db (4·0 ⊖ xmm) (neg 0·38 ⊖ 1·0) (logOf (b28 ⊗ pdmT0 ‼ 1 ⊘ densityOf h (pdmT0 ‼ 2) db (4·0 ⊖ xmm) (neg 0·38 ⊖ 1·0))) q
       → heliumFrom on z p t q zhm xmm ≡ heliumOf h on z b28 db zhm xmm
-  unfolding heliumFrom heliumOf mixedOf
+  unfolding heliumFrom blendedHelium heliumOf mixedOf
   helium-is b28 db zhm xmm thins rooted =
       by-test on _ _ _ _
       (alone on h z p t q zhm xmm (pdmT0 ‼ 2) db 4·0 (neg 0·38) _ at thins rooted)
@@ -252,7 +273,7 @@ module _ (h : Shape) (on : Bool) (z : Float) (p : Place) (t : Thinning) (q : Roo
   pub argon-is : (b28 db zhm xmm : Float) → Mixes on p xmm t
       → Rooted on h (pdmT4 ‼ 2) db (40·0 ⊖ xmm) (0·17 ⊖ 1·0) (logOf (b28 ⊗ pdmT4 ‼ 1 ⊘ densityOf h (pdmT4 ‼ 2) db (40·0 ⊖ xmm) (0·17 ⊖ 1·0))) q
       → argonFrom on z p t q zhm xmm ≡ argonOf h on z b28 db zhm xmm
-  unfolding argonFrom argonOf mixedOf
+  unfolding argonFrom blendedArgon argonOf mixedOf
   argon-is b28 db zhm xmm thins rooted =
       by-test on _ _ _ _
       (alone on h z p t q zhm xmm (pdmT4 ‼ 2) db 40·0 0·17 _ at thins rooted)
@@ -261,7 +282,7 @@ module _ (h : Shape) (on : Bool) (z : Float) (p : Place) (t : Thinning) (q : Roo
   pub hydrogen-is : (b28 db zhm xmm : Float) → Mixes on p xmm t
       → Rooted on h (pdmT5 ‼ 2) db (1·0 ⊖ xmm) (neg 0·38 ⊖ 1·0) (logOf (b28 ⊗ pdmT5 ‼ 1 ⊗ sqrtOf (pdlT1 ‼ 17 ⊗ pdlT1 ‼ 17) ⊘ densityOf h (pdmT5 ‼ 2) db (1·0 ⊖ xmm) (neg 0·38 ⊖ 1·0))) q
       → hydrogenFrom on z p t q zhm xmm ≡ hydrogenOf h on z b28 db zhm xmm
-  unfolding hydrogenFrom hydrogenOf mixedOf
+  unfolding hydrogenFrom blendedHydrogen hydrogenOf mixedOf
   hydrogen-is b28 db zhm xmm thins rooted =
       by-test on _ _ _ _
       (alone on h z p t q zhm xmm (pdmT5 ‼ 2) db 1·0 (neg 0·38) _ at thins rooted)
@@ -270,7 +291,7 @@ module _ (h : Shape) (on : Bool) (z : Float) (p : Place) (t : Thinning) (q : Roo
   pub nitrogen-is : (b28 db zhm xmm : Float) → Mixes on p xmm t
       → Rooted on h (pdmT6 ‼ 2) db (14·0 ⊖ xmm) (0·0 ⊖ 1·0) (logOf (b28 ⊗ pdmT6 ‼ 1 ⊗ sqrtOf (pdlT0 ‼ 2 ⊗ pdlT0 ‼ 2) ⊘ densityOf h (pdmT6 ‼ 2) db (14·0 ⊖ xmm) (0·0 ⊖ 1·0))) q
       → nitrogenFrom on z p t q zhm xmm ≡ nitrogenOf h on z b28 db zhm xmm
-  unfolding nitrogenFrom nitrogenOf mixedOf
+  unfolding nitrogenFrom blendedNitrogen nitrogenOf mixedOf
   nitrogen-is b28 db zhm xmm thins rooted =
       by-test on _ _ _ _
       (alone on h z p t q zhm xmm (pdmT6 ‼ 2) db 14·0 0·0 _ at thins rooted)
@@ -279,7 +300,7 @@ module _ (h : Shape) (on : Bool) (z : Float) (p : Place) (t : Thinning) (q : Roo
   pub o2-mixed-is : (b28 db zhm xmm : Float) → Mixes on p xmm t
       → Rooted on h (pdmT3 ‼ 2) db (32·0 ⊖ xmm) (0·0 ⊖ 1·0) (logOf (b28 ⊗ pdmT3 ‼ 1 ⊘ densityOf h (pdmT3 ‼ 2) db (32·0 ⊖ xmm) (0·0 ⊖ 1·0))) q
       → o2MixedFrom on z p t q zhm xmm ≡ o2MixedOf h on z b28 db zhm xmm
-  unfolding o2MixedFrom o2MixedOf mixedOf
+  unfolding o2MixedFrom blendedO2 o2MixedOf mixedOf
   o2-mixed-is b28 db zhm xmm thins rooted =
       by-test on _ _ _ _
       (alone on h z p t q zhm xmm (pdmT3 ‼ 2) db 32·0 0·0 _ at thins rooted)
@@ -288,7 +309,7 @@ module _ (h : Shape) (on : Bool) (z : Float) (p : Place) (t : Thinning) (q : Roo
   pub oxygen-is : (db zhm xmm flux : Float) → Mixes on p xmm t
       → Rooted on h (pdmT1 ‼ 2) db (16·0 ⊖ xmm) (0·0 ⊖ 1·0) (pdmT1 ‼ 1 ⊗ pdlT1 ‼ 16 ⊗ flux) q
       → oxygenFrom on z p t q zhm xmm ≡ oxygenOf h on z db zhm xmm flux
-  unfolding oxygenFrom oxygenOf mixedOf
+  unfolding oxygenFrom blendedOxygen oxygenOf mixedOf
   oxygen-is db zhm xmm flux thins rooted =
       by-test on _ _ _ _
       (alone on h z p t q zhm xmm (pdmT1 ‼ 2) db 16·0 0·0 _ at thins rooted)

@@ -4,7 +4,7 @@ ghost use mathlib.Core.Bool.{true};
 ghost use Rattle.places.specs.Thinning.{Logged};
 ghost use Rattle.species.specs.Places.{spineAt, placeAt, Turbopause, Mixes};
 ghost use Rattle.species.specs.Species.{densityOf, temperatureOf};
-ghost use Rattle.species.specs.Rooted.{gasOf, mixingOf, turbopauseDensityOf, gasRoot, n2RootOf, heliumRootOf, oxygenRootOf, o2RootOf, argonRootOf, hydrogenRootOf, nitrogenRootOf, blendedOf, n2From, heliumFrom, oxygenFrom, o2MixedFrom, o2From, argonFrom, hydrogenFrom, nitrogenFrom, anomalousFactorOf, anomalousOxygenFrom};
+ghost use Rattle.species.specs.Rooted.{gasOf, mixingOf, turbopauseDensityOf, gasRoot, n2RootOf, heliumRootOf, oxygenRootOf, o2RootOf, argonRootOf, hydrogenRootOf, nitrogenRootOf, blendedOf, blendedN2, blendedHelium, blendedOxygen, blendedO2, blendedArgon, blendedHydrogen, blendedNitrogen, n2From, heliumFrom, oxygenFrom, o2MixedFrom, o2From, argonFrom, hydrogenFrom, nitrogenFrom, anomalousFactorOf, anomalousOxygenFrom};
 use elementary::exponential::exp;
 use elementary::logarithm::log;
 use mixing::ccor;
@@ -260,43 +260,56 @@ pub fn nitrogen_root(on: bool, w: Place, db: f64, b28: f64, xmm: f64) -> Root
     root_of(on, w, db, 14.0 - xmm, 0.0 - 1.0, b28 * m[1] * l[2])
 }
 
-// A species above and below its turbopause, blended: t thins out what is mixed.
-pub fn blended(p: Place, t: Thinning, q: Root, xm: f64, alpha: f64, zhm: f64, xmm: f64) -> Mixture
-    requires { ⌜ Logged p ⌝ }
-    ensures { λ r. ⌜ r ≡ blendedOf p t q xm alpha zhm xmm ⌝ }
+// A species blended at its turbopause: dd is its density where nothing is mixed, b the mixed one at the turbopause, which t thins out.
+pub fn blended(dd: f64, t: Thinning, b: f64, xm: f64, zhm: f64, xmm: f64) -> Mixture
+    ensures { λ r. ⌜ r ≡ blendedOf dd t b xm zhm xmm ⌝ }
 {
-    let d0 = gas(p, q.db, xm, alpha);
-    let dm = thinned(t, q.b);
-    let d = dnet(d0, dm, zhm, xmm, xm);
+    let dm = thinned(t, b);
+    let d = dnet(dd, dm, zhm, xmm, xm);
     Mixture { dens: d, dm: dm }
 }
 
+// Each species in two functions: its density at the place first, then what mixing makes of it. The second is handed that number and no place, which
+// would be copied on the way.
+
 // N2; on says whether it is mixed, and of the other species likewise.
+pub fn blended_n2(on: bool, dd: f64, t: Thinning, q: Root, xmm: f64) -> Mixture
+    ensures { λ r. ⌜ r ≡ blendedN2 on dd t q xmm ⌝ }
+{
+    if !on {
+        return Mixture { dens: dd, dm: 0.0 };
+    }
+    let m = pdm2();
+    let l = pdl1();
+    blended(dd, t, q.b, 28.0, m[3] * l[5], xmm)
+}
+
 pub fn n2(on: bool, p: Place, t: Thinning, q: Root, xmm: f64) -> Mixture
     requires { ⌜ Logged p ⌝ }
     ensures { λ r. ⌜ r ≡ n2From on p t q xmm ⌝ }
 {
-    if !on {
-        let d = gas(p, q.db, 28.0, 0.0);
-        return Mixture { dens: d, dm: 0.0 };
-    }
-    let m = pdm2();
-    let l = pdl1();
-    blended(p, t, q, 28.0, 0.0, m[3] * l[5], xmm)
+    let dd = gas(p, q.db, 28.0, 0.0);
+    blended_n2(on, dd, t, q, xmm)
 }
 
 // Helium.
-pub fn helium(on: bool, z: f64, p: Place, t: Thinning, q: Root, zhm: f64, xmm: f64) -> Mixture
-    requires { ⌜ Logged p ⌝ }
-    ensures { λ r. ⌜ r ≡ heliumFrom on z p t q zhm xmm ⌝ }
+pub fn blended_helium(
+    on: bool,
+    z: f64,
+    dd: f64,
+    t: Thinning,
+    q: Root,
+    zhm: f64,
+    xmm: f64,
+) -> Mixture
+    ensures { λ r. ⌜ r ≡ blendedHelium on z dd t q zhm xmm ⌝ }
 {
     if !on {
-        let d = gas(p, q.db, 4.0, -0.38);
-        return Mixture { dens: d, dm: 0.0 };
+        return Mixture { dens: dd, dm: 0.0 };
     }
     let m = pdm0();
     let l = pdl1();
-    let x = blended(p, t, q, 4.0, -0.38, zhm, xmm);
+    let x = blended(dd, t, q.b, 4.0, zhm, xmm);
     let c = ccor(z, q.r, m[5] * l[1], m[4] * l[0]);
     Mixture {
         dens: x.dens * c,
@@ -304,18 +317,32 @@ pub fn helium(on: bool, z: f64, p: Place, t: Thinning, q: Root, zhm: f64, xmm: f
     }
 }
 
-// Atomic oxygen.
-pub fn oxygen(on: bool, z: f64, p: Place, t: Thinning, q: Root, zhm: f64, xmm: f64) -> Mixture
+pub fn helium(on: bool, z: f64, p: Place, t: Thinning, q: Root, zhm: f64, xmm: f64) -> Mixture
     requires { ⌜ Logged p ⌝ }
-    ensures { λ r. ⌜ r ≡ oxygenFrom on z p t q zhm xmm ⌝ }
+    ensures { λ r. ⌜ r ≡ heliumFrom on z p t q zhm xmm ⌝ }
+{
+    let dd = gas(p, q.db, 4.0, -0.38);
+    blended_helium(on, z, dd, t, q, zhm, xmm)
+}
+
+// Atomic oxygen.
+pub fn blended_oxygen(
+    on: bool,
+    z: f64,
+    dd: f64,
+    t: Thinning,
+    q: Root,
+    zhm: f64,
+    xmm: f64,
+) -> Mixture
+    ensures { λ r. ⌜ r ≡ blendedOxygen on z dd t q zhm xmm ⌝ }
 {
     if !on {
-        let d = gas(p, q.db, 16.0, 0.0);
-        return Mixture { dens: d, dm: 0.0 };
+        return Mixture { dens: dd, dm: 0.0 };
     }
     let m = pdm1();
     let l = pdl1();
-    let x = blended(p, t, q, 16.0, 0.0, zhm, xmm);
+    let x = blended(dd, t, q.b, 16.0, zhm, xmm);
     let c = ccor2(z, q.r, m[5] * l[3], m[4] * l[2], m[5] * l[4]);
     let e = ccor(z, m[3] * l[14], m[7] * l[13], m[6] * l[12]);
     Mixture {
@@ -324,18 +351,24 @@ pub fn oxygen(on: bool, z: f64, p: Place, t: Thinning, q: Root, zhm: f64, xmm: f
     }
 }
 
-// Molecular oxygen without its second correction.
-pub fn o2_mixed(on: bool, z: f64, p: Place, t: Thinning, q: Root, zhm: f64, xmm: f64) -> Mixture
+pub fn oxygen(on: bool, z: f64, p: Place, t: Thinning, q: Root, zhm: f64, xmm: f64) -> Mixture
     requires { ⌜ Logged p ⌝ }
-    ensures { λ r. ⌜ r ≡ o2MixedFrom on z p t q zhm xmm ⌝ }
+    ensures { λ r. ⌜ r ≡ oxygenFrom on z p t q zhm xmm ⌝ }
+{
+    let dd = gas(p, q.db, 16.0, 0.0);
+    blended_oxygen(on, z, dd, t, q, zhm, xmm)
+}
+
+// Molecular oxygen without its second correction.
+pub fn blended_o2(on: bool, z: f64, dd: f64, t: Thinning, q: Root, zhm: f64, xmm: f64) -> Mixture
+    ensures { λ r. ⌜ r ≡ blendedO2 on z dd t q zhm xmm ⌝ }
 {
     if !on {
-        let d = gas(p, q.db, 32.0, 0.0);
-        return Mixture { dens: d, dm: 0.0 };
+        return Mixture { dens: dd, dm: 0.0 };
     }
     let m = pdm3();
     let l = pdl1();
-    let x = blended(p, t, q, 32.0, 0.0, zhm, xmm);
+    let x = blended(dd, t, q.b, 32.0, zhm, xmm);
     let c = ccor(z, q.r, m[5] * l[7], m[4] * l[6]);
     Mixture {
         dens: x.dens * c,
@@ -343,18 +376,24 @@ pub fn o2_mixed(on: bool, z: f64, p: Place, t: Thinning, q: Root, zhm: f64, xmm:
     }
 }
 
-// Argon.
-pub fn argon(on: bool, z: f64, p: Place, t: Thinning, q: Root, zhm: f64, xmm: f64) -> Mixture
+pub fn o2_mixed(on: bool, z: f64, p: Place, t: Thinning, q: Root, zhm: f64, xmm: f64) -> Mixture
     requires { ⌜ Logged p ⌝ }
-    ensures { λ r. ⌜ r ≡ argonFrom on z p t q zhm xmm ⌝ }
+    ensures { λ r. ⌜ r ≡ o2MixedFrom on z p t q zhm xmm ⌝ }
+{
+    let dd = gas(p, q.db, 32.0, 0.0);
+    blended_o2(on, z, dd, t, q, zhm, xmm)
+}
+
+// Argon.
+pub fn blended_argon(on: bool, z: f64, dd: f64, t: Thinning, q: Root, zhm: f64, xmm: f64) -> Mixture
+    ensures { λ r. ⌜ r ≡ blendedArgon on z dd t q zhm xmm ⌝ }
 {
     if !on {
-        let d = gas(p, q.db, 40.0, 0.17);
-        return Mixture { dens: d, dm: 0.0 };
+        return Mixture { dens: dd, dm: 0.0 };
     }
     let m = pdm4();
     let l = pdl1();
-    let x = blended(p, t, q, 40.0, 0.17, zhm, xmm);
+    let x = blended(dd, t, q.b, 40.0, zhm, xmm);
     let c = ccor(z, q.r, m[5] * l[9], m[4] * l[8]);
     Mixture {
         dens: x.dens * c,
@@ -362,18 +401,32 @@ pub fn argon(on: bool, z: f64, p: Place, t: Thinning, q: Root, zhm: f64, xmm: f6
     }
 }
 
-// Hydrogen.
-pub fn hydrogen(on: bool, z: f64, p: Place, t: Thinning, q: Root, zhm: f64, xmm: f64) -> Mixture
+pub fn argon(on: bool, z: f64, p: Place, t: Thinning, q: Root, zhm: f64, xmm: f64) -> Mixture
     requires { ⌜ Logged p ⌝ }
-    ensures { λ r. ⌜ r ≡ hydrogenFrom on z p t q zhm xmm ⌝ }
+    ensures { λ r. ⌜ r ≡ argonFrom on z p t q zhm xmm ⌝ }
+{
+    let dd = gas(p, q.db, 40.0, 0.17);
+    blended_argon(on, z, dd, t, q, zhm, xmm)
+}
+
+// Hydrogen.
+pub fn blended_hydrogen(
+    on: bool,
+    z: f64,
+    dd: f64,
+    t: Thinning,
+    q: Root,
+    zhm: f64,
+    xmm: f64,
+) -> Mixture
+    ensures { λ r. ⌜ r ≡ blendedHydrogen on z dd t q zhm xmm ⌝ }
 {
     if !on {
-        let d = gas(p, q.db, 1.0, -0.38);
-        return Mixture { dens: d, dm: 0.0 };
+        return Mixture { dens: dd, dm: 0.0 };
     }
     let m = pdm5();
     let l = pdl1();
-    let x = blended(p, t, q, 1.0, -0.38, zhm, xmm);
+    let x = blended(dd, t, q.b, 1.0, zhm, xmm);
     let c = ccor(z, q.r, m[5] * l[11], m[4] * l[10]);
     let e = ccor(z, m[3] * l[20], m[7] * l[19], m[6] * l[18]);
     Mixture {
@@ -382,24 +435,46 @@ pub fn hydrogen(on: bool, z: f64, p: Place, t: Thinning, q: Root, zhm: f64, xmm:
     }
 }
 
-// Atomic nitrogen.
-pub fn nitrogen(on: bool, z: f64, p: Place, t: Thinning, q: Root, zhm: f64, xmm: f64) -> Mixture
+pub fn hydrogen(on: bool, z: f64, p: Place, t: Thinning, q: Root, zhm: f64, xmm: f64) -> Mixture
     requires { ⌜ Logged p ⌝ }
-    ensures { λ r. ⌜ r ≡ nitrogenFrom on z p t q zhm xmm ⌝ }
+    ensures { λ r. ⌜ r ≡ hydrogenFrom on z p t q zhm xmm ⌝ }
+{
+    let dd = gas(p, q.db, 1.0, -0.38);
+    blended_hydrogen(on, z, dd, t, q, zhm, xmm)
+}
+
+// Atomic nitrogen.
+pub fn blended_nitrogen(
+    on: bool,
+    z: f64,
+    dd: f64,
+    t: Thinning,
+    q: Root,
+    zhm: f64,
+    xmm: f64,
+) -> Mixture
+    ensures { λ r. ⌜ r ≡ blendedNitrogen on z dd t q zhm xmm ⌝ }
 {
     if !on {
-        let d = gas(p, q.db, 14.0, 0.0);
-        return Mixture { dens: d, dm: 0.0 };
+        return Mixture { dens: dd, dm: 0.0 };
     }
     let m = pdm6();
     let l = pdl0();
-    let x = blended(p, t, q, 14.0, 0.0, zhm, xmm);
+    let x = blended(dd, t, q.b, 14.0, zhm, xmm);
     let c = ccor(z, q.r, m[5] * l[1], m[4] * l[0]);
     let e = ccor(z, m[3] * l[5], m[7] * l[4], m[6] * l[3]);
     Mixture {
         dens: x.dens * c * e,
         dm: x.dm,
     }
+}
+
+pub fn nitrogen(on: bool, z: f64, p: Place, t: Thinning, q: Root, zhm: f64, xmm: f64) -> Mixture
+    requires { ⌜ Logged p ⌝ }
+    ensures { λ r. ⌜ r ≡ nitrogenFrom on z p t q zhm xmm ⌝ }
+{
+    let dd = gas(p, q.db, 14.0, 0.0);
+    blended_nitrogen(on, z, dd, t, q, zhm, xmm)
 }
 
 // Molecular oxygen; the second correction, by rate, asks switch 15 alone.

@@ -6,14 +6,7 @@ use Rattle.species.proofs.helium.Tie as tie
 
 returns : tie.Need-returns
 unfolding heliumFrom
-returns c = simp (← c .gas .ensures) (simp (c .before .if1 .taken))
-
-returns-2 : tie.Need-returns-2
-unfolding heliumFrom
-returns-2 c = simp (← c .before .ccor .ensures, ← c .before .before .blended .ensures, ← c .before .before .before .pdl1 .ensures, ← c .before .before .before .before .pdm0 .ensures) (simp (c .before .before .before .before .before .if1 .left))
+returns c = simp (← c .blended-helium .ensures, ← c .before .gas .ensures)
 
 pub helium-spec : {M : Type 1} → statement M
-helium-spec =
-    tie.close
-    (tie.spec (λ c κs. search needs) returns (λ c κs. search needs) (λ c κs. search needs) (λ c κs. search needs)
-    (λ c. search needs) (λ c. search needs) (λ c. search needs) (λ c. search needs) (λ c κs. search needs) returns-2)
+helium-spec = tie.close (tie.spec (λ c κs. search needs) (λ c κs. search needs) returns)

@@ -6,14 +6,7 @@ use Rattle.species.proofs.o2_mixed.Tie as tie
 
 returns : tie.Need-returns
 unfolding o2MixedFrom
-returns c = simp (← c .gas .ensures) (simp (c .before .if1 .taken))
-
-returns-2 : tie.Need-returns-2
-unfolding o2MixedFrom
-returns-2 c = simp (← c .before .ccor .ensures, ← c .before .before .blended .ensures, ← c .before .before .before .pdl1 .ensures, ← c .before .before .before .before .pdm3 .ensures) (simp (c .before .before .before .before .before .if1 .left))
+returns c = simp (← c .blended-o2 .ensures, ← c .before .gas .ensures)
 
 pub o2-mixed-spec : {M : Type 1} → statement M
-o2-mixed-spec =
-    tie.close
-    (tie.spec (λ c κs. search needs) returns (λ c κs. search needs) (λ c κs. search needs) (λ c κs. search needs)
-    (λ c. search needs) (λ c. search needs) (λ c. search needs) (λ c. search needs) (λ c κs. search needs) returns-2)
+o2-mixed-spec = tie.close (tie.spec (λ c κs. search needs) (λ c κs. search needs) returns)
