@@ -106,7 +106,15 @@ pub fn globe7_value(v: View, p: &[f64], g: [[f64; 9]; 4], s: Carried) -> f64
     requires { ⌜ (length (now p) ≡ 150) × Shared v ⌝ }
     ensures { λ r. ⌜ r ≡ globe7Value v (now (p .entry)) g s ⌝ }
 {
-    let d = day_cosines(v.doy, v.cos_year, v.cos_half_year, p);
+    let d = day_cosines(
+        v.doy,
+        v.cos_year,
+        v.cos_half_year,
+        p[31],
+        p[17],
+        p[13],
+        p[38],
+    );
     let y = first_terms(v, p, g, d);
     let fb = f2(p, v.df, v.dfa, v.swc[1]);
     let x6 = t6(p, g, v.sw[7], fb, d.cd14, v.swc[5], s.ctloc, s.stloc);
@@ -201,7 +209,15 @@ pub fn glob7s_value(v: View, p: &[f64], g: [[f64; 9]; 4], s: Carried) -> f64
     requires { ⌜ (100 ≤ length (now p)) × Shared v ⌝ }
     ensures { λ r. ⌜ r ≡ glob7sValue v (now (p .entry)) g s ⌝ }
 {
-    let d = day_cosines(v.doy, v.cos_year, v.cos_half_year, p);
+    let d = day_cosines(
+        v.doy,
+        v.cos_year,
+        v.cos_half_year,
+        p[31],
+        p[17],
+        p[13],
+        p[38],
+    );
     let x0 = p[21] * s.dfa;
     let x1 = t1s(p, g);
     let x2 = t2s(p, g, d.cd32);

@@ -11,10 +11,13 @@ use Rattle.setting.specs.Phases.{annualCosOf, semiannualCosOf, localCosOf, utCo
 use Rattle.expansion_parts.specs.declared.Seasons.{Seasons}
 use Rattle.terms.specs.Terms.{fluxFactorOf, diurnalOf, semidiurnalOf, terdiurnalOf, localTimePartOf, activityTermOf, longCosOf, longSinOf, utMeanOf, utLongOf, activityLongOf, activityAnnualOf, activityUtOf, diurnalSOf, semidiurnalSOf, terdiurnalSOf, dailySOf, historySOf, seasonSOf, longCosSOf, longSinSOf}
 
--- The four cosines of the day
+-- The four cosines of the day, from their phases and of a set
+abbrev pub dayCosinesAt : Float → Float → Float → Float → Float → Seasons
+dayCosinesAt doy p31 p17 p13 p38 =
+    record { cd32 = annualCosOf doy p31; cd18 = semiannualCosOf doy p17; cd14 = annualCosOf doy p13; cd39 = semiannualCosOf doy p38 }
+
 unfoldable pub dayCosinesOf : Float → List Float → Seasons
-dayCosinesOf doy p =
-    record { cd32 = annualCosOf doy (p ‼ 31); cd18 = semiannualCosOf doy (p ‼ 17); cd14 = annualCosOf doy (p ‼ 13); cd39 = semiannualCosOf doy (p ‼ 38) }
+dayCosinesOf doy p = dayCosinesAt doy (p ‼ 31) (p ‼ 17) (p ‼ 13) (p ‼ 38)
 
 -- t[6]: 0 where switch 7 is off
 unfoldable pub t6Of : List Float → List (List Float) → Float → Float → Float → Float → Float → Float → Float

@@ -5,7 +5,7 @@ ghost use lib.ListN.{length};
 ghost use Rattle.setting.specs.Phases.{annualCosOf, semiannualCosOf, localCosOf, utCosOf, utLongCosOf, longPhaseCosOf};
 ghost use Rattle.numbers.specs.Literals.{0·0};
 ghost use Rattle.setting.specs.Shared.{OwnSize, Shared};
-ghost use Rattle.expansion_parts.specs.ExpansionParts.{dayCosinesOf, hasLongitudeOf, t6Of, t7Of, t13Of, history8Of, daily8Of, t8Of, t10Of, t11Of, history12Of, daily12Of, t12Of, weightedOf, t8sOf, t10sOf, t6sOf, t7sOf, t13sOf};
+ghost use Rattle.expansion_parts.specs.ExpansionParts.{dayCosinesAt, hasLongitudeOf, t6Of, t7Of, t13Of, history8Of, daily8Of, t8Of, t10Of, t11Of, history12Of, daily12Of, t12Of, weightedOf, t8sOf, t10sOf, t6sOf, t7sOf, t13sOf};
 use numbers::abs;
 use numbers::plus_zero;
 use setting::View;
@@ -133,15 +133,24 @@ pub fn long_phase(v: View, x: f64) -> f64
     long_phase_cos(v.g_long, x)
 }
 
-// The four cosines of the day.
-pub fn day_cosines(doy: f64, year: f64, half: f64, p: &[f64]) -> Seasons
-    requires { ⌜ (100 ≤ length (now p)) × (year ≡ annualCosOf doy 0·0) × (half ≡ semiannualCosOf doy 0·0) ⌝ }
-    ensures { λ r. ⌜ r ≡ dayCosinesOf doy (now (p .entry)) ⌝ }
+// The four cosines of the day. It is handed the phases and not the set: a set that is lent to a function that does not stand in line is written to
+// memory whole.
+pub fn day_cosines(
+    doy: f64,
+    year: f64,
+    half: f64,
+    p31: f64,
+    p17: f64,
+    p13: f64,
+    p38: f64,
+) -> Seasons
+    requires { ⌜ (year ≡ annualCosOf doy 0·0) × (half ≡ semiannualCosOf doy 0·0) ⌝ }
+    ensures { λ r. ⌜ r ≡ dayCosinesAt doy p31 p17 p13 p38 ⌝ }
 {
-    let a = annual_at(doy, year, p[31]);
-    let b = semiannual_at(doy, half, p[17]);
-    let c = annual_at(doy, year, p[13]);
-    let d = semiannual_at(doy, half, p[38]);
+    let a = annual_at(doy, year, p31);
+    let b = semiannual_at(doy, half, p17);
+    let c = annual_at(doy, year, p13);
+    let d = semiannual_at(doy, half, p38);
     Seasons {
         cd32: a,
         cd18: b,
