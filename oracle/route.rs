@@ -59,8 +59,12 @@ mod led {
 
     const NONE: Count = Count { calls: 0, low: f64::INFINITY, high: f64::NEG_INFINITY };
 
+    // How many arguments of each are kept, the first ones.
+    const KEPT: usize = 65_536;
+
     thread_local! {
         static COUNTS: RefCell<[Count; 7]> = const { RefCell::new([NONE; 7]) };
+        static ARGUMENTS: RefCell<[Vec<f64>; 7]> = const { RefCell::new([const { Vec::new() }; 7]) };
     }
 
     fn note(which: usize, x: f64) {
@@ -69,7 +73,18 @@ mod led {
             c.calls += 1;
             c.low = c.low.min(x);
             c.high = c.high.max(x);
+        });
+        ARGUMENTS.with(|a| {
+            let a = &mut a.borrow_mut()[which];
+            if a.len() < KEPT {
+                a.push(x);
+            }
         })
+    }
+
+    // The arguments in the order of the calls.
+    pub fn arguments() -> [Vec<f64>; 7] {
+        ARGUMENTS.with(|a| std::mem::take(&mut *a.borrow_mut()))
     }
 
     pub fn taken() -> [Count; 7] {

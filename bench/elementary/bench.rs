@@ -1,5 +1,6 @@
 // Nanoseconds per call of the elementary functions and of the Rust libm crate, in one run.
-// Throughput: independent arguments. Latency: each argument waits for the result before it.
+// Throughput: independent arguments. Latency: each argument waits for the result before it. Given a folder, also over the arguments that
+// `model arguments` wrote there.
 #[path = "../../oracle/random.rs"]
 mod random;
 use random::Random;
@@ -76,6 +77,16 @@ fn main() {
     let sin = |x: f64| unsafe { elementary_sin(x) };
     let cos = |x: f64| unsafe { elementary_cos(x) };
     let sqrt = |x: f64| unsafe { elementary_sqrt(x) };
+    if let Some(folder) = std::env::args().nth(2) {
+        let of = |name: &str| -> Vec<f64> {
+            let text = std::fs::read_to_string(format!("{folder}/{name}.arguments")).expect("a file of arguments");
+            text.lines().map(|bits| f64::from_bits(u64::from_str_radix(bits, 16).expect("the bits of a number"))).collect()
+        };
+        line("exp, the model's", exp, libm::exp, &of("exp"));
+        line("log, the model's", log, libm::log, &of("log"));
+        line("sin, the model's", sin, libm::sin, &of("sin"));
+        line("cos, the model's", cos, libm::cos, &of("cos"));
+    }
     line("exp, -60 to 10", exp, libm::exp, &exps);
     line("exp, -1 to 1", exp, libm::exp, &near);
     line("sin, -1 to 1", sin, libm::sin, &near);

@@ -658,6 +658,23 @@ fn counts() {
     }
 }
 
+// The arguments that the Rust hands to exp, log, sin and cos over the records of the timings, in its order, to a file each: their bits in hexadecimal.
+fn arguments(folder: &str) {
+    counted::route::arguments();
+    for k in 0..256 {
+        for alt in [0.0, 50.0, 90.0, 150.0, 400.0, 1000.0] {
+            for nine in [1, -1] {
+                let (records, w) = timed(alt, nine);
+                counted::astro::atmosphere::shim::gtd7(&to_counted(&records[k]), w);
+            }
+        }
+    }
+    for (name, xs) in ["exp", "log", "sin", "cos"].iter().zip(counted::route::arguments()) {
+        let lines: String = xs.iter().map(|x| format!("{:016x}\n", x.to_bits())).collect();
+        std::fs::write(format!("{folder}/{name}.arguments"), lines).expect("a folder to write to");
+    }
+}
+
 // What the timings run over: 256 records at an altitude, with the history where switch 9 asks for it, and the switch row.
 fn timed(alt: f64, nine: i32) -> (Vec<Input>, [i32; 24]) {
     let mut g = Random(7);
@@ -763,6 +780,10 @@ fn main() {
             counts();
             0
         }
+        Some("arguments") => {
+            arguments(&args[2]);
+            0
+        }
         Some("time") => {
             time();
             time_column();
@@ -777,7 +798,7 @@ fn main() {
             0
         }
         _ => {
-            eprintln!("model differential|gtd7d|lengths|pairs|pairs-fluxes|pairs-lst|pairs-d|states|expansions|raised|columns|crossings|first-below|descents|stations|hostile-stations|bands|banded|logs|parameters|parameters-present|near|near-d|near-any [SEED] [COUNT], lines|hostile SEED COUNT PROGRAM, forms SEED COUNT INPUT OUTPUT, samples FILE, counts, time");
+            eprintln!("model differential|gtd7d|lengths|pairs|pairs-fluxes|pairs-lst|pairs-d|states|expansions|raised|columns|crossings|first-below|descents|stations|hostile-stations|bands|banded|logs|parameters|parameters-present|near|near-d|near-any [SEED] [COUNT], lines|hostile SEED COUNT PROGRAM, forms SEED COUNT INPUT OUTPUT, samples FILE, arguments FOLDER, counts, time");
             std::process::exit(2);
         }
     };

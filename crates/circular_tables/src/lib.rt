@@ -5,7 +5,8 @@ ghost use Prim.Native.Nat.{_<_};
 ghost use lib.ListN.{getD};
 ghost use Rattle.circular_tables.specs.Tables.{sines, cosines};
 
-// sin (i/256) in units of 2^-58. Made by scripts/elementary/generate.py.
+// sin (i/256) in units of 2^-58. Made by scripts/elementary/generate.py. The last arm is never reached; with the 0 of the first in it, the compiler would
+// keep the first out of the table.
 pub fn sine_at(i: u64) -> u64
     requires { ⌜ i < 257 ⌝ }
     ensures { λ r. ⌜ r ≡ getD sines i 0 ⌝ }
@@ -268,7 +269,7 @@ pub fn sine_at(i: u64) -> u64
         254 => 241313456597225390,
         255 => 241927323291228634,
         256 => 242537498471931328,
-        _ => 0,
+        _ => 1,
     }
 }
 
