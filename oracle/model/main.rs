@@ -660,13 +660,12 @@ fn counts() {
 
 // The arguments that the Rust hands to exp, log, sin and cos over the records of the timings, in its order, to a file each: their bits in hexadecimal.
 fn arguments(folder: &str) {
+    let altitudes = [0.0, 50.0, 90.0, 150.0, 400.0, 1000.0];
+    let sets: Vec<_> = altitudes.iter().flat_map(|alt| [timed(*alt, 1), timed(*alt, -1)]).collect();
     counted::route::arguments();
     for k in 0..256 {
-        for alt in [0.0, 50.0, 90.0, 150.0, 400.0, 1000.0] {
-            for nine in [1, -1] {
-                let (records, w) = timed(alt, nine);
-                counted::astro::atmosphere::shim::gtd7(&to_counted(&records[k]), w);
-            }
+        for (records, w) in &sets {
+            counted::astro::atmosphere::shim::gtd7(&to_counted(&records[k]), *w);
         }
     }
     for (name, xs) in ["exp", "log", "sin", "cos"].iter().zip(counted::route::arguments()) {

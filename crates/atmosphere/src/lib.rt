@@ -77,7 +77,7 @@ pub fn put(out: &mut [f64], v: [f64; 11])
     }
 }
 
-// The same, written.
+// The same into a lent row of eleven.
 pub fn row_at(sw: [f64; 24], x: Site, l: ExpansionValues, alt: f64, out: &mut [f64])
     requires { ⌜ (length (now out) ≡ 11) × HasMass x ⌝ }
     ensures { λ _. ⌜ now (out .exit) ≡ elevenFrom sw x l alt ⌝ }
