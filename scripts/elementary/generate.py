@@ -76,20 +76,20 @@ BELOW = log_series([1, -1], [3, 1])  # y = (1 + u) / 2: -z = (1 - u) / (3 + u)
 # ---- where each stands: arms of a `match`, or a list
 
 ARMS = [
-    ("natural_exponential/src/lib.rt", "coarse_at", COARSE),
-    ("natural_exponential/src/lib.rt", "fine_at", FINE),
+    ("exponential_tables/src/lib.rt", "coarse_at", COARSE),
+    ("exponential_tables/src/lib.rt", "fine_at", FINE),
     ("circular_tables/src/lib.rt", "sine_at", SINES),
     ("circular_tables/src/lib.rt", "cosine_at", COSINES),
-    ("natural_logarithm/src/lib.rt", "piece_at", [f"Piece({r}, {v})" for r, v in zip(RECIPROCALS, LOGARITHMS)]),
+    ("logarithm_tables/src/lib.rt", "piece_at", [f"Piece({r}, {v})" for r, v in zip(RECIPROCALS, LOGARITHMS)]),
 ]
 SERIES = "elementary_bounds/specs/Series.antt"
 LISTS = [
-    ("natural_exponential/specs/Exp.antt", "coarse =", COARSE, 5),
-    ("natural_exponential/specs/Exp.antt", "fine =", FINE, 5),
+    ("exponential_tables/specs/Tables.antt", "coarse =", COARSE, 5),
+    ("exponential_tables/specs/Tables.antt", "fine =", FINE, 5),
     ("circular_tables/specs/Tables.antt", "sines =", SINES, 5),
     ("circular_tables/specs/Tables.antt", "cosines =", COSINES, 5),
-    ("natural_logarithm/specs/Log.antt", "reciprocals =", RECIPROCALS, 16),
-    ("natural_logarithm/specs/Log.antt", "logarithms =", LOGARITHMS, 5),
+    ("logarithm_tables/specs/Tables.antt", "reciprocals =", RECIPROCALS, 16),
+    ("logarithm_tables/specs/Tables.antt", "logarithms =", LOGARITHMS, 5),
     (SERIES, "factors =", FACTORS, 0),
     (SERIES, "expAdding true =", every(2, 0), 0),
     (SERIES, "expTaking true =", every(2, 1), 0),

@@ -12,7 +12,8 @@ use Rattle.numbers.specs.Literals.{0·0}
 use Rattle.setting.specs.declared.Input.{Input}
 use Rattle.setting.specs.View.{viewOf}
 use Rattle.expansion_values.specs.declared.RecordValues.{RecordValues}
-use Rattle.expansion_values.specs.ExpansionValues.{needAt, recordValuesOf}
+use Rattle.needed_sets.specs.NeededSets.{needAt}
+use Rattle.expansion_values.specs.ExpansionValues.{recordValuesOf}
 use Rattle.gts7_arithmetic.specs.declared.Site.{Site}
 use Rattle.parameters.specs.Parameters.{presentOf}
 use Rattle.parameters.specs.declared.Parameters.{Parameters}

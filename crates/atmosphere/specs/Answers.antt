@@ -16,8 +16,9 @@ use Rattle.tables.specs.Names.{Wide, Narrow, wide, narrow, PT, PS, PD0, PD1, PD
 use Rattle.tables.specs.Tables.{ptT, psT, pdT0, pdT1, pdT2, pdT3, pdT4, pdT5, pdT6, pdT7, pdT8, pdmT2, pdlT1, pmaT0, pmaT1, pmaT2, pmaT3, pmaT4, pmaT5, pmaT6, pmaT7, pmaT8, pmaT9, ptlT0, ptlT1, ptlT2, ptlT3}
 use Rattle.plan.specs.Fields.{Fields, fieldsOf, withFields}
 use Rattle.plan.specs.Plan.{Plan, done, ask, keep, _>>=_, one-plus-globe7, exp-globe7, one-plus-glob7s, one-minus-glob7s, onePlusGlobe7Of, expGlobe7Of, onePlusGlob7sOf, oneMinusGlob7sOf, answer, run, Ran, ends, told, fieldsAfter, stepped, answerTo, wideIn, narrowIn}
-use Rattle.expansion_values.specs.declared.Need.{Need}
-use Rattle.expansion_values.specs.ExpansionValues.{legendreIn, quietOf, activeOf, wideOf, needAt, withHigh, expansionValuesOf}
+use Rattle.needed_sets.specs.declared.Need.{Need}
+use Rattle.needed_sets.specs.NeededSets.{needAt, withHigh}
+use Rattle.expansion_values.specs.ExpansionValues.{legendreIn, quietOf, activeOf, wideOf, expansionValuesOf}
 use Rattle.expansion_values.specs.Settled.{Settled, fresh-settled, after-settled, globe7-first, globe7-second, glob7s-first, glob7s-second, Kept, kept-done, kept-ask, kept-keep, kept-then, kept-either}
 use Rattle.mixing.specs.declared.limits.Mixed.{Mixed}
 use Rattle.profile.specs.declared.unchecked.Shape.{Shape}

@@ -9,7 +9,7 @@ use Rattle.numbers.specs.Arithmetic.{_⊕_, _⊖_, _⊘_, _‼_}
 use Rattle.numbers.specs.Tests.{finiteOf}
 use Rattle.numbers.specs.Literals.{dec, 0·0, 0·5, 1·0, 2·0, 3·0, 4·0, 5·0, 70·0, 100·0, 400·0, 1000·0}
 use Rattle.elementary.specs.Exp.{expOf}
-use Rattle.natural_exponential.specs.Exp.{coarse, fine}
+use Rattle.exponential_tables.specs.Tables.{coarse, fine}
 use Rattle.mixing.specs.Mixing.{ccorOf, dnetOf}
 use Rattle.spline.specs.Nodes.{splintOf, searched, spliniOf, integral, segmentOf}
 use Rattle.setting.specs.declared.Input.{Input}

@@ -18,7 +18,7 @@ use Rattle.gts7_arithmetic.specs.declared.Site.{Site}
 use Rattle.gts7_arithmetic.specs.Gts7Arithmetic.{siteOf}
 use Rattle.acceptance.specs.declared.Answer.the-variants.{Accepted}
 use Rattle.acceptance.specs.Acceptance.{acceptedOf, withAltOf}
-use Rattle.expansion_values.specs.declared.Need.{Need}
+use Rattle.needed_sets.specs.declared.Need.{Need}
 use Rattle.expansion_values.specs.declared.RecordValues.{RecordValues}
 use Rattle.expansion_values.specs.ExpansionValues.{expansionValuesOf, recordValuesOf}
 use Rattle.stored_parts.specs.declared.Parts.{Parts}

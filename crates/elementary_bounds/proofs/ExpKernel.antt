@@ -7,7 +7,8 @@ use native.Mathlib.Nat.{le-trans, le-of-lt, le-of-eq, le-of-mul-le-mul-left, mul
 use lib.Dec.{leb→le}
 use lib.ListN.{getD}
 use lib.Pow.{pow-pos, shr-shr, mod-pow-add}
-use Rattle.natural_exponential.specs.Exp.{coarse, fine, expTail, remainderOf, expm1Of, compoundedOf, kernelOf}
+use Rattle.exponential_tables.specs.Tables.{coarse, fine}
+use Rattle.natural_exponential.specs.Exp.{expTail, remainderOf, expm1Of, compoundedOf, kernelOf}
 use Rattle.fixed_point.specs.Fixed.{highOf, termOf}
 use Rattle.natural_exponential.proofs.Bound.{coarse-le, fine-le, high-le, remainder-product, upper-le, lower-le}
 use Rattle.elementary_bounds.specs.Series.{ev}

@@ -4,7 +4,7 @@ use mathlib.Core.List.{List, [], _∷_}
 use Prim.Native.Nat.{ℕ, _*_, _^_, _≤_, _<_}
 use lib.ListN.{getD}
 use lib.Dec.{T}
-use Rattle.natural_exponential.specs.Exp.{coarse, fine}
+use Rattle.exponential_tables.specs.Tables.{coarse, fine}
 use Rattle.elementary_bounds.specs.Series.{homogeneous, factors}
 use Rattle.elementary_bounds.proofs.Nearness.{whole}
 use Rattle.elementary_bounds.proofs.Series.{shift, fitting, fitted, Close}

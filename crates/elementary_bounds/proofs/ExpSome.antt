@@ -18,7 +18,8 @@ use Rattle.fixed_point.specs.Fixed.{highOf, scaledOf, offsetOf}
 use Rattle.fixed_point.proofs.Bits.{over-within}
 use Rattle.fixed_point.proofs.Choice.{either-le}
 use Rattle.fixed_point.proofs.Range.{clash, minus-within, within-scaled, plus-within}
-use Rattle.natural_exponential.specs.Exp.{coarse, fine, expm1Of, compoundedOf, kernelOf, timesOf, expRest, expOf, most, least}
+use Rattle.exponential_tables.specs.Tables.{coarse, fine}
+use Rattle.natural_exponential.specs.Exp.{expm1Of, compoundedOf, kernelOf, timesOf, expRest, expOf, most, least}
 use Rattle.natural_exponential.proofs.Bound.{fine-ge, kernel-ge}
 use Rattle.natural_exponential.proofs.Cases.{exp-most, exp-reduced, exp-inside}
 use Rattle.natural_exponential.proofs.Reduce.{reduced, times-ge, times-many}

@@ -7,7 +7,8 @@ use native.Mathlib.Nat.{le-of-mul-le-mul-left, mul-le-mul-left, zero-add}
 use lib.Dec.{T, leb→le}
 use lib.ListN.{getD}
 use Rattle.elementary_bounds.specs.Series.{ev, homogeneous, logSeries, NearLog}
-use Rattle.natural_logarithm.specs.Log.{reciprocals, logarithms, log1mOf, shortOf, logWithin}
+use Rattle.logarithm_tables.specs.Tables.{reciprocals, logarithms}
+use Rattle.natural_logarithm.specs.Log.{log1mOf, shortOf, logWithin}
 use Rattle.elementary_bounds.proofs.Series.{shift, shift-is, times-is, plus-is, dilate, dilate-is, ev-mono}
 use Rattle.natural_logarithm.proofs.LogBound.{reciprocals-inside, short-le, log1m-le}
 use Rattle.elementary_bounds.proofs.LogSeries.{Balanced, upper, lowerAdding, lowerTaking, single, moved-is, log1ms, units, log1mAt, entryAt, turnAt, allowance, upper-fits, lower-fits}

@@ -9,7 +9,7 @@ use lib.ListN.{getD}
 use lib.Dec.{T, leb, leb→le}
 use lib.Ieee.Fits.{and-l, and-r}
 use Rattle.elementary_bounds.specs.Series.{ev, homogeneous}
-use Rattle.natural_logarithm.specs.Log.{reciprocals, logarithms}
+use Rattle.logarithm_tables.specs.Tables.{reciprocals, logarithms}
 use Rattle.elementary_bounds.proofs.Series.{shift, shift-is, times, times-is, plus, plus-is, product, product-is, part, below-centre, dilate, gap, near}
 
 -- ---- polynomials at c - v, each as its even terms about c less its odd ones, with factors k and l that are polynomials in v

@@ -10,7 +10,8 @@ use lib.Pow.{pow-pos, pow-mono, shl-lt}
 use lib.Ieee.{fin, binary64, toBits, lt, eq, isNan}
 use lib.Ieee.Exact.{HasValue, round-exact}
 use Rattle.elementary_bounds.specs.Series.{NearLog}
-use Rattle.natural_logarithm.specs.Log.{reciprocals, logarithms, fractionOf, differenceOf, logOf}
+use Rattle.logarithm_tables.specs.Tables.{reciprocals, logarithms}
+use Rattle.natural_logarithm.specs.Log.{fractionOf, differenceOf, logOf}
 
 -- at 2, where z is 1 / 3
 pub log-two : logOf (fin false 1 (pos 1)) ≡ differenceOf 15250514022906408 (2 ^ 53)

@@ -14,7 +14,8 @@ use lib.Ieee.Exact.{HasValue}
 use lib.Ieee.Fits.{and-l, and-r, down-pos}
 use Rattle.fixed_point.specs.Float.{over, unit, nought}
 use Rattle.fixed_point.proofs.Range.{clash, not-negative, passes-left, passes-right}
-use Rattle.natural_exponential.specs.Exp.{coarse, fine, expOf, most, least}
+use Rattle.exponential_tables.specs.Tables.{coarse, fine}
+use Rattle.natural_exponential.specs.Exp.{expOf, most, least}
 use Rattle.natural_exponential.proofs.Cases.{exp-most, exp-least, least-most}
 use Rattle.natural_logarithm.specs.Log.{fractionOf, differenceOf, logOf}
 use Rattle.natural_logarithm.proofs.LogCases.{difference-plus, difference-minus, log-negative, log-one}

@@ -17,10 +17,11 @@ use Rattle.activity.specs.Responses.{aptFrom}
 use Rattle.expansion.specs.declared.Carried.{Carried}
 use Rattle.expansion.specs.Expansion.{globe7Value, glob7sFrom}
 use Rattle.plan.specs.declared.ExpansionValues.{ExpansionValues}
-use Rattle.expansion_values.specs.declared.Need.{Need}
+use Rattle.needed_sets.specs.declared.Need.{Need}
 use Rattle.expansion_values.specs.declared.Activity.{Activity}
 use Rattle.expansion_values.specs.ExpansionValues.{legendreIn, quietOf, activeOf, wideOf, expansionValuesOf}
-use Rattle.expansion_values.specs.Sets.{globe7Sets, globe7Set, globe7Before, globe7Values, glob7sSets, glob7sSet, glob7sBefore, glob7sAt, glob7sEnd, glob7sValues}
+use Rattle.needed_sets.specs.NeededSets.{glob7sEnd}
+use Rattle.expansion_values.specs.Sets.{globe7Sets, globe7Set, globe7Before, globe7Values, glob7sSets, glob7sSet, glob7sBefore, glob7sAt, glob7sValues}
 use Rattle.expansion_values.specs.Activities.{activityIn, activeFrom, carrying, active-from, in-ps, in-pd2, in-pd3, in-pd4, in-pd5, in-pd6, in-pd7, in-pd8}
 
 kept-apdf : (b : Bool) (x y z : Float) → cond b x z ≡ cond b (cond b x y) z

@@ -1,22 +1,22 @@
 -- The values of the expansions that gtd7 asks for from a fresh State, each worked out once.
-use mathlib.Core.Bool.{Bool, true, cond, not}
+use mathlib.Core.Bool.{cond}
 use mathlib.Core.List.{List}
 use lib.ListN.{replicate}
 use lib.IntN.{ℤ}
-use lib.Ieee.{Float, lt, le}
+use lib.Ieee.{Float}
 use Rattle.numbers.specs.Arithmetic.{_‼_}
-use Rattle.numbers.specs.Literals.{0·0, 32·5, 72·5, 300·0}
+use Rattle.numbers.specs.Literals.{0·0}
 use Rattle.setting.specs.declared.Input.{Input}
 use Rattle.setting.specs.declared.View.{View}
 use Rattle.setting.specs.State.{freshOf}
 use Rattle.setting.specs.View.{viewOf}
-use Rattle.tables.specs.Tables.{ptT, psT, pdT0, pdT1, pdT2, pdT3, pdT4, pdT5, pdT6, pdT7, pdT8, pdlT1, ptlT0, ptlT1, ptlT2, ptlT3, pmaT0, pmaT1, pmaT2, pmaT3, pmaT4, pmaT5, pmaT6, pmaT7, pmaT8, pmaT9}
+use Rattle.tables.specs.Tables.{ptT, psT, pdT0, pdT1, pdT2, pdT3, pdT4, pdT5, pdT6, pdT7, pdT8, ptlT0, ptlT1, ptlT2, ptlT3, pmaT0, pmaT1, pmaT2, pmaT3, pmaT4, pmaT5, pmaT6, pmaT7, pmaT8, pmaT9}
 use Rattle.legendre.specs.Legendre.{legendreOf}
 use Rattle.activity.specs.Activity.{apdfNextOf, aptNextOf}
 use Rattle.expansion.specs.declared.Carried.{Carried}
 use Rattle.expansion.specs.Expansion.{turnsAfterOf, globe7Value, glob7sFrom}
 use Rattle.plan.specs.declared.ExpansionValues.{ExpansionValues}
-use Rattle.expansion_values.specs.declared.Need.{Need}
+use Rattle.needed_sets.specs.declared.Need.{Need}
 use Rattle.expansion_values.specs.declared.RecordValues.{RecordValues}
 
 -- the Legendre values after any globe7 from a fresh State
@@ -57,16 +57,6 @@ activeOf v p c =
 -- globe7 over a set
 unfoldable pub wideOf : View → List (List Float) → Carried → List Float → Float
 wideOf v g c p = globe7Value v p g (activeOf v p c)
-
--- which sets an altitude needs
-unfoldable pub needAt : Float → Need
-needAt alt =
-    let z = cond (lt 72·5 alt) alt 72·5 in
-    record { high = le 72·5 alt; pt = lt (pdlT1 ‼ 15) z; ps = lt 72·5 z; nodes = lt z 300·0; meso = not (le 72·5 alt); tropo = lt alt 32·5 }
-
--- the same with those of O, H, N and anomalous O, which gts7 asks for at every altitude
-unfoldable pub withHigh : Need → Need
-withHigh a = record { high = true; pt = a .pt; ps = a .ps; nodes = a .nodes; meso = a .meso; tropo = a .tropo }
 
 -- the values that are needed, from a fresh State: PD[8] is asked for after PD[7], the nodes of the lower thermosphere after PD[3], the lower ones
 -- after PD[7] and PD[8]; a value that is not needed is 0

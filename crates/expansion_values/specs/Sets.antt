@@ -1,5 +1,5 @@
--- The sets in the order in which their values are worked out, what State carries before each, and whether it is needed.
-use mathlib.Core.Bool.{Bool, true, cond, _||_}
+-- The sets in the order in which their values are worked out, and what State carries before each.
+use mathlib.Core.Bool.{cond}
 use mathlib.Core.List.{List, [], _∷_}
 use Prim.Native.Nat.{ℕ}
 use lib.Dec.{eqb, ltb}
@@ -11,7 +11,8 @@ use Rattle.setting.specs.Switches.{filled}
 use Rattle.tables.specs.Tables.{ptT, psT, pdT0, pdT1, pdT2, pdT3, pdT4, pdT5, pdT6, pdT7, pdT8, ptlT0, ptlT1, ptlT2, ptlT3, pmaT0, pmaT1, pmaT2, pmaT3, pmaT4, pmaT5, pmaT6, pmaT7, pmaT8, pmaT9}
 use Rattle.expansion.specs.declared.Carried.{Carried}
 use Rattle.expansion.specs.Expansion.{glob7sFrom}
-use Rattle.expansion_values.specs.declared.Need.{Need}
+use Rattle.needed_sets.specs.declared.Need.{Need}
+use Rattle.needed_sets.specs.NeededSets.{globe7Needed, glob7sNeeded}
 use Rattle.expansion_values.specs.ExpansionValues.{activeOf, wideOf}
 
 -- ---- globe7: PT, PD[0] to PD[8], PS
@@ -21,9 +22,6 @@ globe7Sets = ptT ∷ pdT0 ∷ pdT1 ∷ pdT2 ∷ pdT3 ∷ pdT4 ∷ pdT5 ∷ pdT6 
 
 abbrev pub globe7Set : ℕ → List Float
 globe7Set k = getD globe7Sets k psT
-
-abbrev pub globe7Needed : Need → ℕ → Bool
-globe7Needed n k = cond (eqb k 0) (n .pt) (cond (eqb k 10) (n .ps) (cond (eqb k 2 || ltb 6 k) (n .high) true))
 
 -- c, and before PD[8] what PD[7] leaves
 abbrev pub globe7Before : View → Carried → ℕ → Carried
@@ -42,13 +40,6 @@ glob7sSets = ptlT0 ∷ ptlT1 ∷ ptlT2 ∷ ptlT3 ∷ pmaT8 ∷ pmaT0 ∷ pmaT1 �
 
 abbrev pub glob7sSet : ℕ → List Float
 glob7sSet k = getD glob7sSets k pmaT7
-
-abbrev pub glob7sNeeded : Need → ℕ → Bool
-glob7sNeeded n k = cond (ltb k 5) (n .nodes) (cond (ltb k 9) (n .meso) (n .tropo))
-
--- how many stand before the last that is needed
-abbrev pub glob7sEnd : Need → ℕ
-glob7sEnd n = cond (n .tropo) 14 (cond (n .meso) 9 (cond (n .nodes) 5 0))
 
 -- c3 is what PD[3] leaves, c8 what PD[8] leaves
 abbrev pub glob7sBefore : ℕ → Carried → Carried → Carried

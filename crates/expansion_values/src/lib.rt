@@ -8,9 +8,10 @@ ghost use Rattle.tables.specs.Tables.{ptT, pdT0, pdT1, pdT3, pdT7, pdT8};
 ghost use Rattle.setting.specs.Shared.{Shared};
 ghost use Rattle.expansion.specs.Expansion.{globe7Value, glob7sFrom};
 ghost use Rattle.numbers.specs.Arithmetic.{_‼_};
+ghost use Rattle.needed_sets.specs.NeededSets.{glob7sEnd};
 ghost use Rattle.expansion_values.specs.Activities.{activityOf, activityIn, activeFrom, carrying};
-ghost use Rattle.expansion_values.specs.ExpansionValues.{legendreIn, quietOf, activeOf, wideOf, needAt, withHigh, expansionValuesOf, recordValuesOf};
-ghost use Rattle.expansion_values.specs.Sets.{globe7Set, globe7Needed, globe7Before, globe7Values, glob7sSet, glob7sNeeded, glob7sEnd, glob7sBefore, glob7sValues};
+ghost use Rattle.expansion_values.specs.ExpansionValues.{legendreIn, quietOf, activeOf, wideOf, expansionValuesOf, recordValuesOf};
+ghost use Rattle.expansion_values.specs.Sets.{globe7Set, globe7Before, globe7Values, glob7sSet, glob7sBefore, glob7sValues};
 use activity::Responses;
 use activity::apdf_from;
 use activity::apt_from;
@@ -20,6 +21,10 @@ use expansion::glob7s_from;
 use expansion::globe7_value;
 use expansion::turns_after;
 use legendre::legendre;
+use needed_sets::Need;
+use needed_sets::glob7s_end;
+use needed_sets::glob7s_needed;
+use needed_sets::globe7_needed;
 use numbers::pick;
 use plan::ExpansionValues;
 use setting::Input;
@@ -35,7 +40,6 @@ use tables::pd5;
 use tables::pd6;
 use tables::pd7;
 use tables::pd8;
-use tables::pdl1;
 use tables::pma0;
 use tables::pma1;
 use tables::pma2;
@@ -52,47 +56,6 @@ use tables::ptl0;
 use tables::ptl1;
 use tables::ptl2;
 use tables::ptl3;
-
-// Which sets are needed: those of O, H, N and anomalous O, PT, PS, those of the nodes of the lower thermosphere, of the mesosphere, of the troposphere.
-// The others always are.
-pub struct Need {
-    pub high: bool,
-    pub pt: bool,
-    pub ps: bool,
-    pub nodes: bool,
-    pub meso: bool,
-    pub tropo: bool,
-}
-
-// Which sets an altitude needs.
-pub fn need_at(alt: f64) -> Need
-    ensures { λ r. ⌜ r ≡ needAt alt ⌝ }
-{
-    let z = pick(alt > 72.5, alt, 72.5);
-    let l = pdl1();
-    Need {
-        high: alt >= 72.5,
-        pt: z > l[15],
-        ps: z > 72.5,
-        nodes: z < 300.0,
-        meso: !(alt >= 72.5),
-        tropo: alt < 32.5,
-    }
-}
-
-// The same with those of O, H, N and anomalous O, which gts7 asks for at every altitude.
-pub fn with_high(a: Need) -> Need
-    ensures { λ r. ⌜ r ≡ withHigh a ⌝ }
-{
-    Need {
-        high: true,
-        pt: a.pt,
-        ps: a.ps,
-        nodes: a.nodes,
-        meso: a.meso,
-        tropo: a.tropo,
-    }
-}
 
 // What State carries before a set's magnetic activity.
 pub fn quiet(v: View) -> Carried
@@ -262,22 +225,6 @@ pub fn put_globe7_set(k: usize, p: &mut [f64; 150])
     }
 }
 
-// Whether the set k is needed.
-pub fn globe7_needed(n: Need, k: usize) -> bool
-    ensures { λ r. ⌜ r ≡ globe7Needed n k ⌝ }
-{
-    if k == 0 {
-        return n.pt;
-    }
-    if k == 10 {
-        return n.ps;
-    }
-    if (k == 2) | (k > 6) {
-        return n.high;
-    }
-    true
-}
-
 // The activity of the set k: PD[0] and PD[1] have their own, every other set has PT's, which is a.
 pub fn globe7_activity(k: usize, v: View, a: Activity) -> Activity
     requires { ⌜ a ≡ activityIn v ptT ⌝ }
@@ -392,35 +339,6 @@ pub fn put_glob7s_set(k: usize, p: &mut [f64; 100])
             *p = pma7();
         }
     }
-}
-
-// Whether the set k is needed.
-pub fn glob7s_needed(n: Need, k: usize) -> bool
-    ensures { λ r. ⌜ r ≡ glob7sNeeded n k ⌝ }
-{
-    if k < 5 {
-        return n.nodes;
-    }
-    if k < 9 {
-        return n.meso;
-    }
-    n.tropo
-}
-
-// How many sets stand before the last that is needed.
-pub fn glob7s_end(n: Need) -> usize
-    ensures { λ r. ⌜ r ≡ glob7sEnd n ⌝ }
-{
-    if n.tropo {
-        return 14;
-    }
-    if n.meso {
-        return 9;
-    }
-    if n.nodes {
-        return 5;
-    }
-    0
 }
 
 // What State carries before the set k: c3 for the lower thermosphere, c8 below it.

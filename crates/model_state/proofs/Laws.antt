@@ -13,8 +13,9 @@ use Rattle.expansion.specs.Expansion.{stateAfter}
 use Rattle.plan.specs.declared.ExpansionValues.{ExpansionValues}
 use Rattle.plan.specs.Fields.{Fields, fieldsOf, withFields, setGravity, setDd, setNodes1, setTn2, setTn3, setTop3}
 use Rattle.plan.specs.Plan.{Plan, Ask, either, _>>=_, ends, told, fieldsAfter, answerTo, run, stepped, stepped-done, stepped-keep, stepped-then}
-use Rattle.expansion_values.specs.declared.Need.{Need}
-use Rattle.expansion_values.specs.ExpansionValues.{needAt, withHigh, expansionValuesOf}
+use Rattle.needed_sets.specs.declared.Need.{Need}
+use Rattle.needed_sets.specs.NeededSets.{needAt, withHigh}
+use Rattle.expansion_values.specs.ExpansionValues.{expansionValuesOf}
 use Rattle.mixing.specs.Limits.{mixedAt}
 use Rattle.mixing.specs.declared.limits.Mixed.{Mixed}
 use Rattle.profile.specs.declared.unchecked.Shape.{Shape}

@@ -7,7 +7,8 @@ use lib.ListN.{getD}
 use lib.Dec.{leb→le}
 use Rattle.fixed_point.proofs.Product.{below-mul}
 use Rattle.fixed_point.proofs.Table.{at-most, at-least}
-use Rattle.natural_exponential.specs.Exp.{coarse, fine, expTail, expm1Of, compoundedOf, kernelOf}
+use Rattle.exponential_tables.specs.Tables.{coarse, fine}
+use Rattle.natural_exponential.specs.Exp.{expTail, expm1Of, compoundedOf, kernelOf}
 use Rattle.fixed_point.specs.Fixed.{highOf, termOf}
 
 pub coarse-le : (i : ℕ) → getD coarse i 0 ≤ 3134000000000000000

@@ -11,7 +11,8 @@ use lib.Ieee.Fits.{and-l, and-r}
 use Rattle.fixed_point.proofs.Product.{below-mul}
 use Rattle.fixed_point.proofs.Table.{at-most}
 use Rattle.fixed_point.specs.Fixed.{termOf}
-use Rattle.natural_logarithm.specs.Log.{reciprocals, logarithms, logTail, logSquare, log1mOf, shortOf, logWithin}
+use Rattle.logarithm_tables.specs.Tables.{reciprocals, logarithms}
+use Rattle.natural_logarithm.specs.Log.{logTail, logSquare, log1mOf, shortOf, logWithin}
 
 -- ---- the short series
 

@@ -13,7 +13,7 @@ use Rattle.legendre.specs.Legendre.{rowsOf}
 use Rattle.expansion_parts.specs.ExpansionParts.{t8Of, history8Of, daily8Of, t10Of, t11Of, t12Of, history12Of, daily12Of, weightedOf, weightedFrom, t8sOf, t10sOf}
 use Rattle.expansion.specs.declared.Carried.{Carried}
 use Rattle.expansion.specs.Expansion.{firstTermsOf, carriedOf, globe7Value, turnsAfterOf, stateAfter, globe7Of, glob7sValue, glob7sFrom, glob7sOf}
-use Rattle.expansion_values.specs.declared.Need.{Need}
+use Rattle.needed_sets.specs.declared.Need.{Need}
 use Rattle.expansion_values.specs.ExpansionValues.{legendreIn, quietOf, activeOf, wideOf, expansionValuesOf}
 
 -- a View with other rows

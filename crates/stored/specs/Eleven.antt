@@ -11,8 +11,9 @@ use Rattle.numbers.specs.Literals.{72·5, 300·0, 2500·0}
 use Rattle.setting.specs.declared.Input.{Input}
 use Rattle.setting.specs.View.{turnedOf, viewOf}
 use Rattle.acceptance.specs.Acceptance.{withAltOf}
-use Rattle.expansion_values.specs.declared.Need.{Need}
-use Rattle.expansion_values.specs.ExpansionValues.{needAt, expansionValuesOf}
+use Rattle.needed_sets.specs.declared.Need.{Need}
+use Rattle.needed_sets.specs.NeededSets.{needAt}
+use Rattle.expansion_values.specs.ExpansionValues.{expansionValuesOf}
 use Rattle.tables.specs.Tables.{pdlT1}
 use Rattle.gts7_arithmetic.specs.Gts7Arithmetic.{siteWith, siteOf}
 use Rattle.parameters.specs.Parameters.{presentOf}

@@ -11,7 +11,7 @@ use Rattle.parameters.specs.Parameters.{presentOf}
 use Rattle.elementary.specs.Log.{logOf}
 use Rattle.layers.specs.declared.Span.{Span}
 use Rattle.places.specs.declared.place.Spine.{Spine}
-use Rattle.expansion_values.specs.declared.Need.{Need}
+use Rattle.needed_sets.specs.declared.Need.{Need}
 use Rattle.plan.specs.declared.ExpansionValues.{ExpansionValues}
 use Rattle.plan.specs.Plan.{told, answerTo}
 use Rattle.profile.specs.declared.unchecked.Shape.{Shape}

@@ -1,6 +1,6 @@
 -- `values_at` meets its contract.
 use mathlib.Core.Path.{ap, _∙_}
-use Rattle.expansion_values.specs.declared.Need.{Need}
+use Rattle.needed_sets.specs.declared.Need.{Need}
 use Rattle.expansion_values.specs.ExpansionValues.{recordValuesOf}
 use borrow.Author.Needs.{needs}
 use Rattle.atmosphere.proofs.values_at.Statement.{statement}

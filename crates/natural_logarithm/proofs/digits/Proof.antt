@@ -4,7 +4,8 @@ use Prim.Native.Nat.{ℕ, _+_, _-_, _*_, _/_, _^_, _≤_}
 use native.Mathlib.Omega.{arith}
 use borrow.Author.Needs.{needs}
 use lib.ListN.{getD}
-use Rattle.natural_logarithm.specs.Log.{logarithms, log1mOf, shortOf, logWithin, differenceOf}
+use Rattle.logarithm_tables.specs.Tables.{logarithms}
+use Rattle.natural_logarithm.specs.Log.{log1mOf, shortOf, logWithin, differenceOf}
 use Rattle.natural_logarithm.proofs.LogBound.{logarithms-le, short-some, short-le}
 use Rattle.natural_logarithm.proofs.LogCases.{difference-shift}
 use Rattle.natural_logarithm.proofs.digits.Statement.{statement}

@@ -1,7 +1,7 @@
 -- `globe7_needed` meets its contract.
 use borrow.Author.Tests.{eq-eqb, ne-eqb}
-use Rattle.expansion_values.proofs.globe7_needed.Statement.{statement}
-use Rattle.expansion_values.proofs.globe7_needed.Tie as tie
+use Rattle.needed_sets.proofs.globe7_needed.Statement.{statement}
+use Rattle.needed_sets.proofs.globe7_needed.Tie as tie
 
 returns : tie.Need-returns
 returns c = simp (eq-eqb (c .before .args .k) 0 (c .if1 .taken))

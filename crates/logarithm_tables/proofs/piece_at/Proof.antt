@@ -1,10 +1,10 @@
--- `natural_logarithm::piece_at` meets its contract. Assumes nothing.
+-- `logarithm_tables::piece_at` meets its contract. Assumes nothing.
 use native.Mathlib.Omega.{arith}
 use borrow.Author.Needs.{needs}
-use Rattle.natural_logarithm.specs.Log.{reciprocals, logarithms}
+use Rattle.logarithm_tables.specs.Tables.{reciprocals, logarithms}
 use Rattle.fixed_point.proofs.Rest.{rest-above}
-use Rattle.natural_logarithm.proofs.piece_at.Statement.{statement}
-use Rattle.natural_logarithm.proofs.piece_at.Tie as tie
+use Rattle.logarithm_tables.proofs.piece_at.Statement.{statement}
+use Rattle.logarithm_tables.proofs.piece_at.Tie as tie
 
 -- past the last key: no index is left
 beyond : tie.Need-returns-129

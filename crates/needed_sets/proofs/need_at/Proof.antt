@@ -1,8 +1,8 @@
 -- `need_at` meets its contract.
-use Rattle.expansion_values.specs.ExpansionValues.{needAt}
+use Rattle.needed_sets.specs.NeededSets.{needAt}
 use borrow.Author.Needs.{needs}
-use Rattle.expansion_values.proofs.need_at.Statement.{statement}
-use Rattle.expansion_values.proofs.need_at.Tie as tie
+use Rattle.needed_sets.proofs.need_at.Statement.{statement}
+use Rattle.needed_sets.proofs.need_at.Tie as tie
 
 returns : tie.Need-returns
 unfolding needAt

@@ -1,8 +1,8 @@
 -- `with_high` meets its contract.
 use mathlib.Core.Path.{refl}
-use Rattle.expansion_values.specs.ExpansionValues.{withHigh}
-use Rattle.expansion_values.proofs.with_high.Statement.{statement}
-use Rattle.expansion_values.proofs.with_high.Tie as tie
+use Rattle.needed_sets.specs.NeededSets.{withHigh}
+use Rattle.needed_sets.proofs.with_high.Statement.{statement}
+use Rattle.needed_sets.proofs.with_high.Tie as tie
 
 returns : tie.Need-returns
 unfolding withHigh

@@ -1,10 +1,10 @@
--- `natural_exponential::fine_at` meets its contract. Assumes nothing.
+-- `exponential_tables::fine_at` meets its contract. Assumes nothing.
 use native.Mathlib.Omega.{arith}
 use borrow.Author.Needs.{needs}
-use Rattle.natural_exponential.specs.Exp.{fine}
+use Rattle.exponential_tables.specs.Tables.{fine}
 use Rattle.fixed_point.proofs.Rest.{rest-above}
-use Rattle.natural_exponential.proofs.fine_at.Statement.{statement}
-use Rattle.natural_exponential.proofs.fine_at.Tie as tie
+use Rattle.exponential_tables.proofs.fine_at.Statement.{statement}
+use Rattle.exponential_tables.proofs.fine_at.Tie as tie
 
 -- past the last key: no index is left
 beyond : tie.Need-returns-33

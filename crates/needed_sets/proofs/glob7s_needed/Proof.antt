@@ -1,7 +1,7 @@
 -- `glob7s_needed` meets its contract.
 use borrow.Author.Tests.{lt-ltb, le-ltb}
-use Rattle.expansion_values.proofs.glob7s_needed.Statement.{statement}
-use Rattle.expansion_values.proofs.glob7s_needed.Tie as tie
+use Rattle.needed_sets.proofs.glob7s_needed.Statement.{statement}
+use Rattle.needed_sets.proofs.glob7s_needed.Tie as tie
 
 returns : tie.Need-returns
 returns c = simp (lt-ltb (c .before .args .k) 5 (c .if1 .taken))
