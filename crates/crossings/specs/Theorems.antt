@@ -66,6 +66,16 @@ module _ (w : List ℤ) (n : Input) where
 
 -- The column's refusals are those with room for its rows (`any-room`, crate altitudes), so none of them is for the buffer: 4 does not occur.
 
+-- The column's refusals stand before 8, and all of these before 9.
+pub column-first : (w : List ℤ) (n : Input) (alts : List Float) (i j : ℕ) → columnAnswer w n alts (11 * length alts) ≡ Refused i j → crossingsChecked w n alts ≡ Refused i j
+unfolding crossingsChecked afterColumn
+column-first w n alts i j e = ap (λ (a : Answer). afterColumn a alts) e
+
+pub checked-first : (w : List ℤ) (n : Input) (alts : List Float) (level : Float) (len i j : ℕ) → crossingsChecked w n alts ≡ Refused i j
+    → crossingsAnswer w n alts level len ≡ listing.Refused i j
+unfolding crossingsAnswer
+checked-first w n alts level len i j e = ap (λ (a : Answer). crossingsRefusedOr a (listAnswer (listOf w n alts level) len)) e
+
 column-passed : (a : Answer) (alts : List Float) → acceptedOf (afterColumn a alts) ≡ true → acceptedOf a ≡ true
 unfolding afterColumn
 column-passed Accepted alts h = refl
