@@ -1,10 +1,10 @@
 -- The checks in order, a station's density, and the call's outcomes.
 use Prim.Native.Nat.{ℕ, _≤_}
 use mathlib.Core.Path.{_≡_, refl, sym, ap, _∙_}
-use mathlib.Core.Bool.{Bool, true, false, cond, not, false≢true}
+use mathlib.Core.Bool.{Bool, true, false, not}
 use mathlib.Core.List.{List}
 use native.Mathlib.Omega.{arith}
-use borrow.Author.Tests.{eq-eqb, ne-eqb, not-false}
+use borrow.Author.Tests.{eq-eqb}
 use lib.IntN.{ℤ}
 use lib.ListN.{length, replicate}
 use lib.Ieee.{Float}
@@ -20,15 +20,19 @@ use Rattle.station_record.specs.Record.{stationWhole, stationAnswer, altitudeAn
 use Rattle.station.specs.Station.{stationNumbers, wholeAfter, stationNumbersAfter, altitudeRow}
 use Rattle.station.specs.Theorems.{altitude-told, prepared-held}
 use Rattle.descent_orbits.specs.declared.Orbit.{Orbit}
-use Rattle.descent_orbits.specs.declared.End.{End}
+use Rattle.descent_orbits.specs.declared.Ending.{Ending}
+use Rattle.descent_orbits.specs.declared.Descended.{Descended}
+use Rattle.descent_orbits.specs.declared.Descended.the-variants.{Ended}
+use Rattle.descent_orbits.specs.declared.Descended.the-variants as descended
 use Rattle.descent_orbits.specs.DescentOrbits.{lowestAltitude, highestAltitude, densityBySetting, orbitOf, kilometresOfMillimetres, startWithin, millimetresOf, Descent, descentFrom, descentRefusal}
-use Rattle.descent_orbits.specs.Lent.{endOfDescent, endNumbers, lossesAfter}
+use Rattle.descent_orbits.specs.Lent.{endOfDescent, lossesAfter}
 use Rattle.descent_orbits.specs.Kilometres.{km-finite, km-within, km-mixed}
-use Rattle.descent_orbits.specs.Theorems.{same-descent, never-rises, losses-few, ending-known, Met, accepted-met}
+use Rattle.descent_orbits.specs.Theorems.{same-descent, never-rises, losses-few}
 use Rattle.descent_orbits.proofs.Laws.{started}
 use Rattle.descent_orbits.proofs.Turns.{Answered}
-use Rattle.descent.specs.Descent.{unitRow, densityAt, descentOf, descentChecked, descentAnswer, descentLosses, descentEnd}
+use Rattle.descent.specs.Descent.{unitRow, densityAt, descentOf, descentChecked, descentAnswer, descentLosses}
 use Rattle.descent.specs.Stored.{stationDensity}
+use Rattle.descent.specs.Theorems.{lastIn, countIn, ending-told, checked-met}
 
 -- ---- the checks
 
@@ -79,7 +83,7 @@ module _ (w : List ℤ) (n : Input) (len : length w ≡ 24) (seven : length (n .
       rw (e, f, r)
 
   -- the descent over the station that was prepared in ys and xs; x is the start as the machine reads it, a its millimetres
-  pub flown-told : (ys : List ℤ) (xs : List Float) (whole : List ℤ) (numbers : List Float) (start x : ℤ) (a : ℕ) (ss ls ls' : List ℤ) (r : End)
+  pub flown-told : (ys : List ℤ) (xs : List Float) (whole : List ℤ) (numbers : List Float) (start x : ℤ) (a : ℕ) (ss ls ls' : List ℤ) (r : Descended)
       → length ys ≡ 27 → length xs ≡ 259 → whole ≡ wholeAfter w n ys (length xs) → numbers ≡ stationNumbersAfter w n (length ys) xs
       → length whole ≡ 27 → length numbers ≡ 259
       → a ≡ millimetresOf x → x ≡ start → startWithin start ≡ true
@@ -97,49 +101,30 @@ module _ (w : List ℤ) (n : Input) (len : length w ≡ 24) (seven : length (n .
 
 -- ---- the call
 
-passed : (a b : Answer) → acceptedOf (cond (not (acceptedOf a)) a b) ≡ true → (a ≡ Accepted) × (acceptedOf b ≡ true)
-passed Accepted b e = (refl, e)
-passed (Refused n k) b e = absurd (false≢true e)
-
--- v says whether the answer a of the checks is accepted
-pub checked-passed : (w : List ℤ) (n : Input) (start : ℤ) (ss : List ℤ) (room : ℕ) (a : Answer) (v : Bool) → a ≡ descentChecked w n start ss room → v ≡ acceptedOf a → not v ≡ false
-    → (judgedOf w (withAltOf n 0·0) ≡ Accepted) × Met start ss room
-unfolding descentChecked
-checked-passed w n start ss room a v e f t =
-    let p = passed (judgedOf w (withAltOf n 0·0)) (descentRefusal start ss room) (sym (ap acceptedOf e) ∙ (sym f ∙ not-false v t)) in
-    (p .0, accepted-met start ss room (p .1))
-
--- the three numbers fit their places
-pub end-fits : (d : ℕ → Float) (start : ℤ) (ss : List ℤ) (room : ℕ) (e : End) → Met start ss room → e ≡ endOfDescent (descentFrom d (millimetresOf start) ss)
-    → (e .ending ≤ 3) × (e .last ≤ 1000000000) × (e .taken ≤ 10000)
-unfolding endOfDescent
-end-fits d start ss room e m g =
-    let k = started start start refl (m .within) in
+-- the last altitude and the count fit the C call's numbers
+pub end-fits : (w : List ℤ) (n : Input) (start : ℤ) (ss : List ℤ) (room : ℕ) (e : Ending) (l c : ℕ) → descentAnswer w n start ss room ≡ Ended e l c → (l ≤ 1000000000) × (c ≤ 10000)
+unfolding descentAnswer descentOf endOfDescent
+end-fits w n start ss room e l c h =
+    let t = ending-told (descentChecked (unitRow w) n start ss room) _ e l c h in
+    let m = checked-met (unitRow w) n start ss room (t .0) .1 in
+    let last : (descentOf w n start ss) .last ≡ l = ap (λ (d : Descended). lastIn d) (t .1) in
+    let count : length ((descentOf w n start ss) .losses) ≡ c = ap (λ (d : Descended). countIn d) (t .1) in
+    let d = densityAt (unitRow w) n in
     let a = millimetresOf start in
-    rw g (ending-known d ss a, omega (arith, never-rises d ss a, k .most), omega (arith, losses-few d ss a, m .few))
+    (omega (arith, last, never-rises d ss a, started start start refl (m .within) .most), omega (arith, count, losses-few d ss a, m .few))
 
-module _ (w : List ℤ) (n : Input) (start : ℤ) (ss xs ys : List ℤ) where
-  abbrev Outcome : Answer → List ℤ → List ℤ → Type 0
-  Outcome a xs' ys' =
-      (a ≡ descentAnswer w n start ss (length xs) (length ys)) × (xs' ≡ descentLosses w n start ss xs (length ys)) × (ys' ≡ descentEnd w n start ss (length xs) ys)
+-- v is the row with switch 0 as 1, x the start as the machine reads it, a what the checks say
+module _ (w : List ℤ) (n : Input) (start : ℤ) (ss xs v : List ℤ) (ev : v ≡ unitRow w) (x : ℤ) (ex : x ≡ start) (a : Answer) (e : a ≡ descentChecked v n x ss (length xs)) where
+  abbrev Outcome : Descended → List ℤ → Type 0
+  Outcome r xs' = (r ≡ descentAnswer w n start ss (length xs)) × (xs' ≡ descentLosses w n start ss xs)
 
-  pub no-three : (length ys ≡ 3 → ⊥) → Outcome (Refused 4 3) xs ys
-  unfolding descentAnswer descentLosses descentEnd
-  no-three h = (simp (ne-eqb _ _ h), simp (ne-eqb _ _ h), simp (ne-eqb _ _ h))
+  checks : descentChecked (unitRow w) n start ss (length xs) ≡ a
+  checks = sym (e ∙ rw (ev, ex))
 
-  module _ (h : length ys ≡ 3) (v : List ℤ) (ev : v ≡ unitRow w) (x : ℤ) (ex : x ≡ start) (a : Answer) (e : a ≡ descentChecked v n x ss (length xs)) where
-    answer : a ≡ descentAnswer w n start ss (length xs) (length ys)
-    unfolding descentAnswer
-    answer = e ∙ rw (ev, ex, eq-eqb _ _ h)
+  pub refused : (i k : ℕ) → a ≡ Refused i k → Outcome (descended.Refused i k) xs
+  unfolding descentAnswer descentLosses
+  refused i k h = (rw (checks ∙ h), rw (checks ∙ h))
 
-    pub refused : acceptedOf a ≡ false → Outcome a xs ys
-    unfolding descentLosses descentEnd
-    refused t =
-        let p : acceptedOf (descentAnswer w n start ss (length xs) (length ys)) ≡ false = sym (ap acceptedOf answer) ∙ t in
-        (answer, simp p, simp p)
-
-    pub answered : acceptedOf a ≡ true → (r : End) (xs' ys' : List ℤ) → Answered (densityAt v n) (millimetresOf x) ss xs r xs' → ys' ≡ endNumbers r → Outcome a xs' ys'
-    unfolding descentLosses descentEnd descentOf
-    answered t r xs' ys' d g =
-        let p : acceptedOf (descentAnswer w n start ss (length xs) (length ys)) ≡ true = sym (ap acceptedOf answer) ∙ t in
-        (answer, d .1 ∙ rw (p, ev, ex), g ∙ (ap endNumbers (d .0) ∙ rw (p, ev, ex)))
+  pub answered : a ≡ Accepted → (r : Descended) (xs' : List ℤ) → Answered (densityAt v n) (millimetresOf x) ss xs r xs' → Outcome r xs'
+  unfolding descentAnswer descentLosses descentOf
+  answered h r xs' d = (d .0 ∙ rw (checks ∙ h, ev, ex), d .1 ∙ rw (checks ∙ h, ev, ex))

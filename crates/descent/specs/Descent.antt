@@ -1,8 +1,7 @@
--- Document 02's W-212, a descent, orbit by orbit: its refusals in order, the descent at the model's densities, and the lent memory afterwards.
+-- Document 02's W-212, a descent, orbit by orbit: its refusals in order, the descent at the model's densities, and the lent list afterwards.
 use Prim.Native.Nat.{ℕ}
 use mathlib.Core.Bool.{cond, not}
 use mathlib.Core.List.{List}
-use lib.Dec.{eqb}
 use lib.IntN.{ℤ, pos}
 use lib.ListN.{length, set}
 use lib.Ieee.{Float}
@@ -10,11 +9,13 @@ use Rattle.numbers.specs.Arithmetic.{_‼_}
 use Rattle.numbers.specs.Literals.{0·0}
 use Rattle.setting.specs.declared.Input.{Input}
 use Rattle.acceptance.specs.declared.Answer.{Answer}
-use Rattle.acceptance.specs.declared.Answer.the-variants.{Refused}
+use Rattle.acceptance.specs.declared.Answer.the-variants.{Accepted, Refused}
 use Rattle.acceptance.specs.Acceptance.{judgedOf, acceptedOf, withAltOf}
 use Rattle.atmosphere.specs.Atmosphere.{elevenOf}
+use Rattle.descent_orbits.specs.declared.Descended.{Descended}
+use Rattle.descent_orbits.specs.declared.Descended.the-variants as descended
 use Rattle.descent_orbits.specs.DescentOrbits.{kilometresOfMillimetres, millimetresOf, Descent, descentFrom, descentRefusal}
-use Rattle.descent_orbits.specs.Lent.{endOfDescent, endNumbers, lossesAfter}
+use Rattle.descent_orbits.specs.Lent.{endOfDescent, lossesAfter}
 
 -- 'switch 0 taken as 1', whatever the row says
 unfoldable pub unitRow : List ℤ → List ℤ
@@ -34,13 +35,15 @@ unfoldable pub descentChecked : List ℤ → Input → ℤ → List ℤ → ℕ 
 descentChecked w n start ss room =
     cond (not (acceptedOf (judgedOf w (withAltOf n 0·0)))) (judgedOf w (withAltOf n 0·0)) (descentRefusal start ss room)
 
--- the answer, to a list of room losses and to ends numbers for the ending, the last altitude and the count: 4 first where these are not three
-unfoldable pub descentAnswer : List ℤ → Input → ℤ → List ℤ → ℕ → ℕ → Answer
-descentAnswer w n start ss room ends = cond (not (eqb ends 3)) (Refused 4 3) (descentChecked (unitRow w) n start ss room)
+-- a refusal, or what follows where there is none
+abbrev pub descentRefusedOr : Answer → Descended → Descended
+descentRefusedOr Accepted rest = rest
+descentRefusedOr (Refused n k) rest = descended.Refused n k
 
--- the lent list afterwards, and the lent three numbers; refused, both are as they were
-unfoldable pub descentLosses : List ℤ → Input → ℤ → List ℤ → List ℤ → ℕ → List ℤ
-descentLosses w n start ss xs ends = cond (acceptedOf (descentAnswer w n start ss (length xs) ends)) (lossesAfter (descentOf w n start ss) xs) xs
+-- the answer, with a lent list of room losses
+unfoldable pub descentAnswer : List ℤ → Input → ℤ → List ℤ → ℕ → Descended
+descentAnswer w n start ss room = descentRefusedOr (descentChecked (unitRow w) n start ss room) (endOfDescent (descentOf w n start ss))
 
-unfoldable pub descentEnd : List ℤ → Input → ℤ → List ℤ → ℕ → List ℤ → List ℤ
-descentEnd w n start ss room ys = cond (acceptedOf (descentAnswer w n start ss room (length ys))) (endNumbers (endOfDescent (descentOf w n start ss))) ys
+-- the lent list afterwards; refused, it is as it was
+unfoldable pub descentLosses : List ℤ → Input → ℤ → List ℤ → List ℤ → List ℤ
+descentLosses w n start ss xs = cond (acceptedOf (descentChecked (unitRow w) n start ss (length xs))) (lossesAfter (descentOf w n start ss) xs) xs

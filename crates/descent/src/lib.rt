@@ -8,17 +8,18 @@ ghost use Rattle.acceptance.specs.declared.Answer.the-variants.{Accepted};
 ghost use Rattle.acceptance.specs.Acceptance.{judgedOf, withAltOf};
 ghost use Rattle.descent_orbits.specs.DescentOrbits.{startWithin, millimetresOf, descentFrom};
 ghost use Rattle.descent_orbits.specs.Lent.{endOfDescent, lossesAfter};
-ghost use Rattle.descent.specs.Descent.{unitRow, densityAt, descentChecked, descentAnswer, descentLosses, descentEnd};
+ghost use Rattle.descent.specs.Descent.{unitRow, densityAt, descentChecked, descentAnswer, descentLosses};
 ghost use Rattle.descent.specs.Stored.{stationDensity};
 use acceptance::Answer;
 use acceptance::accepted;
 use acceptance::judge;
 use acceptance::with_alt;
-use descent_orbits::End;
+use descent_orbits::Descended;
+use descent_orbits::Ending;
+use descent_orbits::Orbit;
 use descent_orbits::kilometres;
 use descent_orbits::millimetres;
 use descent_orbits::orbit_at;
-use descent_orbits::put_end;
 use descent_orbits::put_loss;
 use descent_orbits::refusal;
 use setting::Input;
@@ -60,7 +61,7 @@ pub fn orbits(
     start: u64,
     settings: &[i32],
     losses: &mut [i64],
-) -> End
+) -> Descended
     requires { ⌜ (200000000 ≤ start) × (start ≤ 1000000000) × (length (now settings) ≤ length (now losses)) ⌝ }
     ensures { λ r. ⌜ (r ≡ endOfDescent (descentFrom (stationDensity (now (whole .entry)) (now (numbers .entry))) start (now (settings .entry))))
         × (now (losses .exit) ≡ lossesAfter (descentFrom (stationDensity (now (whole .entry)) (now (numbers .entry))) start (now (settings .entry))) (now (losses .entry))) ⌝ }
@@ -70,26 +71,20 @@ pub fn orbits(
     while i < settings.len() {
         let d = density(whole, numbers, a);
         let o = orbit_at(a, d, settings[i]);
-        if o.ending != 0 {
-            return End {
-                ending: o.ending,
-                last: o.last,
-                taken: i,
-            };
+        match o {
+            Orbit::Ends(e) => return Descended::Ended(e, a, i),
+            Orbit::Loses(loss) => {
+                put_loss(losses, i, loss);
+                a -= loss;
+                i += 1;
+            }
         }
-        put_loss(losses, i, o.loss);
-        a = o.last;
-        i += 1;
     }
-    End {
-        ending: 3,
-        last: a,
-        taken: i,
-    }
+    Descended::Ended(Ending::Spent, a, i)
 }
 
 // The descent of a record that is accepted, from a start that is.
-pub fn flown(w: [i32; 24], n: Input, start: i64, settings: &[i32], losses: &mut [i64]) -> End
+pub fn flown(w: [i32; 24], n: Input, start: i64, settings: &[i32], losses: &mut [i64]) -> Descended
     requires { ⌜ (judgedOf w (withAltOf n 0·0) ≡ Accepted) × (startWithin start ≡ true) × (length (now settings) ≤ length (now losses)) ⌝ }
     ensures { λ r. ⌜ (r ≡ endOfDescent (descentFrom (densityAt w n) (millimetresOf start) (now (settings .entry))))
         × (now (losses .exit) ≡ lossesAfter (descentFrom (densityAt w n) (millimetresOf start) (now (settings .entry))) (now (losses .entry))) ⌝ }
@@ -114,28 +109,21 @@ pub fn checked(w: [i32; 24], n: Input, start: i64, settings: &[i32], room: usize
     refusal(start, settings, room)
 }
 
-// The call: refused, losses and end as they were; else the losses at the start of their list and the three numbers in end.
+// The call: refused, the list as it was; else the losses at its start, the rest as it was, and the answer how the descent ended.
 pub fn descent(
     w: [i32; 24],
     n: Input,
     start: i64,
     settings: &[i32],
     losses: &mut [i64],
-    end: &mut [i64],
-) -> Answer
-    ensures { λ r. ⌜ (r ≡ descentAnswer w n start (now (settings .entry)) (length (now (losses .entry))) (length (now (end .entry))))
-        × (now (losses .exit) ≡ descentLosses w n start (now (settings .entry)) (now (losses .entry)) (length (now (end .entry))))
-        × (now (end .exit) ≡ descentEnd w n start (now (settings .entry)) (length (now (losses .entry))) (now (end .entry))) ⌝ }
+) -> Descended
+    ensures { λ r. ⌜ (r ≡ descentAnswer w n start (now (settings .entry)) (length (now (losses .entry))))
+        × (now (losses .exit) ≡ descentLosses w n start (now (settings .entry)) (now (losses .entry))) ⌝ }
 {
-    if end.len() != 3 {
-        return Answer::Refused(4, 3);
-    }
     let v = unit_row(w);
     let a = checked(v, n, start, settings, losses.len());
-    if !accepted(a) {
-        return a;
+    match a {
+        Answer::Refused(number, place) => Descended::Refused(number, place),
+        Answer::Accepted => flown(v, n, start, settings, losses),
     }
-    let e = flown(v, n, start, settings, losses);
-    put_end(end, e);
-    a
 }

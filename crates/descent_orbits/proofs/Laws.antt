@@ -19,10 +19,11 @@ use Rattle.fixed_point.proofs.Range.{clash}
 use Rattle.numbers.specs.Literals.{0·0, 1·0E9}
 use Rattle.numbers.specs.Booleans.{both}
 use Rattle.acceptance.specs.declared.Answer.the-variants.{Accepted, Refused}
-use Rattle.descent_orbits.specs.declared.Orbit.{Orbit}
-use Rattle.descent_orbits.specs.declared.End.{End}
-use Rattle.descent_orbits.specs.Lent.{endNumbers}
-use Rattle.descent_orbits.specs.DescentOrbits.{wholePart, noDensityOf, orbitAfter, orbitOf, wholeWithin, startWithin, millimetresOf, settingWithin, unfitSettingFrom, unfitSetting, descentRefusal}
+use Rattle.descent_orbits.specs.declared.Ending.{Ending}
+use Rattle.descent_orbits.specs.declared.Ending.the-variants.{NoDensity, Reached}
+use Rattle.descent_orbits.specs.declared.Orbit.the-variants.{Ends, Loses}
+use Rattle.descent_orbits.specs.Lent.{endingNumber, endNumbers}
+use Rattle.descent_orbits.specs.DescentOrbits.{wholePart, noDensityOf, orbitOf, wholeWithin, startWithin, millimetresOf, settingWithin, unfitSettingFrom, unfitSetting, descentRefusal}
 
 -- ---- ranges; x is the number as the machine reads it
 
@@ -112,20 +113,20 @@ whole-fits (fin false m e) h =
 
 -- ---- an orbit
 
--- y is the product as it was worked out, o what was answered
-module _ (a : ℕ) (y x : Float) (p : y ≡ x) (t : Bool) (e : t ≡ noDensityOf y) (o : Orbit) where
-  pub thin : t ≡ true → o ≡ orbitAfter 1 a 0 → o ≡ orbitOf a x
+-- y is the product as it was worked out
+module _ (a : ℕ) (y x : Float) (p : y ≡ x) (t : Bool) (e : t ≡ noDensityOf y) where
+  pub thin : t ≡ true → Ends NoDensity ≡ orbitOf a x
   unfolding orbitOf
-  thin h q = q ∙ rw (← p) (simp (← e) (simp h))
+  thin h = rw (← p) (simp (← e) (simp h))
 
   module _ (f : t ≡ false) (l : ℕ) (g : l ≡ wholePart y) where
-    pub arrives : a < 200000000 + l → o ≡ orbitAfter 2 a 0 → o ≡ orbitOf a x
+    pub arrives : a < 200000000 + l → Ends Reached ≡ orbitOf a x
     unfolding orbitOf
-    arrives h q = q ∙ rw (← p, ← g) (simp (← e, lt-ltb _ _ h) (simp f))
+    arrives h = rw (← p, ← g) (simp (← e, lt-ltb _ _ h) (simp f))
 
-    pub sinks : 200000000 + l ≤ a → o ≡ orbitAfter 0 a l → o ≡ orbitOf a x
+    pub sinks : 200000000 + l ≤ a → Loses l ≡ orbitOf a x
     unfolding orbitOf
-    sinks h q = q ∙ rw (← p, ← g) (simp (← e, le-ltb _ _ h) (simp f))
+    sinks h = rw (← p, ← g) (simp (← e, le-ltb _ _ h) (simp f))
 
 -- ---- the settings
 
@@ -191,7 +192,7 @@ module _ (a b c : ℤ) where
       none : (n : ℕ) → suc (suc (suc (suc n))) ≡ 3 → ⊥
       none n g = omega arith
 
-pub put-down : (xs : List ℤ) (e : End) (a b c : ℤ) → length xs ≡ 3 → a ≡ pos (e .ending) → b ≡ pos (e .last) → c ≡ pos (e .taken)
-    → set (set (set xs 0 a) 1 b) 2 c ≡ endNumbers e
+pub put-down : (xs : List ℤ) (e : Ending) (last count : ℕ) (a b c : ℤ) → length xs ≡ 3 → a ≡ pos (endingNumber e) → b ≡ pos last → c ≡ pos count
+    → set (set (set xs 0 a) 1 b) 2 c ≡ endNumbers e last count
 unfolding endNumbers
-put-down xs e a b c h i j k = three a b c xs h ∙ rw (i, j, k)
+put-down xs e last count a b c h i j k = three a b c xs h ∙ rw (i, j, k)

@@ -2,7 +2,7 @@
 use Prim.Native.Nat.{ℕ, _+_, _-_, _*_, _/_}
 use mathlib.Core.Bool.{Bool, false, cond, not, _&&_, _||_}
 use mathlib.Core.List.{List, [], _∷_}
-use lib.Dec.{eqb, leb, ltb}
+use lib.Dec.{leb, ltb}
 use lib.IntN.{ℤ, pos, negsuc}
 use lib.ListN.{length}
 use lib.Ieee.{Float, nan, inf, fin, binary64, up, down, lt, isNan, ofInt}
@@ -10,7 +10,10 @@ use Rattle.numbers.specs.Arithmetic.{_⊗_, _⊘_}
 use Rattle.numbers.specs.Literals.{0·0, 1·0E6, 1·0E9, 1·0E15}
 use Rattle.acceptance.specs.declared.Answer.{Answer}
 use Rattle.acceptance.specs.declared.Answer.the-variants.{Accepted, Refused}
+use Rattle.descent_orbits.specs.declared.Ending.{Ending}
+use Rattle.descent_orbits.specs.declared.Ending.the-variants.{NoDensity, Reached, Spent}
 use Rattle.descent_orbits.specs.declared.Orbit.{Orbit}
+use Rattle.descent_orbits.specs.declared.Orbit.the-variants.{Ends, Loses}
 
 -- ---- an orbit
 
@@ -39,51 +42,37 @@ wholePart nan = 0
 wholePart (inf s) = 0
 wholePart (fin s m e) = m * up e / down e
 
--- the endings by their numbers in the C call, and 0 where the descent goes on
-abbrev pub onward : ℕ
-onward = 0
-
-abbrev pub noDensity : ℕ
-noDensity = 1
-
-abbrev pub reached : ℕ
-reached = 2
-
-abbrev pub spent : ℕ
-spent = 3
-
--- what an orbit leaves that takes a loss of l millimetres at a
-abbrev pub orbitAfter : ℕ → ℕ → ℕ → Orbit
-orbitAfter e a l = record { ending = e; last = a - l; loss = l }
-
 -- the orbit at a millimetres with the product x: 'no density when the product is negative, NaN or above 1E9; else as reached when the loss would take
 -- it below 200 km, without taking that loss'
 unfoldable pub orbitOf : ℕ → Float → Orbit
 orbitOf a x =
-    cond (noDensityOf x) (orbitAfter noDensity a 0)
-    (cond (ltb a (lowestAltitude + wholePart x)) (orbitAfter reached a 0)
-    (orbitAfter onward a (wholePart x)))
+    cond (noDensityOf x) (Ends NoDensity)
+    (cond (ltb a (lowestAltitude + wholePart x)) (Ends Reached)
+    (Loses (wholePart x)))
 
 -- ---- the descent
 
 -- 'the ending, the last altitude' and the losses taken, first orbit first
 pub record Descent : Type 0 where
-  pub ending : ℕ
+  pub ending : Ending
   pub last : ℕ
   pub losses : List ℕ
 
-abbrev pub ended : ℕ → ℕ → Descent
+abbrev pub ended : Ending → ℕ → Descent
 ended e a = record { ending = e; last = a; losses = [] }
 
 abbrev pub lost : ℕ → Descent → Descent
 lost l r = record { ending = r .ending; last = r .last; losses = l ∷ r .losses }
 
+-- an orbit at a millimetres, and what follows from where it leaves off
+abbrev pub orbitThen : Orbit → ℕ → (ℕ → Descent) → Descent
+orbitThen (Ends e) a rest = ended e a
+orbitThen (Loses l) a rest = lost l (rest (a - l))
+
 -- the descent from a millimetres with a setting for each orbit, 'spent only when all orbits are done'; d is d[5] at an altitude in millimetres
 unfoldable pub descentFrom : (ℕ → Float) → ℕ → List ℤ → Descent
-descentFrom d a [] = ended spent a
-descentFrom d a (s ∷ ss) =
-    let o = orbitOf a (densityBySetting (d a) s) in
-    cond (eqb (o .ending) onward) (lost (o .loss) (descentFrom d (o .last) ss)) (ended (o .ending) (o .last))
+descentFrom d a [] = ended Spent a
+descentFrom d a (s ∷ ss) = orbitThen (orbitOf a (densityBySetting (d a) s)) a (λ (b : ℕ). descentFrom d b ss)
 
 -- ---- refusals
 

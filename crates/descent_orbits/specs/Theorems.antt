@@ -3,77 +3,76 @@
 use Prim.Native.Nat.{ℕ, zero, suc, _+_, _-_, _<_, _≤_}
 use mathlib.Core.Path.{_≡_, refl, sym, ap, _∙_, subst}
 use mathlib.Core.Bool.{Bool, true, false, cond, not, true≢false, false≢true}
-use mathlib.Core.List.{List, [], _∷_, _++_}
+use mathlib.Core.List.{List, [], _∷_, _++_, map}
 use native.Mathlib.Nat.{le-refl}
 use native.Mathlib.Omega.{arith}
-use borrow.Author.Tests.{ltb-false, eq-eqb, ne-eqb}
-use lib.Dec.{eqb, ltb}
-use lib.IntN.{ℤ, pos}
-use lib.ListN.{length, getD}
+use borrow.Author.Tests.{ltb-false}
+use lib.Dec.{ltb}
+use lib.IntN.{ℤ, pos, negsuc, _+ℤ_, pos-+ℤ-pos}
+use lib.ListN.{length, take, drop, getD, length-map}
+use lib.Seq.{take-at}
 use lib.Ieee.{Float}
 use Rattle.acceptance.specs.declared.Answer.{Answer}
 use Rattle.acceptance.specs.declared.Answer.the-variants.{Accepted, Refused}
 use Rattle.acceptance.specs.Acceptance.{acceptedOf}
+use Rattle.descent_orbits.specs.declared.Ending.{Ending}
+use Rattle.descent_orbits.specs.declared.Ending.the-variants.{NoDensity, Reached, Spent}
 use Rattle.descent_orbits.specs.declared.Orbit.{Orbit}
-use Rattle.descent_orbits.specs.DescentOrbits.{lowestAltitude, highestAltitude, densityBySetting, noDensityOf, wholePart, onward, noDensity, reached, spent, orbitAfter, orbitOf, Descent, ended, lost, descentFrom, startWithin, settingWithin, unfitSettingFrom, unfitSetting, descentRefusal}
+use Rattle.descent_orbits.specs.declared.Orbit.the-variants.{Ends, Loses}
+use Rattle.descent_orbits.specs.Lent.{lossesAfter}
+use Rattle.descent_orbits.specs.DescentOrbits.{lowestAltitude, highestAltitude, densityBySetting, noDensityOf, wholePart, orbitOf, Descent, ended, lost, orbitThen, descentFrom, startWithin, millimetresOf, settingWithin, unfitSettingFrom, unfitSetting, descentRefusal}
 
 -- ---- an orbit
 
--- the orbit at a with the loss l, by the two tests
-abbrev chosenOrbit : ℕ → ℕ → Bool → Bool → Orbit
-chosenOrbit a l thin low =
-    cond thin (orbitAfter noDensity a 0) (cond low (orbitAfter reached a 0) (orbitAfter onward a l))
+abbrev pub isSpent : Ending → Bool
+isSpent NoDensity = false
+isSpent Reached = false
+isSpent Spent = true
 
--- an orbit that goes on takes its loss and stays at or above 200 km
-taken : (a l : ℕ) (thin low : Bool) → ltb a (lowestAltitude + l) ≡ low → eqb ((chosenOrbit a l thin low) .ending) 0 ≡ true
-    → ((chosenOrbit a l thin low) .last + (chosenOrbit a l thin low) .loss ≡ a) × (lowestAltitude ≤ (chosenOrbit a l thin low) .last)
-taken a l true low e f = absurd (false≢true f)
-taken a l false true e f = absurd (false≢true f)
-taken a l false false e f = let h = ltb-false a (lowestAltitude + l) e in (omega (arith, h), omega (arith, h))
+-- no orbit ends the descent as spent, and one that takes its loss stays at or above 200 km
+abbrev pub Sound : ℕ → Orbit → Type 0
+Sound a (Ends e) = isSpent e ≡ false
+Sound a (Loses l) = lowestAltitude + l ≤ a
 
--- one that ends the descent stays where it is, and is not the spent one
-stays : (a l : ℕ) (thin low : Bool) → eqb ((chosenOrbit a l thin low) .ending) 0 ≡ false → ((chosenOrbit a l thin low) .last ≡ a) × ((chosenOrbit a l thin low) .ending ≤ 2)
-stays a l true low f = (omega arith, omega arith)
-stays a l false true f = (omega arith, omega arith)
-stays a l false false f = absurd (true≢false f)
-
-module _ (a : ℕ) (x : Float) where
-  pub orbit-taken : eqb ((orbitOf a x) .ending) 0 ≡ true → ((orbitOf a x) .last + (orbitOf a x) .loss ≡ a) × (lowestAltitude ≤ (orbitOf a x) .last)
-  unfolding orbitOf
-  orbit-taken = taken a (wholePart x) (noDensityOf x) (ltb a (lowestAltitude + wholePart x)) refl
-
-  pub orbit-stays : eqb ((orbitOf a x) .ending) 0 ≡ false → ((orbitOf a x) .last ≡ a) × ((orbitOf a x) .ending ≤ 2)
-  unfolding orbitOf
-  orbit-stays = stays a (wholePart x) (noDensityOf x) (ltb a (lowestAltitude + wholePart x))
+pub orbit-sound : (a : ℕ) (x : Float) → Sound a (orbitOf a x)
+unfolding orbitOf
+orbit-sound a x = go (wholePart x) (noDensityOf x) (ltb a (lowestAltitude + wholePart x)) refl
+  where
+    go : (l : ℕ) (thin low : Bool) → ltb a (lowestAltitude + l) ≡ low → Sound a (cond thin (Ends NoDensity) (cond low (Ends Reached) (Loses l)))
+    go l true low e = refl
+    go l false true e = refl
+    go l false false e = ltb-false a (lowestAltitude + l) e
 
 -- ---- the descent
 
--- the sum of a list
+-- the sum of a list, of natural and of whole numbers
 unfoldable pub total : List ℕ → ℕ
 total [] = 0
 total (l ∷ ls) = l + total ls
 
+unfoldable pub sum : List ℤ → ℤ
+sum [] = pos 0
+sum (x ∷ xs) = x +ℤ sum xs
+
+sum-total : (ls : List ℕ) → sum (map pos ls) ≡ pos (total ls)
+unfolding sum total
+sum-total [] = refl
+sum-total (l ∷ ls) = ap (λ (z : ℤ). pos l +ℤ z) (sum-total ls) ∙ pos-+ℤ-pos l (total ls)
+
 module _ (d : ℕ → Float) where
   -- what holds of no orbits, of an orbit that ends the descent, and, where it holds of the rest, of an orbit that goes on, holds of every descent
   by-orbit : (P : ℕ → List ℤ → Descent → Type 0)
-      → ((a : ℕ) → P a [] (ended spent a))
-      → ((a e : ℕ) (s : ℤ) (ss : List ℤ) → e ≤ 2 → P a (s ∷ ss) (ended e a))
+      → ((a : ℕ) → P a [] (ended Spent a))
+      → ((a : ℕ) (e : Ending) (s : ℤ) (ss : List ℤ) → isSpent e ≡ false → P a (s ∷ ss) (ended e a))
       → ((a b l : ℕ) (s : ℤ) (ss : List ℤ) (r : Descent) → b + l ≡ a → lowestAltitude ≤ b → P b ss r → P a (s ∷ ss) (lost l r))
       → (ss : List ℤ) (a : ℕ) → P a ss (descentFrom d a ss)
   unfolding descentFrom
   by-orbit P none stop on [] a = none a
-  by-orbit P none stop on (s ∷ ss) a = go (by-orbit P none stop on ss) (eqb (o .ending) 0) refl
+  by-orbit P none stop on (s ∷ ss) a = go (by-orbit P none stop on ss) (orbitOf a (densityBySetting (d a) s)) (orbit-sound a (densityBySetting (d a) s))
     where
-      o : Orbit
-      o = orbitOf a (densityBySetting (d a) s)
-
-      go : ((k : ℕ) → P k ss (descentFrom d k ss)) → (b : Bool) → eqb (o .ending) 0 ≡ b → P a (s ∷ ss) (cond b (lost (o .loss) (descentFrom d (o .last) ss)) (ended (o .ending) (o .last)))
-      go rest true e =
-          let t = orbit-taken a (densityBySetting (d a) s) e in
-          on a (o .last) (o .loss) s ss (descentFrom d (o .last) ss) (t .0) (t .1) (rest (o .last))
-      go rest false e =
-          let t = orbit-stays a (densityBySetting (d a) s) e in
-          subst (λ (k : ℕ). P a (s ∷ ss) (ended (o .ending) k)) (sym (t .0)) (stop a (o .ending) s ss (t .1))
+      go : ((k : ℕ) → P k ss (descentFrom d k ss)) → (o : Orbit) → Sound a o → P a (s ∷ ss) (orbitThen o a (λ (b : ℕ). descentFrom d b ss))
+      go rest (Ends e) h = stop a e s ss h
+      go rest (Loses l) h = on a (a - l) l s ss (descentFrom d (a - l) ss) (omega (arith, h)) (omega (arith, h)) (rest (a - l))
 
   -- 'Start minus end equals the sum of the losses listed'
   pub start-minus-end : (ss : List ℤ) (a : ℕ) → a ≡ (descentFrom d a ss) .last + total ((descentFrom d a ss) .losses)
@@ -81,6 +80,16 @@ module _ (d : ℕ → Float) where
   start-minus-end =
       by-orbit (λ (a : ℕ) (ss : List ℤ) (r : Descent). a ≡ r .last + total (r .losses)) (λ a. omega arith) (λ a e s ss h. omega arith)
       (λ a b l s ss r h g i. omega (arith, h, i))
+
+  -- the same over the list as it is lent: its first entries, as many as losses were taken
+  pub listed-sum : (ss : List ℤ) (a : ℕ) (xs : List ℤ)
+      → pos a ≡ pos ((descentFrom d a ss) .last) +ℤ sum (take (length ((descentFrom d a ss) .losses)) (lossesAfter (descentFrom d a ss) xs))
+  unfolding lossesAfter
+  listed-sum ss a xs =
+      let r = descentFrom d a ss in
+      ap pos (start-minus-end ss a)
+      ∙ rw (take-at (map pos (r .losses)) (drop (length (r .losses)) xs) (length (r .losses)) (length-map (r .losses) pos), sum-total (r .losses))
+      (sym (pos-+ℤ-pos (r .last) (total (r .losses))))
 
   -- It never rises: it ends at or below its start.
   pub never-rises : (ss : List ℤ) (a : ℕ) → (descentFrom d a ss) .last ≤ a
@@ -91,23 +100,16 @@ module _ (d : ℕ → Float) where
   stays-above =
       by-orbit (λ (a : ℕ) (ss : List ℤ) (r : Descent). lowestAltitude ≤ a → lowestAltitude ≤ r .last) (λ a h. h) (λ a e s ss g h. h) (λ a b l s ss r h g i j. i g)
 
-  -- At most one loss for each setting, and one for each where it ends as spent; the ending is 1, 2 or 3.
+  -- At most one loss for each setting, and one for each where it ends as spent.
   pub losses-few : (ss : List ℤ) (a : ℕ) → length ((descentFrom d a ss) .losses) ≤ length ss
   losses-few =
       by-orbit (λ (a : ℕ) (ss : List ℤ) (r : Descent). length (r .losses) ≤ length ss) (λ a. omega arith) (λ a e s ss h. omega arith)
       (λ a b l s ss r h g i. omega (arith, i))
 
-  pub all-done : (ss : List ℤ) (a : ℕ) → (descentFrom d a ss) .ending ≡ spent → length ((descentFrom d a ss) .losses) ≡ length ss
+  pub all-done : (ss : List ℤ) (a : ℕ) → (descentFrom d a ss) .ending ≡ Spent → length ((descentFrom d a ss) .losses) ≡ length ss
   all-done =
-      by-orbit (λ (a : ℕ) (ss : List ℤ) (r : Descent). r .ending ≡ spent → length (r .losses) ≡ length ss) (λ a h. refl) (λ a e s ss h g. absurd (no e h g))
-      (λ a b l s ss r h g i j. ap suc (i j))
-    where
-      no : (e : ℕ) → e ≤ 2 → e ≡ 3 → ⊥
-      no e h g = omega arith
-
-  pub ending-known : (ss : List ℤ) (a : ℕ) → (descentFrom d a ss) .ending ≤ 3
-  ending-known =
-      by-orbit (λ (a : ℕ) (ss : List ℤ) (r : Descent). r .ending ≤ 3) (λ a. omega arith) (λ a e s ss h. omega arith) (λ a b l s ss r h g i. i)
+      by-orbit (λ (a : ℕ) (ss : List ℤ) (r : Descent). r .ending ≡ Spent → length (r .losses) ≡ length ss) (λ a h. refl)
+      (λ a e s ss h g. absurd (true≢false (sym (ap (λ (k : Ending). isSpent k) g) ∙ h))) (λ a b l s ss r h g i j. ap suc (i j))
 
 -- ---- in two parts
 
@@ -117,7 +119,7 @@ joined r q = record { ending = q .ending; last = q .last; losses = r .losses ++ 
 
 -- r, and where it is spent what f gives from its last altitude on
 abbrev pub continued : Descent → (ℕ → Descent) → Descent
-continued r f = cond (eqb (r .ending) spent) (joined r (f (r .last))) r
+continued r f = cond (isSpent (r .ending)) (joined r (f (r .last))) r
 
 later-joined : (l : ℕ) (r : Descent) (f : ℕ → Descent) (b : Bool) → lost l (cond b (joined r (f (r .last))) r) ≡ cond b (joined (lost l r) (f (r .last))) (lost l r)
 later-joined l r f true = refl
@@ -128,40 +130,35 @@ later-joined l r f false = refl
 pub in-parts : (d : ℕ → Float) (ts ss : List ℤ) (a : ℕ) → descentFrom d a (ss ++ ts) ≡ continued (descentFrom d a ss) (λ (b : ℕ). descentFrom d b ts)
 unfolding descentFrom
 in-parts d ts [] a = refl
-in-parts d ts (s ∷ ss) a = go (in-parts d ts ss (o .last)) (eqb (o .ending) 0) refl
+in-parts d ts (s ∷ ss) a = go (in-parts d ts ss) (orbitOf a (densityBySetting (d a) s)) (orbit-sound a (densityBySetting (d a) s))
   where
-    o : Orbit
-    o = orbitOf a (densityBySetting (d a) s)
-
     f : ℕ → Descent
     f b = descentFrom d b ts
 
-    go : descentFrom d (o .last) (ss ++ ts) ≡ continued (descentFrom d (o .last) ss) f → (b : Bool) → eqb (o .ending) 0 ≡ b
-        → cond b (lost (o .loss) (descentFrom d (o .last) (ss ++ ts))) (ended (o .ending) (o .last))
-        ≡ continued (cond b (lost (o .loss) (descentFrom d (o .last) ss)) (ended (o .ending) (o .last))) f
-    go rest true e = ap (lost (o .loss)) rest ∙ later-joined (o .loss) (descentFrom d (o .last) ss) f (eqb ((descentFrom d (o .last) ss) .ending) spent)
-    go rest false e = sym (ap (λ (b : Bool). cond b (joined (ended (o .ending) (o .last)) (f (o .last))) (ended (o .ending) (o .last))) (other (o .ending) (orbit-stays a (densityBySetting (d a) s) e .1)))
-      where
-        other : (k : ℕ) → k ≤ 2 → eqb k 3 ≡ false
-        other k h = ne-eqb k 3 (λ g. no g)
-          where
-            no : k ≡ 3 → ⊥
-            no g = omega arith
+    go : ((b : ℕ) → descentFrom d b (ss ++ ts) ≡ continued (descentFrom d b ss) f) → (o : Orbit) → Sound a o
+        → orbitThen o a (λ (b : ℕ). descentFrom d b (ss ++ ts)) ≡ continued (orbitThen o a (λ (b : ℕ). descentFrom d b ss)) f
+    go rest (Ends e) h = rw h
+    go rest (Loses l) h = ap (lost l) (rest (a - l)) ∙ later-joined l (descentFrom d (a - l) ss) f (isSpent ((descentFrom d (a - l) ss) .ending))
+
+other : (e : Ending) → (e ≡ Spent → ⊥) → isSpent e ≡ false
+other NoDensity h = refl
+other Reached h = refl
+other Spent h = absurd (h refl)
 
 module _ (d : ℕ → Float) (ss ts : List ℤ) (a : ℕ) where
-  pub spent-then : (descentFrom d a ss) .ending ≡ spent → descentFrom d a (ss ++ ts) ≡ joined (descentFrom d a ss) (descentFrom d ((descentFrom d a ss) .last) ts)
+  pub spent-then : (descentFrom d a ss) .ending ≡ Spent → descentFrom d a (ss ++ ts) ≡ joined (descentFrom d a ss) (descentFrom d ((descentFrom d a ss) .last) ts)
   spent-then e =
       in-parts d ts ss a
-      ∙ ap (λ (b : Bool). cond b (joined (descentFrom d a ss) (descentFrom d ((descentFrom d a ss) .last) ts)) (descentFrom d a ss)) (eq-eqb _ _ e)
+      ∙ ap (λ (b : Bool). cond b (joined (descentFrom d a ss) (descentFrom d ((descentFrom d a ss) .last) ts)) (descentFrom d a ss)) (ap (λ (k : Ending). isSpent k) e)
 
-  pub ended-then : ((descentFrom d a ss) .ending ≡ spent → ⊥) → descentFrom d a (ss ++ ts) ≡ descentFrom d a ss
+  pub ended-then : ((descentFrom d a ss) .ending ≡ Spent → ⊥) → descentFrom d a (ss ++ ts) ≡ descentFrom d a ss
   ended-then e =
       in-parts d ts ss a
-      ∙ ap (λ (b : Bool). cond b (joined (descentFrom d a ss) (descentFrom d ((descentFrom d a ss) .last) ts)) (descentFrom d a ss)) (ne-eqb _ _ e)
+      ∙ ap (λ (b : Bool). cond b (joined (descentFrom d a ss) (descentFrom d ((descentFrom d a ss) .last) ts)) (descentFrom d a ss)) (other _ e)
 
   -- More orbits never end higher.
   pub lower-with-more : (descentFrom d a (ss ++ ts)) .last ≤ (descentFrom d a ss) .last
-  lower-with-more = rw (in-parts d ts ss a) (go (eqb ((descentFrom d a ss) .ending) spent))
+  lower-with-more = rw (in-parts d ts ss a) (go (isSpent ((descentFrom d a ss) .ending)))
     where
       r : Descent
       r = descentFrom d a ss
@@ -177,17 +174,13 @@ pub same-descent : (d e : ℕ → Float) → ((a : ℕ) → lowestAltitude ≤ a
     → descentFrom d a ss ≡ descentFrom e a ss
 unfolding descentFrom
 same-descent d e same [] a h g = refl
-same-descent d e same (s ∷ ss) a h g = rw (same a h g) (go (same-descent d e same ss) (eqb (o .ending) 0) refl)
+same-descent d e same (s ∷ ss) a h g =
+    rw (same a h g) (go (same-descent d e same ss) (orbitOf a (densityBySetting (e a) s)) (orbit-sound a (densityBySetting (e a) s)))
   where
-    o : Orbit
-    o = orbitOf a (densityBySetting (e a) s)
-
-    go : ((b : ℕ) → lowestAltitude ≤ b → b ≤ highestAltitude → descentFrom d b ss ≡ descentFrom e b ss) → (b : Bool) → eqb (o .ending) 0 ≡ b
-        → cond b (lost (o .loss) (descentFrom d (o .last) ss)) (ended (o .ending) (o .last)) ≡ cond b (lost (o .loss) (descentFrom e (o .last) ss)) (ended (o .ending) (o .last))
-    go rest true f =
-        let t = orbit-taken a (densityBySetting (e a) s) f in
-        ap (lost (o .loss)) (rest (o .last) (t .1) (omega (arith, t .0, g)))
-    go rest false f = refl
+    go : ((b : ℕ) → lowestAltitude ≤ b → b ≤ highestAltitude → descentFrom d b ss ≡ descentFrom e b ss) → (o : Orbit) → Sound a o
+        → orbitThen o a (λ (b : ℕ). descentFrom d b ss) ≡ orbitThen o a (λ (b : ℕ). descentFrom e b ss)
+    go rest (Ends k) f = refl
+    go rest (Loses l) f = ap (lost l) (rest (a - l) (omega (arith, f)) (omega (arith, g)))
 
 -- ---- refusals
 
@@ -261,3 +254,8 @@ accepted-met start ss room h =
     let c = none (ltb 10000 (length ss)) 19 10000 _ (b .1) in
     let e = none (ltb room (length ss)) 19 (length ss) Accepted (c .1) in
     record { within = positive _ (a .0); set = ltb-false _ _ (b .0); few = ltb-false _ _ (c .0); fits = ltb-false _ _ (e .0) }
+
+-- a start that is accepted is its millimetres
+pub whole-start : (start : ℤ) → startWithin start ≡ true → start ≡ pos (millimetresOf start)
+whole-start (pos a) h = refl
+whole-start (negsuc a) h = absurd (false≢true h)

@@ -4,24 +4,28 @@ ghost use mathlib.Core.Bool.{true, false};
 ghost use Prim.Native.Nat.{_≤_, _<_};
 ghost use lib.IntN.{pos};
 ghost use lib.ListN.{length, set};
-ghost use Rattle.descent_orbits.specs.DescentOrbits.{wholePart, densityBySetting, noDensityOf, orbitAfter, orbitOf, kilometresOfMillimetres, startWithin, millimetresOf, settingWithin, unfitSetting, descentRefusal};
-ghost use Rattle.descent_orbits.specs.Lent.{endNumbers};
+ghost use Rattle.descent_orbits.specs.DescentOrbits.{wholePart, densityBySetting, noDensityOf, orbitOf, kilometresOfMillimetres, startWithin, millimetresOf, settingWithin, unfitSetting, descentRefusal};
+ghost use Rattle.descent_orbits.specs.Lent.{endingNumber, endNumbers};
 use acceptance::Answer;
 use fixed_point::scaled;
 
-// An orbit: the ending, 0 where the descent goes on, 1 where there is no density, 2 where 200 km is reached; the altitude after it and the loss
-// taken, both in millimetres.
-pub struct Orbit {
-    pub ending: u64,
-    pub last: u64,
-    pub loss: u64,
+// How a descent ends.
+pub enum Ending {
+    NoDensity,
+    Reached,
+    Spent,
 }
 
-// How a descent ends: 1 no density, 2 reached, 3 spent; its last altitude in millimetres; how many losses it took.
-pub struct End {
-    pub ending: u64,
-    pub last: u64,
-    pub taken: usize,
+// What an orbit does: it ends the descent, or it takes its loss in millimetres.
+pub enum Orbit {
+    Ends(Ending),
+    Loses(u64),
+}
+
+// A descent's answer: how it ended, its last altitude in millimetres and how many losses it took; or a refusal's number and place.
+pub enum Descended {
+    Ended(Ending, u64, usize),
+    Refused(usize, usize),
 }
 
 // ---- an orbit
@@ -54,31 +58,19 @@ pub fn whole_part(x: f64) -> u64
     scaled(x, 0)
 }
 
-// What an orbit leaves with a loss taken at an altitude of a millimetres.
-pub fn after(ending: u64, a: u64, loss: u64) -> Orbit
-    requires { ⌜ loss ≤ a ⌝ }
-    ensures { λ r. ⌜ r ≡ orbitAfter ending a loss ⌝ }
-{
-    Orbit {
-        ending: ending,
-        last: a - loss,
-        loss: loss,
-    }
-}
-
 // The orbit at an altitude of a millimetres, from d[5] there and its setting.
 pub fn orbit_at(a: u64, d: f64, s: i32) -> Orbit
     ensures { λ r. ⌜ r ≡ orbitOf a (densityBySetting d s) ⌝ }
 {
     let x = product(d, s);
     if no_density(x) {
-        return after(1, a, 0);
+        return Orbit::Ends(Ending::NoDensity);
     }
     let loss = whole_part(x);
     if a < 200000000 + loss {
-        return after(2, a, 0);
+        return Orbit::Ends(Ending::Reached);
     }
-    after(0, a, loss)
+    Orbit::Loses(loss)
 }
 
 // ---- the refusals
@@ -164,12 +156,23 @@ pub fn put_loss(losses: &mut [i64], i: usize, loss: u64)
     losses[i] = loss as i64;
 }
 
-// The ending, the last altitude and the count.
-pub fn put_end(end: &mut [i64], e: End)
-    requires { ⌜ (length (now end) ≡ 3) × (e .ending ≤ 3) × (e .last ≤ 1000000000) × (e .taken ≤ 10000) ⌝ }
-    ensures { λ _. ⌜ now (end .exit) ≡ endNumbers e ⌝ }
+// An ending's number in the C call.
+pub fn ending_number(e: Ending) -> i64
+    ensures { λ r. ⌜ r ≡ pos (endingNumber e) ⌝ }
 {
-    end[0] = e.ending as i64;
-    end[1] = e.last as i64;
-    end[2] = e.taken as i64;
+    match e {
+        Ending::NoDensity => 1,
+        Ending::Reached => 2,
+        Ending::Spent => 3,
+    }
+}
+
+// The ending, the last altitude and the count as three numbers, for the C call.
+pub fn put_end(end: &mut [i64], e: Ending, last: u64, taken: usize)
+    requires { ⌜ (length (now end) ≡ 3) × (last ≤ 1000000000) × (taken ≤ 10000) ⌝ }
+    ensures { λ _. ⌜ now (end .exit) ≡ endNumbers e last taken ⌝ }
+{
+    end[0] = ending_number(e);
+    end[1] = last as i64;
+    end[2] = taken as i64;
 }

@@ -3,7 +3,6 @@ use Prim.Native.Nat.{ℕ}
 use mathlib.Core.Path.{_≡_, refl, sym, _∙_, ap}
 use mathlib.Core.Bool.{true, false, true≢false}
 use mathlib.Core.List.{List}
-use borrow.Author.Tests.{eq-eqb, ne-eqb}
 use lib.IntN.{ℤ}
 use lib.ListN.{length}
 use lib.Ieee.{Float}
@@ -14,8 +13,9 @@ use Rattle.acceptance.specs.Acceptance.{acceptedOf}
 use Rattle.first_below_list.specs.declared.First.{First}
 use Rattle.first_below.specs.FirstBelow.{firstBelowRefusedOr, firstAnswer, firstAfter}
 use Rattle.first_below.proofs.Laws.{goes-on}
-use Rattle.host_record.specs.Record.{codeOf, recordOf, lengthsOf}
-use Rattle.host.specs.FirstBelow.{firstCode, slicesOf, hostFirst, hostFirstRow}
+use Rattle.host_record.specs.Record.{codeOf, recordOf}
+use Rattle.host.specs.Host.{slicesOf}
+use Rattle.host.specs.FirstBelow.{firstCode, hostFirst, hostFirstRow}
 
 -- the slices' own answer goes first
 stays : (a : Answer) (x : First) → acceptedOf a ≡ false → codeOf a ≡ firstCode (firstBelowRefusedOr a x)
@@ -23,16 +23,7 @@ unfolding codeOf
 stays Accepted x t = absurd (true≢false t)
 stays (Refused n k) x t = refl
 
-module _ (f l : List Float) (w : List ℤ) (len : ℕ) where
-  pub no-row : (len ≡ 11 → ⊥) → Refused 4 11 ≡ slicesOf f l w len
-  unfolding slicesOf
-  no-row h = simp (ne-eqb _ _ h)
-
-  pub a-row : len ≡ 11 → (a : Answer) → a ≡ lengthsOf f l w Accepted → a ≡ slicesOf f l w len
-  unfolding slicesOf
-  a-row h a e = e ∙ simp (eq-eqb _ _ h)
-
-module _ (year doy : ℤ) (f l : List Float) (w : List ℤ) (alts : List Float) (level : Float) (xs : List Float) (a : Answer) (e : a ≡ slicesOf f l w (length xs)) where
+module _ (year doy : ℤ) (f l : List Float) (w : List ℤ) (alts : List Float) (level : Float) (xs : List Float) (a : Answer) (e : a ≡ slicesOf 11 f l w (length xs)) where
   abbrev Outcome : ℕ → List Float → Type 0
   Outcome x ys = (x ≡ firstCode (hostFirst year doy f l w alts level (length xs))) × (ys ≡ hostFirstRow year doy f l w alts level xs)
 
@@ -50,6 +41,6 @@ module _ (year doy : ℤ) (f l : List Float) (w : List ℤ) (alts : List Float) 
       → Outcome x ys
   unfolding hostFirst hostFirstRow
   asked x r n v ys t e0 e1 e2 e3 e4 =
-      let told : r ≡ firstBelowRefusedOr (slicesOf f l w (length xs)) (firstAnswer w (recordOf year doy f l) alts level (length xs)) =
+      let told : r ≡ firstBelowRefusedOr (slicesOf 11 f l w (length xs)) (firstAnswer w (recordOf year doy f l) alts level (length xs)) =
       e1 ∙ rw (e3, e4, ← e) (sym (goes-on a _ t)) in
       (e0 ∙ ap (λ (q : First). firstCode q) told, e2 ∙ rw (e3, e4, ← e, t))

@@ -21,12 +21,22 @@ use Rattle.crossings.specs.Crossings.{crossingsRefusedOr, crossingsAnswer, cros
 use Rattle.crossings.proofs.Laws.{goes-on}
 use Rattle.host.specs.Crossings.{listingCode, hostCrossings, hostList}
 use Rattle.host_record.specs.Record.{codeOf, recordOf, lengthsOf}
-use Rattle.host.specs.Host.{hostAnswer, hostColumn, hostRows, hostStation, hostWhole, hostNumbers, hostSwitches, hostSwitchedWhole, hostSwitchedNumbers}
+use Rattle.host.specs.Host.{slicesOf, hostAnswer, hostColumn, hostRows, hostStation, hostWhole, hostNumbers, hostSwitches, hostSwitchedWhole, hostSwitchedNumbers}
 
 -- a choice made twice is made once
 pub twice : (b : Bool) (ys xs : List Float) → cond b ys xs ≡ cond b (cond b ys xs) xs
 twice true ys xs = refl
 twice false ys xs = refl
+
+-- the tests on a lent slice and on the record's
+module _ (needed : ℕ) (f l : List Float) (w : List ℤ) (len : ℕ) where
+  pub wrong-length : (len ≡ needed → ⊥) → Refused 4 needed ≡ slicesOf needed f l w len
+  unfolding slicesOf
+  wrong-length h = simp (ne-eqb _ _ h)
+
+  pub right-length : len ≡ needed → (a : Answer) → a ≡ lengthsOf f l w Accepted → a ≡ slicesOf needed f l w len
+  unfolding slicesOf
+  right-length h a e = e ∙ simp (eq-eqb _ _ h)
 
 -- ---- the calls
 

@@ -1,18 +1,16 @@
 -- The host's first altitude thin enough: 4 for the row and for the record's slices, then what the call answers.
 use Prim.Native.Nat.{ℕ}
-use mathlib.Core.Bool.{cond, not}
+use mathlib.Core.Bool.{cond}
 use mathlib.Core.List.{List}
-use lib.Dec.{eqb}
 use lib.IntN.{ℤ}
 use lib.ListN.{length}
 use lib.Ieee.{Float}
-use Rattle.acceptance.specs.declared.Answer.{Answer}
-use Rattle.acceptance.specs.declared.Answer.the-variants.{Accepted, Refused}
 use Rattle.acceptance.specs.Acceptance.{acceptedOf}
 use Rattle.first_below_list.specs.declared.First.{First}
 use Rattle.first_below_list.specs.declared.First.the-variants as first
 use Rattle.first_below.specs.FirstBelow.{firstBelowRefusedOr, firstAnswer, firstAfter}
-use Rattle.host_record.specs.Record.{packedOf, recordOf, lengthsOf}
+use Rattle.host_record.specs.Record.{packedOf, recordOf}
+use Rattle.host.specs.Host.{slicesOf}
 
 -- an answer as one number: the index, 2^32 - 1 for none, or the refusal's number times 2^32 and its place
 abbrev pub firstCode : First → ℕ
@@ -20,14 +18,10 @@ firstCode (first.At k) = k
 firstCode first.Nowhere = 4294967295
 firstCode (first.Refused n k) = packedOf n k
 
--- 4 for the row first, then for the other slices
-unfoldable pub slicesOf : List Float → List Float → List ℤ → ℕ → Answer
-slicesOf f l w len = cond (not (eqb len 11)) (Refused 4 11) (lengthsOf f l w Accepted)
-
 unfoldable pub hostFirst : ℤ → ℤ → List Float → List Float → List ℤ → List Float → Float → ℕ → First
-hostFirst year doy f l w alts level len = firstBelowRefusedOr (slicesOf f l w len) (firstAnswer w (recordOf year doy f l) alts level len)
+hostFirst year doy f l w alts level len = firstBelowRefusedOr (slicesOf 11 f l w len) (firstAnswer w (recordOf year doy f l) alts level len)
 
 -- the lent row afterwards
 unfoldable pub hostFirstRow : ℤ → ℤ → List Float → List Float → List ℤ → List Float → Float → List Float → List Float
 hostFirstRow year doy f l w alts level xs =
-    cond (acceptedOf (slicesOf f l w (length xs))) (firstAfter w (recordOf year doy f l) alts level xs) xs
+    cond (acceptedOf (slicesOf 11 f l w (length xs))) (firstAfter w (recordOf year doy f l) alts level xs) xs

@@ -8,7 +8,7 @@ use lib.ListN.{length, drop}
 use lib.Ieee.{Float}
 use Rattle.numbers.specs.Literals.{0·0}
 use Rattle.acceptance.specs.declared.Answer.{Answer}
-use Rattle.acceptance.specs.declared.Answer.the-variants.{Refused}
+use Rattle.acceptance.specs.declared.Answer.the-variants.{Accepted, Refused}
 use Rattle.acceptance.specs.Acceptance.{acceptedOf, withAltOf}
 use Rattle.atmosphere.specs.Atmosphere.{answerOf, elevenOf}
 use Rattle.altitudes.specs.Altitudes.{columnAnswer}
@@ -17,6 +17,10 @@ use Rattle.station_record.specs.Record.{stationWhole, recordIn, stationAnswer, 
 use Rattle.station.specs.Station.{stationNumbers, renewedOf}
 use Rattle.drag.specs.Drag.{dragOf}
 use Rattle.host_record.specs.Record.{recordOf, lengthsOf}
+
+-- 4 for a lent slice of len numbers that needs to have another length, then for the record's slices
+unfoldable pub slicesOf : ℕ → List Float → List Float → List ℤ → ℕ → Answer
+slicesOf needed f l w len = cond (not (eqb len needed)) (Refused 4 needed) (lengthsOf f l w Accepted)
 
 -- 4 for the row first, then for the other slices, then the one-altitude call's answer
 unfoldable pub hostAnswer : ℤ → ℤ → List Float → List Float → List ℤ → ℕ → Answer

@@ -26,19 +26,6 @@ loop-holds c = (search needs, search needs, search needs, refl, begun _ _ _ _)
 
 returns : tie.Need-returns Inv-loop μ-loop
 returns c =
-    let orbit = c .before .before in
-    let density = orbit .before .before in
-    let test = density .before in
-    let at = test .before .loop in
-    let A = test .before .before .before .args in
-    let S = A .settings .now in
-    let D = stationDensity (A .whole .now) (A .numbers .now) in
-    let s = toZ-ofZ {w = w32} {z = getD S (at .i) (pos 0)} (search needs) in
-    stopped D (A .start) S (A .losses .now) (at .a) (at .i) (at .losses) (at .inv .4) (test .loop-test .taken) (orbit .orbit-at .result)
-    (orbit-told D (at .a) (orbit .orbit-at .result) _ _ _ (orbit .orbit-at .ensures) (density .density .ensures) s) (c .if1 .taken)
-
-put-loss-requires : tie.Need-put-loss-requires Inv-loop μ-loop
-put-loss-requires c κs =
     let orbit = c .before .before .before in
     let density = orbit .before .before in
     let test = density .before in
@@ -47,14 +34,24 @@ put-loss-requires c κs =
     let S = A .settings .now in
     let D = stationDensity (A .whole .now) (A .numbers .now) in
     let s = toZ-ofZ {w = w32} {z = getD S (at .i) (pos 0)} (search needs) in
-    let k =
-    sunk D (A .start) S (A .losses .now) (at .a) (at .i) (at .losses) (at .inv .4) (test .loop-test .taken) (orbit .orbit-at .result)
-    (orbit-told D (at .a) (orbit .orbit-at .result) _ _ _ (orbit .orbit-at .ensures) (density .density .ensures) s) (c .before .if1 .left) in
-    (search needs, omega (arith, k .0, at .inv .2))
+    let p = orbit-told D (at .a) (orbit .orbit-at .result) _ _ _ (orbit .orbit-at .ensures) (density .density .ensures) s in
+    stopped D (A .start) S (A .losses .now) (at .a) (at .i) (at .losses) (at .inv .4) (test .loop-test .taken) (orbit .orbit-at .result) p _ (c .before .o .given .1)
+
+put-loss-requires : tie.Need-put-loss-requires Inv-loop μ-loop
+put-loss-requires c κs =
+    let orbit = c .before .before .before .before in
+    let k = sunk _ _ _ _ (orbit .orbit-at .ensures) (c .before .before .o2 .given .1) in
+    (search needs, omega (arith, k, orbit .before .before .before .before .loop .inv .2))
+
+sub-a : tie.Need-sub-a Inv-loop μ-loop
+sub-a c =
+    let known = c .before .before .before .before in
+    omega (arith, sunk _ _ _ _ (known .before .before .orbit-at .ensures) (known .o2 .given .1))
 
 loop-again : tie.Need-loop-again Inv-loop μ-loop
 loop-again c =
-    let orbit = c .before .before .before .before .before in
+    let known = c .before .before .before .before in
+    let orbit = known .before .before in
     let density = orbit .before .before in
     let test = density .before in
     let at = test .before .loop in
@@ -64,14 +61,13 @@ loop-again c =
     let D = stationDensity (A .whole .now) (A .numbers .now) in
     let s = toZ-ofZ {w = w32} {z = getD S (at .i) (pos 0)} (search needs) in
     let p = orbit-told D (at .a) (orbit .orbit-at .result) _ _ _ (orbit .orbit-at .ensures) (density .density .ensures) s in
-    let left = c .before .before .before .if1 .left in
-    let k = sunk D (A .start) S (A .losses .now) (at .a) (at .i) (at .losses) (at .inv .4) (test .loop-test .taken) (orbit .orbit-at .result) p left in (
+    let k = sunk _ _ _ _ (orbit .orbit-at .ensures) (known .o2 .given .1) in (
       search needs,
-      k .1,
-      omega (arith, k .0, at .inv .2),
+      omega (arith, k),
+      omega (arith, at .inv .2),
       search needs,
       rw (c .before .put-loss .ensures)
-          (flies D (A .start) S (A .losses .now) (at .a) (at .i) (at .losses) (at .inv .4) (test .loop-test .taken) (orbit .orbit-at .result) p left (start .pre .2)),
+          (flies D (A .start) S (A .losses .now) (at .a) (at .i) (at .losses) (at .inv .4) (test .loop-test .taken) (orbit .orbit-at .result) p _ (known .o2 .given .1) (start .pre .2)),
     )
 
 returns-2 : tie.Need-returns-2 Inv-loop μ-loop
@@ -82,5 +78,5 @@ returns-2 c =
 pub orbits-spec : {M : Type 1} → statement M
 orbits-spec =
     tie.close
-    (tie.spec Inv-loop μ-loop loop-holds (λ c κs. search needs) (λ c. search needs) (λ c. search needs) (λ c κs. search needs) (λ c. search needs)
-    returns put-loss-requires (λ c. search needs) (λ c. search needs) loop-again (λ c. search needs) returns-2)
+    (tie.spec Inv-loop μ-loop loop-holds (λ c κs. search needs) (λ c. search needs) (λ c. search needs) (λ c κs. search needs)
+    (λ c. search needs) (λ c. search needs) returns (λ c. search needs) put-loss-requires sub-a (λ c. search needs) (λ c. search needs) loop-again (λ c. search needs) returns-2)

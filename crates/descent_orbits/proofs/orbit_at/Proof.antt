@@ -10,35 +10,28 @@ use Rattle.descent_orbits.proofs.orbit_at.Tie as tie
 
 returns : tie.Need-returns
 returns c =
-    let test = c .before in
-    let A = test .before .before .before .args in
+    let A = c .before .before .before .args in
     let s = toZ-ofZ {w = w32} {z = A .s} (search needs) in
-    thin (A .a) _ _ (test .before .before .product .ensures ∙ ap (densityBySetting (A .d)) s) _ (test .before .no-density .ensures) _ (test .if1 .taken)
-    (c .after .ensures)
+    thin (A .a) _ _ (c .before .before .product .ensures ∙ ap (densityBySetting (A .d)) s) _ (c .before .no-density .ensures) (c .if1 .taken)
 
 whole-part-requires : tie.Need-whole-part-requires
 whole-part-requires c κs = sym (c .before .no-density .ensures) ∙ c .if1 .left
 
 returns-2 : tie.Need-returns-2
 returns-2 c =
-    let low = c .before in
-    let test = low .before .before in
+    let test = c .before .before in
     let A = test .before .before .before .args in
     let s = toZ-ofZ {w = w32} {z = A .s} (search needs) in
-    arrives (A .a) _ _ (test .before .before .product .ensures ∙ ap (densityBySetting (A .d)) s) _ (test .before .no-density .ensures) _ (test .if1 .left) _
-    (low .before .whole-part .ensures .0) (low .if2 .taken) (c .after2 .ensures)
+    arrives (A .a) _ _ (test .before .before .product .ensures ∙ ap (densityBySetting (A .d)) s) _ (test .before .no-density .ensures) (test .if1 .left) _
+    (c .before .whole-part .ensures .0) (c .if2 .taken)
 
 returns-3 : tie.Need-returns-3
 returns-3 c =
-    let low = c .before in
-    let test = low .before .before in
+    let test = c .before .before in
     let A = test .before .before .before .args in
     let s = toZ-ofZ {w = w32} {z = A .s} (search needs) in
-    sinks (A .a) _ _ (test .before .before .product .ensures ∙ ap (densityBySetting (A .d)) s) _ (test .before .no-density .ensures) _ (test .if1 .left) _
-    (low .before .whole-part .ensures .0) (low .if2 .left) (c .after3 .ensures)
+    sinks (A .a) _ _ (test .before .before .product .ensures ∙ ap (densityBySetting (A .d)) s) _ (test .before .no-density .ensures) (test .if1 .left) _
+    (c .before .whole-part .ensures .0) (c .if2 .left)
 
 pub orbit-at-spec : {M : Type 1} → statement M
-orbit-at-spec =
-    tie.close
-    (tie.spec (λ c κs. search needs) (λ c κs. search needs) (λ c κs. search needs) returns whole-part-requires (λ c. search needs) (λ c κs. search needs)
-    returns-2 (λ c κs. search needs) returns-3)
+orbit-at-spec = tie.close (tie.spec (λ c κs. search needs) (λ c κs. search needs) returns whole-part-requires (λ c. search needs) returns-2 returns-3)

@@ -1,6 +1,7 @@
 -- `put_end` meets its contract.
+use mathlib.Core.Path.{_∙_}
 use mir.Syntax.{w64}
-use mir.Facts.{toZ-pos}
+use mir.Facts.{toZ-pos, toZ-ofZ}
 use native.Mathlib.Omega.{arith}
 use Rattle.descent_orbits.proofs.Laws.{put-down}
 use borrow.Author.Needs.{needs}
@@ -9,10 +10,9 @@ use Rattle.descent_orbits.proofs.put_end.Tie as tie
 
 returns : tie.Need-returns
 returns c =
-    let start = c .before .before .before in
-    let e = start .args .e in
-    put-down (start .args .end .now) e _ _ _ (start .pre .0) (toZ-pos w64 {n = e .ending} (omega (arith, start .pre .1)))
-    (toZ-pos w64 {n = e .last} (omega (arith, start .pre .2))) (toZ-pos w64 {n = e .taken} (omega (arith, start .pre .3)))
+    let A = c .before .args in
+    put-down (A .end .now) (A .e) (A .last) (A .taken) _ _ _ (c .before .pre .0) (toZ-ofZ (search needs) ∙ c .ending-number .ensures)
+    (toZ-pos w64 {n = A .last} (omega (arith, c .before .pre .1))) (toZ-pos w64 {n = A .taken} (omega (arith, c .before .pre .2)))
 
 pub put-end-spec : {M : Type 1} → statement M
 put-end-spec =

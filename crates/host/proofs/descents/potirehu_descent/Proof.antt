@@ -3,9 +3,12 @@ use mathlib.Core.Path.{refl, sym, _∙_}
 use borrow.Author.Needs.{needs}
 use borrow.Author.Tests.{not-true, not-false}
 use mir.Facts.{toZ-ofZ}
+use lib.ListN.{length}
 use Rattle.acceptance.specs.declared.Answer.the-variants.{Refused}
-use Rattle.host_record.proofs.SliceLaws.{stopped, fields-fit, switches-fit, passed, dated}
-use Rattle.host.proofs.DescentLaws.{answer, descent-refused, no-end, an-end, descended}
+use Rattle.descent.proofs.Laws.{end-fits}
+use Rattle.host_record.proofs.SliceLaws.{fields-fit, switches-fit, dated}
+use Rattle.host.proofs.Laws.{wrong-length, right-length}
+use Rattle.host.proofs.DescentLaws.{not-flown, flown}
 use Rattle.host.proofs.descents.potirehu_descent.Statement.{statement}
 use Rattle.host.proofs.descents.potirehu_descent.Tie as tie
 
@@ -13,14 +16,8 @@ returns : tie.Need-returns
 returns c =
     let test = c .before in
     let A = test .before .before .before .args in
-    let F = A .fields .now in
-    let L = A .ap-array .now in
-    let W = A .switches .now in
-    let S = A .settings .now in
-    let X = A .losses .now in
-    let Y = A .end .now in
-    descent-refused (A .year) (A .doy) F L W (A .start) S X Y (Refused 4 3) _ (no-end (A .year) (A .doy) F L W (A .start) S X Y (test .if1 .taken)) refl
-    (c .code .ensures)
+    not-flown (A .year) (A .doy) (A .fields .now) (A .ap-array .now) (A .switches .now) (A .start) (A .settings .now) (A .losses .now) (A .end .now) (Refused 4 3)
+    (wrong-length 3 (A .fields .now) (A .ap-array .now) (A .switches .now) (length (A .end .now)) (test .if1 .taken)) _ refl (c .code .ensures)
 
 returns-2 : tie.Need-returns-2
 returns-2 c =
@@ -28,16 +25,9 @@ returns-2 c =
     let lengths = accepted .before in
     let test = lengths .before in
     let A = test .before .before .before .args in
-    let F = A .fields .now in
-    let L = A .ap-array .now in
-    let W = A .switches .now in
-    let S = A .settings .now in
-    let X = A .losses .now in
-    let Y = A .end .now in
-    let t = sym (accepted .accepted .ensures) ∙ not-true _ (c .before .if2 .taken) in
-    descent-refused (A .year) (A .doy) F L W (A .start) S X Y (lengths .lengths .result) _
-    (an-end (A .year) (A .doy) F L W (A .start) S X Y (test .if1 .left)
-    ∙ stopped F L W (lengths .lengths .result) (lengths .lengths .ensures) t (answer (A .year) (A .doy) F L W (A .start) S X Y)) t (c .code2 .ensures)
+    not-flown (A .year) (A .doy) (A .fields .now) (A .ap-array .now) (A .switches .now) (A .start) (A .settings .now) (A .losses .now) (A .end .now) (lengths .lengths .result)
+    (right-length 3 (A .fields .now) (A .ap-array .now) (A .switches .now) (length (A .end .now)) (test .if1 .left) (lengths .lengths .result) (lengths .lengths .ensures)) _
+    (sym (accepted .accepted .ensures) ∙ not-true _ (c .before .if2 .taken)) (c .code2 .ensures)
 
 switch-row-requires : tie.Need-switch-row-requires
 switch-row-requires c κs =
@@ -50,10 +40,17 @@ record-of-requires c κs =
     let lengths = accepted .before in
     fields-fit _ _ _ (lengths .lengths .result) (lengths .lengths .ensures) (sym (accepted .accepted .ensures) ∙ not-false _ (c .before .if2 .left))
 
+put-descended-requires : tie.Need-put-descended-requires
+put-descended-requires c κs =
+    let descent = c .before .before in
+    let test = descent .before .before .before .before .before .before .before in
+    (test .if1 .left, (λ e last count h. end-fits _ _ _ _ _ e last count (sym (descent .descent .ensures .0) ∙ h)))
+
 returns-3 : tie.Need-returns-3
 returns-3 c =
-    let descent = c .before .before .before in
-    let rec = descent .before .before .before in
+    let put = c .before in
+    let descent = put .before .before .before in
+    let rec = descent .before .before in
     let row = rec .before in
     let passes = row .before in
     let accepted = passes .before in
@@ -61,22 +58,15 @@ returns-3 c =
     let test = lengths .before in
     let start = test .before .before .before in
     let A = start .args in
-    let F = A .fields .now in
-    let L = A .ap-array .now in
-    let W = A .switches .now in
-    let S = A .settings .now in
-    let X = A .losses .now in
-    let Y = A .end .now in
-    let t = sym (accepted .accepted .ensures) ∙ not-false _ (passes .if2 .left) in
-    descended (A .year) (A .doy) F L W (A .start) S X Y _ (descent .descent .result) (rec .record-of .result) (row .switch-row .result) _ _ _ (c .code3 .ensures)
-    (descent .descent .ensures .0) (descent .descent .ensures .1) (descent .descent .ensures .2)
-    (dated F L (rec .record-of .result) _ _ (A .year) (A .doy) (rec .record-of .ensures) (toZ-ofZ (start .fits .year)) (toZ-ofZ (start .fits .doy)))
+    flown (A .year) (A .doy) (A .fields .now) (A .ap-array .now) (A .switches .now) (A .start) (A .settings .now) (A .losses .now) (A .end .now) (lengths .lengths .result)
+    (right-length 3 (A .fields .now) (A .ap-array .now) (A .switches .now) (length (A .end .now)) (test .if1 .left) (lengths .lengths .result) (lengths .lengths .ensures)) _
+    (descent .descent .result) (rec .record-of .result) (row .switch-row .result) _ _ _ (sym (accepted .accepted .ensures) ∙ not-false _ (passes .if2 .left))
+    (put .put-descended .ensures .0) (put .put-descended .ensures .1) (descent .descent .ensures .0) (descent .descent .ensures .1)
+    (dated (A .fields .now) (A .ap-array .now) (rec .record-of .result) _ _ (A .year) (A .doy) (rec .record-of .ensures) (toZ-ofZ (start .fits .year)) (toZ-ofZ (start .fits .doy)))
     (row .switch-row .ensures) (toZ-ofZ (start .fits .start))
-    (an-end (A .year) (A .doy) F L W (A .start) S X Y (test .if1 .left)
-    ∙ passed F L W (lengths .lengths .result) (lengths .lengths .ensures) t (answer (A .year) (A .doy) F L W (A .start) S X Y))
 
 pub potirehu-descent-spec : {M : Type 1} → statement M
 potirehu-descent-spec =
     tie.close
     (tie.spec (λ c κs. search needs) returns (λ c κs. search needs) (λ c κs. search needs) (λ c κs. search needs) returns-2 switch-row-requires
-    record-of-requires (λ c κs. search needs) (λ c κs. search needs) (λ c. search needs) (λ c. search needs) returns-3)
+    record-of-requires (λ c κs. search needs) put-descended-requires (λ c. search needs) (λ c. search needs) returns-3)

@@ -6,7 +6,8 @@ use mir.Facts.{toZ-ofZ}
 use lib.ListN.{length}
 use Rattle.acceptance.specs.declared.Answer.the-variants.{Refused}
 use Rattle.host_record.proofs.SliceLaws.{fields-fit, switches-fit, dated}
-use Rattle.host.proofs.FirstLaws.{no-row, a-row, not-asked, asked}
+use Rattle.host.proofs.Laws.{wrong-length, right-length}
+use Rattle.host.proofs.FirstLaws.{not-asked, asked}
 use Rattle.host.proofs.thin.potirehu_first_below.Statement.{statement}
 use Rattle.host.proofs.thin.potirehu_first_below.Tie as tie
 
@@ -14,7 +15,7 @@ returns : tie.Need-returns
 returns c =
     let A = c .before .before .before .before .before .before .args in
     not-asked (A .year) (A .doy) (A .fields .now) (A .ap-array .now) (A .switches .now) (A .altitudes .now) (A .level) (A .row .now) (Refused 4 11)
-    (no-row (A .fields .now) (A .ap-array .now) (A .switches .now) (length (A .row .now)) (c .before .if1 .taken)) _ refl (c .code .ensures)
+    (wrong-length 11 (A .fields .now) (A .ap-array .now) (A .switches .now) (length (A .row .now)) (c .before .if1 .taken)) _ refl (c .code .ensures)
 
 returns-2 : tie.Need-returns-2
 returns-2 c =
@@ -22,7 +23,7 @@ returns-2 c =
     let k = at .before .lengths in
     let A = at .before .before .before .before .before .before .before .args in
     not-asked (A .year) (A .doy) (A .fields .now) (A .ap-array .now) (A .switches .now) (A .altitudes .now) (A .level) (A .row .now) (k .result)
-    (a-row (A .fields .now) (A .ap-array .now) (A .switches .now) (length (A .row .now)) (at .before .before .if1 .left) (k .result) (k .ensures)) _
+    (right-length 11 (A .fields .now) (A .ap-array .now) (A .switches .now) (length (A .row .now)) (at .before .before .if1 .left) (k .result) (k .ensures)) _
     (sym (at .accepted .ensures) ∙ not-true _ (c .before .if2 .taken)) (c .code2 .ensures)
 
 switch-row-requires : tie.Need-switch-row-requires
@@ -45,7 +46,7 @@ returns-3 c =
     let start = else2 .before .before .before .before .before .before .before .before in
     let A = start .args in
     asked (A .year) (A .doy) (A .fields .now) (A .ap-array .now) (A .switches .now) (A .altitudes .now) (A .level) (A .row .now) (k .result)
-    (a-row (A .fields .now) (A .ap-array .now) (A .switches .now) (length (A .row .now)) (else2 .before .before .before .if1 .left) (k .result) (k .ensures)) _
+    (right-length 11 (A .fields .now) (A .ap-array .now) (A .switches .now) (length (A .row .now)) (else2 .before .before .before .if1 .left) (k .result) (k .ensures)) _
     (g .result) (n .result) (w .result) _ (sym (else2 .before .accepted .ensures) ∙ not-false _ (else2 .if2 .left)) (c .first-code .ensures) (g .ensures .0) (g .ensures .1)
     (dated (A .fields .now) (A .ap-array .now) (n .result) _ _ (A .year) (A .doy) (n .ensures) (toZ-ofZ (start .fits .year)) (toZ-ofZ (start .fits .doy)))
     (w .ensures)
