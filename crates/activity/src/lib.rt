@@ -8,7 +8,7 @@ use elementary::root::sqrt;
 use numbers::pick;
 
 // g0 of the Rust, with r the root of p[24] squared.
-pub fn g0(r: f64, p25: f64, a: f64) -> f64
+fn g0(r: f64, p25: f64, a: f64) -> f64
     ensures { λ v. ⌜ v ≡ g0Of r p25 a ⌝ }
 {
     let e = exp(-r * (a - 4.0));
@@ -16,7 +16,7 @@ pub fn g0(r: f64, p25: f64, a: f64) -> f64
 }
 
 // sumex.
-pub fn sumex(ex: f64) -> f64
+fn sumex(ex: f64) -> f64
     ensures { λ r. ⌜ r ≡ sumexOf ex ⌝ }
 {
     let a = pow(ex, 19.0);
@@ -77,7 +77,7 @@ pub fn responses_to(p24: f64, p25: f64, ap: [f64; 7]) -> Responses
 }
 
 // sg0 of responses.
-pub fn sg0(ex: f64, g: Responses) -> f64
+fn sg0(ex: f64, g: Responses) -> f64
     ensures { λ v. ⌜ v ≡ sg0From ex g ⌝ }
 {
     let e3 = pow(ex, 3.0);

@@ -9,7 +9,7 @@ use Rattle.mixing.specs.Limits.{mixedAt}
 use Rattle.mixing.specs.declared.limits.Mixed.{Mixed}
 use Rattle.profile.specs.declared.unchecked.Shape.{Shape}
 use Rattle.profile.specs.declared.unchecked.Profile.{Profile}
-use Rattle.profile.specs.Profile.{densityIn, temperatureIn}
+use Rattle.profile.specs.Profile.{returnedNumber, temperatureIn}
 use Rattle.layers.specs.Layers.{downOf}
 use Rattle.plan.specs.declared.ExpansionValues.{ExpansionValues}
 use Rattle.plan.specs.Plan.{told, answerTo}
@@ -75,7 +75,7 @@ pub row-law : (sw0 : Float) (f : Footing) (alt : Float) (all g ar o2 he t1 n : F
     → o2 ≡ fullOf (n ⊗ (1·0 ⊕ (f .n2 ⊘ f .dm28m ⊖ 1·0) ⊗ c)) (m3 ‼ 1) (f .o2) (f .n2) c
     → he ≡ fullOf (n ⊗ (1·0 ⊕ (f .n2 ⊘ f .dm28m ⊖ 1·0) ⊗ c)) (m0 ‼ 1) (f .he) (f .n2) c
     → t1 ≡ temperatureIn a
-    → n ≡ densityIn a
+    → n ≡ returnedNumber a
     → a ≡ reachedOf (f .x) (f .dm28m) (f .meso) (f .curves) alt
     → c ≡ dmcOf alt
     → m4 ≡ pdmT4

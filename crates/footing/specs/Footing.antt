@@ -7,7 +7,7 @@ use Rattle.numbers.specs.Literals.{0·0, 1·0, 32·5, 72·5, 1·0E6}
 use Rattle.mixing.specs.Limits.{mixedAt}
 use Rattle.mixing.specs.declared.limits.Mixed.{Mixed}
 use Rattle.profile.specs.Curve.{layerOf}
-use Rattle.profile.specs.Profile.{loweredOf, densityIn, temperatureIn}
+use Rattle.profile.specs.Profile.{loweredOf, returnedNumber, temperatureIn}
 use Rattle.profile.specs.declared.unchecked.Profile.{Profile}
 use Rattle.profile.specs.declared.unchecked.Shape.{Shape}
 use Rattle.layers.specs.Layers.{spanOf, blankOf, downOf}
@@ -89,7 +89,7 @@ unfoldable pub rowBelowOf : Float → Footing → Float → List Float
 rowBelowOf sw0 f alt =
     let c = dmcOf alt in
     let a = reachedOf (f .x) (f .dm28m) (f .meso) (f .curves) alt in
-    let d2 = densityIn a ⊗ (1·0 ⊕ (f .n2 ⊘ f .dm28m ⊖ 1·0) ⊗ c) in
+    let d2 = returnedNumber a ⊗ (1·0 ⊕ (f .n2 ⊘ f .dm28m ⊖ 1·0) ⊗ c) in
     let he = fullOf d2 (pdmT0 ‼ 1) (f .he) (f .n2) c in
     let o2 = fullOf d2 (pdmT3 ‼ 1) (f .o2) (f .n2) c in
     let ar = fullOf d2 (pdmT4 ‼ 1) (f .ar) (f .n2) c in

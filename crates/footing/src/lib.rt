@@ -33,8 +33,8 @@ use places::thinning::Thinning;
 use plan::ExpansionValues;
 use profile::unchecked::Profile;
 use profile::unchecked::Shape;
-use profile::unchecked::density_in;
 use profile::unchecked::lowered;
+use profile::unchecked::returned_number;
 use profile::unchecked::temperature_in;
 use species::Blend;
 use species::Mixture;
@@ -234,7 +234,7 @@ pub fn row_below(sw0: f64, f: Footing, alt: f64) -> [f64; 11]
     let m = f.meso;
     let k = f.curves;
     let a = reached(x, f.dm28m, m, k, alt);
-    let n = density_in(a);
+    let n = returned_number(a);
     let t1 = temperature_in(a);
     let d2 = n * (1.0 + (f.n2 / f.dm28m - 1.0) * c);
     let he = full(d2, m0[1], f.he, f.n2, c);

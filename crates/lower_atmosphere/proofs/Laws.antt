@@ -8,7 +8,7 @@ use Rattle.numbers.specs.Literals.{0·0, 1·0, 2·0, 32·5}
 use Rattle.elementary.specs.Pow.{powOf}
 use Rattle.profile.specs.declared.unchecked.Profile.{Profile}
 use Rattle.profile.specs.declared.unchecked.Shape.{Shape}
-use Rattle.profile.specs.Profile.{densityIn, temperatureIn}
+use Rattle.profile.specs.Profile.{returnedNumber, temperatureIn}
 use Rattle.plan.specs.declared.ExpansionValues.{ExpansionValues}
 use Rattle.plan.specs.Plan.{_>>=_, told, answerTo}
 use Rattle.tables.specs.Tables.{pavgmT, pdmT0, pdmT3, pdmT4, pmaT0, pmaT1, pmaT2, pmaT3, pmaT4, pmaT5, pmaT6, pmaT7, pmaT9}
@@ -58,7 +58,7 @@ lower-below sw alt m l x k p7 p6 p5 p4 p3 q e0 e1 e2 e3 e4 e5 e6 e7 e8 = simp (e
 pub below-law : (sw0 : Float) (x : Site) (alt : Float) (u : Gts7Output) (w : Nodes)
     (t1 dd : Float) (b : Profile) (tz all g ar o2 he n : Float) (a : Profile) (d c : Float) (m4 m3 m0 : List Float)
     → t1 ≡ temperatureIn b
-    → dd ≡ densityIn b
+    → dd ≡ returnedNumber b
     → b ≡ lowerTemperature x alt tz w
     → tz ≡ temperatureIn a
     → all ≡ kilogramsOf sw0 g
@@ -66,7 +66,7 @@ pub below-law : (sw0 : Float) (x : Site) (alt : Float) (u : Gts7Output) (w : Nod
     → ar ≡ fullOf (n ⊗ (1·0 ⊕ (u .d ‼ 2 ⊘ d ⊖ 1·0) ⊗ c)) (m4 ‼ 1) (u .d ‼ 4) (u .d ‼ 2) c
     → o2 ≡ fullOf (n ⊗ (1·0 ⊕ (u .d ‼ 2 ⊘ d ⊖ 1·0) ⊗ c)) (m3 ‼ 1) (u .d ‼ 3) (u .d ‼ 2) c
     → he ≡ fullOf (n ⊗ (1·0 ⊕ (u .d ‼ 2 ⊘ d ⊖ 1·0) ⊗ c)) (m0 ‼ 1) (u .d ‼ 0) (u .d ‼ 2) c
-    → n ≡ densityIn a
+    → n ≡ returnedNumber a
     → a ≡ lowerN2 x alt d w
     → d ≡ dm28mOf sw0 (u .base .dm)
     → c ≡ dmcOf alt

@@ -7,7 +7,7 @@ use Rattle.numbers.specs.Literals.{0·0, 1·0, 2·0, 10·0, 15·0, 20·0, 32·5
 use Rattle.elementary.specs.Pow.{powOf}
 use Rattle.profile.specs.declared.unchecked.Profile.{Profile}
 use Rattle.profile.specs.declared.unchecked.Shape.{Shape}
-use Rattle.profile.specs.Profile.{densmOf, densityIn, temperatureIn}
+use Rattle.profile.specs.Profile.{densmOf, returnedNumber, temperatureIn}
 use Rattle.plan.specs.Fields.{setTn2, setTn3, setTop3}
 use Rattle.plan.specs.Plan.{Plan, done, ask, keep, get, either, _>>=_, _>>_, one-plus-glob7s, one-minus-glob7s}
 use Rattle.tables.specs.Names.{PMA0, PMA1, PMA2, PMA3, PMA4, PMA5, PMA6, PMA7, PMA9}
@@ -121,7 +121,7 @@ gtd7Below sw0 x alt u w =
     let c = dmcOf alt in
     let d = dm28mOf sw0 (u .base .dm) in
     let a = lowerN2 x alt d w in
-    let d2 = densityIn a ⊗ (1·0 ⊕ (u .d ‼ 2 ⊘ d ⊖ 1·0) ⊗ c) in
+    let d2 = returnedNumber a ⊗ (1·0 ⊕ (u .d ‼ 2 ⊘ d ⊖ 1·0) ⊗ c) in
     let he = fullOf d2 (pdmT0 ‼ 1) (u .d ‼ 0) (u .d ‼ 2) c in
     let o2 = fullOf d2 (pdmT3 ‼ 1) (u .d ‼ 3) (u .d ‼ 2) c in
     let ar = fullOf d2 (pdmT4 ‼ 1) (u .d ‼ 4) (u .d ‼ 2) c in
@@ -129,7 +129,7 @@ gtd7Below sw0 x alt u w =
     let b = lowerTemperature x alt (temperatureIn a) w in
     record {
       row = he ∷ 0·0 ∷ d2 ∷ o2 ∷ ar ∷ all ∷ 0·0 ∷ 0·0 ∷ 0·0 ∷ u .shape .tinf ∷ temperatureIn b ∷ [];
-      dd = densityIn b;
+      dd = returnedNumber b;
     }
 
 -- at or above 72.5 km: gts7's numbers

@@ -10,8 +10,8 @@ use numbers::pick;
 use plan::ExpansionValues;
 use profile::unchecked::Profile;
 use profile::unchecked::Shape;
-use profile::unchecked::density_in;
 use profile::unchecked::densm54;
+use profile::unchecked::returned_number;
 use profile::unchecked::temperature_in;
 use tables::pavgm;
 use tables::pdm0;
@@ -269,7 +269,7 @@ pub fn below(sw0: f64, x: Site, alt: f64, u: Gts7Output, w: Nodes) -> Gtd7Output
     let c = dmc(alt);
     let d = dm28m(sw0, y.dm);
     let a = n2(x, alt, d, w);
-    let n = density_in(a);
+    let n = returned_number(a);
     let d2 = n * (1.0 + (u.d[2] / d - 1.0) * c);
     let he = full(d2, m0[1], u.d[0], u.d[2], c);
     let o2 = full(d2, m3[1], u.d[3], u.d[2], c);
@@ -278,7 +278,7 @@ pub fn below(sw0: f64, x: Site, alt: f64, u: Gts7Output, w: Nodes) -> Gtd7Output
     let all = kilograms(sw0, g);
     let tz = temperature_in(a);
     let b = lower_temperature(x, alt, tz, w);
-    let dd = density_in(b);
+    let dd = returned_number(b);
     let t1 = temperature_in(b);
     Gtd7Output {
         row: [he, 0.0, d2, o2, ar, all, 0.0, 0.0, 0.0, h.tinf, t1],

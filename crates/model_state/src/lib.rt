@@ -224,7 +224,7 @@ pub fn gather_step(
     }
 }
 
-pub fn gts7(sw: [f64; 24], x: Site, z: f64, l: ExpansionValues, s: State) -> UpperLeft
+fn gts7(sw: [f64; 24], x: Site, z: f64, l: ExpansionValues, s: State) -> UpperLeft
     ensures { λ r. ⌜ stepped (answerTo l) (gts7Plan sw x z) s ≡ ends (r .value) (r .state) ⌝ }
 {
     let hs = shape_step(sw, x, z, l, s);

@@ -9,7 +9,7 @@ use Rattle.numbers.specs.Literals.{0·0}
 use Rattle.spline_calls.specs.Outcome.{Outcome, gives, refused}
 use Rattle.spline_calls.specs.declared.SplineValue.{SplineValue}
 use Rattle.spline_calls.specs.declared.SplineValue.the-variants as value
-use Rattle.profile.specs.Profile.{densityIn, temperatureIn}
+use Rattle.profile.specs.Profile.{returnedNumber, temperatureIn}
 use Rattle.profile.specs.declared.unchecked.Profile.{Profile}
 use Rattle.profile_calls.specs.declared.ProfileCall.{ProfileCall}
 use Rattle.profile_calls.specs.declared.ProfileCall.the-variants as profile
@@ -36,7 +36,7 @@ oneNumber (gives x) = gives (x ∷ [])
 oneNumber (refused number place) = refused number place
 
 unfoldable pub twoNumbers : Outcome Profile → Outcome (List Float)
-twoNumbers (gives p) = gives (densityIn p ∷ temperatureIn p ∷ [])
+twoNumbers (gives p) = gives (returnedNumber p ∷ temperatureIn p ∷ [])
 twoNumbers (refused number place) = refused number place
 
 -- 4 and the length needed where the slice for the values has not k numbers; then the rest
@@ -55,7 +55,7 @@ valueIn (value.NodeCount place) = 0·0
 valueIn (value.SliceLength place) = 0·0
 
 abbrev pub returnedIn : ProfileCall → Float
-returnedIn (profile.Answer p) = densityIn p
+returnedIn (profile.Answer p) = returnedNumber p
 returnedIn (profile.NodeCount place) = 0·0
 returnedIn (profile.SliceLength place) = 0·0
 

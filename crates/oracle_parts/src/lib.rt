@@ -12,9 +12,8 @@ ghost use Rattle.elementary.specs.Pow.{powOf};
 ghost use Rattle.mixing.specs.Mixing.{ccorOf, ccor2Of, dnetOf};
 ghost use Rattle.spline_calls.specs.Outcome.{after};
 ghost use Rattle.spline_calls.specs.Calls.{valueOutcome, writeOutcome, spliniCall, splintCall, splineCall};
-ghost use Rattle.numbers.specs.Constants.{rgas};
-ghost use Rattle.profile.specs.Gravity.{glatfOf, zetaOf, scalhOf};
-ghost use Rattle.profile_calls.specs.Calls.{profileOutcome, densmCall, densuCall, densuTn1, densuTgn1};
+ghost use Rattle.profile.specs.Gravity.{glatfOf, zetaOf};
+ghost use Rattle.profile_calls.specs.Calls.{profileOutcome, scalhCall, densmCall, densuCall, densuTn1, densuTgn1};
 ghost use Rattle.oracle_parts.specs.OracleParts.{refusalOf, outcomePlace, outcomePacked, outcomeCode, valueIn, returnedIn, writtenIn, oneNumber, twoNumbers, lent, keptUnlessLong};
 use elementary::exponential::exp;
 use elementary::logarithm::log;
@@ -25,15 +24,14 @@ use elementary::trigonometry::sin;
 use mixing::ccor;
 use mixing::ccor2;
 use mixing::dnet;
-use numbers::RGAS;
 use profile::gravity::glatf;
-use profile::gravity::scalh;
 use profile::gravity::zeta;
-use profile::unchecked::density_in;
+use profile::unchecked::returned_number;
 use profile::unchecked::temperature_in;
 use profile_calls::ProfileCall;
 use profile_calls::densm;
 use profile_calls::densu;
+use profile_calls::scalh;
 use spline_calls::SplineValue;
 use spline_calls::SplineWrite;
 use spline_calls::spline;
@@ -126,7 +124,7 @@ fn returned(a: ProfileCall) -> f64
     ensures { λ r. ⌜ r ≡ returnedIn a ⌝ }
 {
     match a {
-        ProfileCall::Answer(p) => density_in(p),
+        ProfileCall::Answer(p) => returned_number(p),
         ProfileCall::NodeCount(_) => 0.0,
         ProfileCall::SliceLength(_) => 0.0,
     }
@@ -223,9 +221,9 @@ pub extern "C" fn parts_zeta(re: f64, zz: f64, zl: f64) -> f64
 // scalh.
 #[no_mangle]
 pub extern "C" fn parts_scalh(gsurf: f64, re: f64, alt: f64, xm: f64, temp: f64) -> f64
-    ensures { λ v. ⌜ v ≡ scalhOf rgas gsurf re alt xm temp ⌝ }
+    ensures { λ v. ⌜ v ≡ scalhCall gsurf re alt xm temp ⌝ }
 {
-    scalh(RGAS, gsurf, re, alt, xm, temp)
+    scalh(gsurf, re, alt, xm, temp)
 }
 
 // splini; out gets the value.

@@ -9,7 +9,7 @@ use Rattle.elementary.specs.Exp.{expOf}
 use Rattle.elementary.specs.Log.{logOf}
 use Rattle.elementary.specs.Pow.{powOf}
 use Rattle.profile.specs.Curve.{cappedOf}
-use Rattle.profile.specs.Profile.{densaOf, densuAbove, densu5Of, densityIn, temperatureIn}
+use Rattle.profile.specs.Profile.{densaOf, densuAbove, densu5Of, returnedNumber, temperatureIn}
 use Rattle.profile.specs.Point.{onCurve, offCurve, pointOf, densuAt, densu-at}
 use Rattle.places.specs.Place.{placeOn, placeOf}
 use Rattle.profile.specs.declared.curve.Curve.{Curve}
@@ -45,9 +45,9 @@ pub logged : (h : Shape) (z zlb : Float) (zn : List Float) (w : Place) → w ≡
 unfolding placeOf placeOn
 logged h z zlb zn w e = subst Logged (sym e) (refl, refl)
 
-in-density : (b : Bool) (d t : Float) → densityIn (cond b (Temperature t) (Density d t)) ≡ cond b t d
-in-density true d t = refl
-in-density false d t = refl
+returned-either : (b : Bool) (d t : Float) → returnedNumber (cond b (Temperature t) (Density d t)) ≡ cond b t d
+returned-either true d t = refl
+returned-either false d t = refl
 
 three : (P : Point → Type 0) (b c : Bool) (x y w : Point) → P x → P y → P w → P (cond b x (cond c y w))
 three P true c x y w e f g = e
@@ -63,25 +63,25 @@ unfolding pointOf
 at-point h z zlb zn P on off = three P (lt z (zn ‼ 0)) (le (zn ‼ 0) z) _ _ _ (on _ _ _) (off _ _) (on _ _ _)
 
 on-curve : (h : Shape) (z zlb zg2 tt : Float) (l : Curve) (dlb xm alpha : Float)
-    → thinnedOf (thinningOf (placeOn h zlb (onCurve h z zg2 tt l)) xm alpha) dlb ≡ densityIn (densuAt h (onCurve h z zg2 tt l) dlb xm alpha zlb)
+    → thinnedOf (thinningOf (placeOn h zlb (onCurve h z zg2 tt l)) xm alpha) dlb ≡ returnedNumber (densuAt h (onCurve h z zg2 tt l) dlb xm alpha zlb)
 unfolding thinnedOf thinningOf placeOn onCurve densuAt densaOf
-on-curve h z zlb zg2 tt l dlb xm alpha = sym (in-density (eq xm 0·0) _ _)
+on-curve h z zlb zg2 tt l dlb xm alpha = sym (returned-either (eq xm 0·0) _ _)
 
 off-curve : (h : Shape) (z zlb zg2 tt : Float) (dlb xm alpha : Float)
-    → thinnedOf (thinningOf (placeOn h zlb (offCurve z zg2 tt)) xm alpha) dlb ≡ densityIn (densuAt h (offCurve z zg2 tt) dlb xm alpha zlb)
+    → thinnedOf (thinningOf (placeOn h zlb (offCurve z zg2 tt)) xm alpha) dlb ≡ returnedNumber (densuAt h (offCurve z zg2 tt) dlb xm alpha zlb)
 unfolding thinnedOf thinningOf placeOn offCurve densuAt densuAbove densaOf
-off-curve h z zlb zg2 tt dlb xm alpha = sym (in-density (eq xm 0·0) _ _)
+off-curve h z zlb zg2 tt dlb xm alpha = sym (returned-either (eq xm 0·0) _ _)
 
 -- A density thinned out to a place is densu's
 pub thinned-densu : (h : Shape) (z dlb xm alpha zlb : Float) (zn : List Float)
-    → thinnedOf (thinningOf (placeOf h z zlb zn) xm alpha) dlb ≡ densityIn (densu5Of h z dlb xm alpha zlb zn)
+    → thinnedOf (thinningOf (placeOf h z zlb zn) xm alpha) dlb ≡ returnedNumber (densu5Of h z dlb xm alpha zlb zn)
 unfolding placeOf
 thinned-densu h z dlb xm alpha zlb zn =
     at-point h z zlb zn
-    (λ (p : Point). thinnedOf (thinningOf (placeOn h zlb p) xm alpha) dlb ≡ densityIn (densuAt h p dlb xm alpha zlb))
+    (λ (p : Point). thinnedOf (thinningOf (placeOn h zlb p) xm alpha) dlb ≡ returnedNumber (densuAt h p dlb xm alpha zlb))
     (λ zg2 tt l. on-curve h z zlb zg2 tt l dlb xm alpha)
     (λ zg2 tt. off-curve h z zlb zg2 tt dlb xm alpha)
-    ∙ ap densityIn (densu-at h z dlb xm alpha zlb zn)
+    ∙ ap returnedNumber (densu-at h z dlb xm alpha zlb zn)
 
 warm-on : (h : Shape) (z zlb zg2 tt : Float) (l : Curve) → (placeOn h zlb (onCurve h z zg2 tt l)) .tz ≡ temperatureIn (densuAt h (onCurve h z zg2 tt l) 1·0 0·0 0·0 zlb)
 unfolding placeOn onCurve densuAt eq ofBits

@@ -104,9 +104,9 @@ densmOf rgas gsurf re alt d0 xm tz mn3 zn3 tn3 tgn3 mn2 zn2 tn2 tgn2 =
     profileAnswer xm (loweredOf rgas gsurf re xm d1 k mn3) (k .tz)))
 
 -- the number that the Rust returns, and the temperature that it writes
-abbrev pub densityIn : Profile → Float
-densityIn (Temperature t) = t
-densityIn (Density d t) = d
+abbrev pub returnedNumber : Profile → Float
+returnedNumber (Temperature t) = t
+returnedNumber (Density d t) = d
 
 abbrev pub temperatureIn : Profile → Float
 temperatureIn (Temperature t) = t

@@ -2,7 +2,7 @@
 ghost use mathlib.Core.Path.{_≡_};
 ghost use Prim.Native.Nat.{_≤_};
 ghost use lib.ListN.{length};
-ghost use Rattle.profile.specs.Profile.{batesOf, gradientOf, densaOf, densuAbove, densuBelow, densuOf, tn1Of, tgn1Of, densu5Of, loweredOf, profileAnswer, densmOf, densityIn, temperatureIn};
+ghost use Rattle.profile.specs.Profile.{batesOf, gradientOf, densaOf, densuAbove, densuBelow, densuOf, tn1Of, tgn1Of, loweredOf, profileAnswer, densmOf, returnedNumber, temperatureIn};
 use super::curve::Curve;
 use super::curve::capped;
 use super::curve::exponent;
@@ -200,70 +200,6 @@ pub fn densu(
     )
 }
 
-// densu over five nodes by value.
-pub fn densu_by_value(
-    rgas: f64,
-    gsurf: f64,
-    re: f64,
-    alt: f64,
-    dlb: f64,
-    tinf: f64,
-    tlb: f64,
-    xm: f64,
-    alpha: f64,
-    zlb: f64,
-    s2: f64,
-    zn1: [f64; 5],
-    tn1: [f64; 5],
-    tgn1: [f64; 2],
-) -> Profile
-    ensures { λ r. ⌜ r ≡ densuOf rgas gsurf re alt dlb tinf tlb xm alpha zlb s2 5 zn1 tn1 tgn1 ⌝ }
-{
-    let mut tn = tn1;
-    let mut tgn = tgn1;
-    densu(
-        rgas,
-        gsurf,
-        re,
-        alt,
-        dlb,
-        tinf,
-        tlb,
-        xm,
-        alpha,
-        zlb,
-        s2,
-        5,
-        &zn1,
-        &mut tn,
-        &mut tgn,
-    )
-}
-
-// The same with what a call of gts7 keeps from species to species.
-pub fn densu5(h: Shape, alt: f64, dlb: f64, xm: f64, alpha: f64, zlb: f64, zn: [f64; 5]) -> Profile
-    ensures { λ r. ⌜ r ≡ densu5Of h alt dlb xm alpha zlb zn ⌝ }
-{
-    let tn = h.tn;
-    let tgn = h.tgn;
-    densu_by_value(
-        h.rgas,
-        h.gsurf,
-        h.re,
-        alt,
-        dlb,
-        h.tinf,
-        h.tlb,
-        xm,
-        alpha,
-        zlb,
-        h.s,
-        zn,
-        tn,
-        tgn,
-    )
-}
-
 // The density d carried down a curve.
 pub fn lowered(rgas: f64, gsurf: f64, re: f64, xm: f64, d: f64, l: Curve, n: usize) -> f64
     requires { ⌜ (2 ≤ n) × (n ≤ 10) ⌝ }
@@ -361,8 +297,8 @@ pub fn densm54(
 }
 
 // The number that the Rust returns.
-pub fn density_in(a: Profile) -> f64
-    ensures { λ r. ⌜ r ≡ densityIn a ⌝ }
+pub fn returned_number(a: Profile) -> f64
+    ensures { λ r. ⌜ r ≡ returnedNumber a ⌝ }
 {
     match a {
         Profile::Temperature(t) => t,

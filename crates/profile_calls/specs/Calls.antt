@@ -1,4 +1,4 @@
--- What the public calls of densm and densu give: refusals 5 and 4 for a set of nodes, else the answer.
+-- What the public calls give: scalh its number; densm and densu refusals 5 and 4 for a set of nodes, else the answer.
 use Prim.Native.Nat.{ℕ}
 use mathlib.Core.Bool.{cond, _||_}
 use mathlib.Core.List.{List}
@@ -7,6 +7,7 @@ use lib.ListN.{length}
 use lib.Ieee.{Float}
 use Rattle.numbers.specs.Constants.{rgas}
 use Rattle.spline_calls.specs.Outcome.{Outcome, gives, refused, counted, after}
+use Rattle.profile.specs.Gravity.{scalhOf}
 use Rattle.profile.specs.Profile.{densmOf, densuOf, tn1Of, tgn1Of}
 use Rattle.profile.specs.declared.unchecked.Profile.{Profile}
 use Rattle.profile_calls.specs.declared.ProfileCall.{ProfileCall}
@@ -24,6 +25,10 @@ checked n top zn tn tgn rest =
     counted n top
     (cond (ltb (length zn) n || ltb (length tn) n) (refused 4 n)
     (cond (ltb (length tgn) 2) (refused 4 2) rest))
+
+-- scalh, with the gas constant of the Rust
+abbrev pub scalhCall : Float → Float → Float → Float → Float → Float
+scalhCall gsurf re alt xm temp = scalhOf rgas gsurf re alt xm temp
 
 -- densm, with the gas constant of the Rust
 unfoldable pub densmCall : Float → Float → Float → Float → Float → Float → ℕ → List Float → List Float → List Float → ℕ → List Float → List Float → List Float → Outcome Profile

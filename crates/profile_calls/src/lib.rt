@@ -1,6 +1,6 @@
-// The calls of densm and densu, with their refusals.
+// The calls of scalh, which is never refused, and of densm and densu, with their refusals.
 ghost use mathlib.Core.Path.{_≡_};
-ghost use Rattle.profile_calls.specs.Calls.{profileOutcome, densmCall, densuCall, densuTn1, densuTgn1};
+ghost use Rattle.profile_calls.specs.Calls.{profileOutcome, scalhCall, densmCall, densuCall, densuTn1, densuTgn1};
 use numbers::RGAS;
 use profile::unchecked::Profile;
 
@@ -9,6 +9,13 @@ pub enum ProfileCall {
     Answer(Profile),
     NodeCount(usize),
     SliceLength(usize),
+}
+
+// The scale height of a gas of mass xm.
+pub fn scalh(gsurf: f64, re: f64, alt: f64, xm: f64, temp: f64) -> f64
+    ensures { λ r. ⌜ r ≡ scalhCall gsurf re alt xm temp ⌝ }
+{
+    profile::gravity::scalh(RGAS, gsurf, re, alt, xm, temp)
 }
 
 // Temperature and density in the lower atmosphere; the nodes of set 2 are checked before those of set 3.

@@ -9,7 +9,7 @@ use Rattle.elementary.specs.Log.{logOf}
 use Rattle.elementary.specs.Root.{sqrtOf}
 use Rattle.mixing.specs.Mixing.{ccorOf, ccor2Of, dnetOf}
 use Rattle.profile.specs.Gravity.{scalhOf}
-use Rattle.profile.specs.Profile.{densu5Of, densityIn, temperatureIn}
+use Rattle.profile.specs.Profile.{densu5Of, returnedNumber, temperatureIn}
 use Rattle.profile.specs.declared.unchecked.Shape.{Shape}
 use Rattle.tables.specs.Tables.{ptmT, pdlT0, pdlT1, pdmT0, pdmT1, pdmT2, pdmT3, pdmT4, pdmT5, pdmT6}
 use Rattle.species.specs.declared.Blend.{Blend}
@@ -21,7 +21,7 @@ nodes = (pdlT1 ‼ 15) ∷ 110·0 ∷ 100·0 ∷ 90·0 ∷ 72·5 ∷ []
 
 -- densu over gts7's nodes: what it returns for a density dlb at the lower boundary
 unfoldable pub densityOf : Shape → Float → Float → Float → Float → Float
-densityOf h z dlb xm alpha = densityIn (densu5Of h z dlb xm alpha (ptmT ‼ 5) nodes)
+densityOf h z dlb xm alpha = returnedNumber (densu5Of h z dlb xm alpha (ptmT ‼ 5) nodes)
 
 -- densu over gts7's nodes: the temperature that it writes
 unfoldable pub temperatureOf : Shape → Float → Float
