@@ -1,7 +1,7 @@
 // The values of the expansions that gtd7 asks for from a fresh State, each worked out once.
 ghost use mathlib.Core.Path.{_≡_};
 ghost use Prim.Native.Nat.{_<_, _≤_};
-ghost use mathlib.Core.Bool.{cond};
+ghost use mathlib.Core.Bool.{true, cond};
 ghost use lib.ListN.{length};
 ghost use Rattle.numbers.specs.Literals.{0·0};
 ghost use Rattle.tables.specs.Tables.{ptT, pdT0, pdT1, pdT3, pdT7, pdT8};
@@ -225,6 +225,17 @@ pub fn put_globe7_set(k: usize, p: &mut [f64; 150])
     }
 }
 
+// The same where it is needed.
+pub fn put_needed_set(on: bool, k: usize, p: &mut [f64; 150])
+    requires { ⌜ (k < 11) × (length (now p) ≡ 150) ⌝ }
+    ensures { λ _. ⌜ (length (now (p .exit)) ≡ 150) × (on ≡ true → now (p .exit) ≡ globe7Set k) ⌝ }
+{
+    if !on {
+        return;
+    }
+    put_globe7_set(k, p);
+}
+
 // The activity of the set k: PD[0] and PD[1] have their own, every other set has PT's, which is a.
 pub fn globe7_activity(k: usize, v: View, a: Activity) -> Activity
     requires { ⌜ a ≡ activityIn v ptT ⌝ }
@@ -239,7 +250,7 @@ pub fn globe7_activity(k: usize, v: View, a: Activity) -> Activity
     a
 }
 
-// globe7 over the set k, which is p, where it is needed; c7 is what PD[7] leaves.
+// globe7 over the set k, which is p where it is needed, and 0 where not; c7 is what PD[7] leaves.
 pub fn globe7_at(
     on: bool,
     k: usize,
@@ -250,7 +261,7 @@ pub fn globe7_at(
     a: Activity,
     c7: Carried,
 ) -> f64
-    requires { ⌜ (length (now p) ≡ 150) × Shared v × (now p ≡ globe7Set k) × (a ≡ activityIn v ptT) × (c7 ≡ activeOf v pdT7 c) ⌝ }
+    requires { ⌜ (length (now p) ≡ 150) × Shared v × (on ≡ true → now p ≡ globe7Set k) × (a ≡ activityIn v ptT) × (c7 ≡ activeOf v pdT7 c) ⌝ }
     ensures { λ r. ⌜ r ≡ cond on (wideOf v g (globe7Before v c k) (globe7Set k)) 0·0 ⌝ }
 {
     if on {
@@ -283,7 +294,7 @@ pub fn globe7_values(
     let mut k = 0;
     while k < 11 {
         let on = globe7_needed(n, k);
-        put_globe7_set(k, &mut p);
+        put_needed_set(on, k, &mut p);
         x[k] = globe7_at(on, k, v, &p, g, c, a, c7);
         k += 1;
     }

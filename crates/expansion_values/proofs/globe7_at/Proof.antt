@@ -8,7 +8,8 @@ returns : tie.Need-returns
 returns c =
     let s = c .before .before .before .before .before .before .before .before .before .before .before .before in
     let A = s .args in
-    rw (c .before .before .before .before .before .before .before .before .before .before .if1 .taken) (globe7-at-law (A .k) (A .v) (A .g) (A .c) (A .c7) (c .before .before .before .before .before .before .before .before .before .globe7-activity .result) _ _ _ _ _ _ _
+    let on = c .before .before .before .before .before .before .before .before .before .before .if1 .taken in
+    rw on (globe7-at-law (A .k) (A .v) (A .g) (A .c) (A .c7) (c .before .before .before .before .before .before .before .before .before .globe7-activity .result) _ _ _ _ _ _ _
     (c .globe7-with .ensures)
     (c .before .apt-from .ensures)
     (c .before .before .before .before .before .pick2 .ensures)
@@ -17,7 +18,7 @@ returns c =
     (c .before .before .before .before .before .before .before .before .nine-in .ensures)
     (c .before .before .before .before .before .before .before .before .before .globe7-activity .ensures)
     (s .pre .4)
-    (s .pre .2))
+    (s .pre .2 on))
 
 returns-2 : tie.Need-returns-2
 returns-2 c = simp (c .if1 .left)
