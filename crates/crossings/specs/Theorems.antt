@@ -1,7 +1,7 @@
 -- Which indices are in the list, that they rise; the answer and the lent buffer; and the part of demand 3.
 use Prim.Native.Nat.{ℕ, zero, suc, _+_, _*_, _<_, _≤_}
 use mathlib.Core.Path.{_≡_, refl, sym, ap, ap₂}
-use mathlib.Core.Bool.{Bool, true, false, cond, false≢true, true≢false}
+use mathlib.Core.Bool.{Bool, true, false, cond, not, false≢true, true≢false}
 use mathlib.Core.List.{List, [], _∷_, _++_, List·Memᴰ}
 use native.Mathlib.Omega.{arith}
 use lib.Dec.{ltb}
@@ -14,15 +14,16 @@ use Rattle.setting.specs.declared.Input.{Input}
 use Rattle.acceptance.specs.declared.Answer.{Answer}
 use Rattle.acceptance.specs.declared.Answer.the-variants.{Accepted, Refused}
 use Rattle.acceptance.specs.Acceptance.{acceptedOf, withAltOf}
+use Rattle.acceptance.specs.Refusals.{Never}
 use Rattle.atmosphere.specs.Atmosphere.{elevenOf}
 use Rattle.shutoff.specs.Shut.{Alike}
 use Rattle.shutoff.specs.Theorems.{eleven≡}
 use Rattle.altitudes.specs.Altitudes.{columnAnswer}
-use Rattle.altitudes.specs.Room.{at-most-512}
+use Rattle.altitudes.specs.Room.{at-most-512, room-never-4}
 use Rattle.column.specs.Theorems.{column-known, at-altitude}
 use Rattle.crossings_list.specs.declared.Listing.{Listing}
 use Rattle.crossings_list.specs.declared.Listing.the-variants as listing
-use Rattle.crossings_list.specs.CrossingsList.{passesOf, crossingsOf, listAnswer, listAfter}
+use Rattle.crossings_list.specs.CrossingsList.{passesOf, crossingsOf, listAnswer, listAfter, altitudesRise}
 use Rattle.crossings_list.specs.Theorems.{Rising}
 use Rattle.crossings_list.specs.Theorems as list
 use Rattle.crossings.specs.Crossings.{totalDensity, densitiesOf, listOf, afterColumn, crossingsChecked, crossingsRefusedOr, crossingsAnswer, crossingsAfter}
@@ -64,8 +65,6 @@ module _ (w : List ℤ) (n : Input) where
 
 -- ---- the answer
 
--- The column's refusals are those with room for its rows (`any-room`, crate altitudes), so none of them is for the buffer: 4 does not occur.
-
 -- The column's refusals stand before 8, and all of these before 9.
 pub column-first : (w : List ℤ) (n : Input) (alts : List Float) (i j : ℕ) → columnAnswer w n alts (11 * length alts) ≡ Refused i j → crossingsChecked w n alts ≡ Refused i j
 unfolding crossingsChecked afterColumn
@@ -75,6 +74,25 @@ pub checked-first : (w : List ℤ) (n : Input) (alts : List Float) (level : Floa
     → crossingsAnswer w n alts level len ≡ listing.Refused i j
 unfolding crossingsAnswer
 checked-first w n alts level len i j e = ap (λ (a : Answer). crossingsRefusedOr a (listAnswer (listOf w n alts level) len)) e
+
+-- 'The call is lent no rows, so 4 can't occur': no input is refused with 4.
+pub never-4 : (w : List ℤ) (n : Input) (alts : List Float) (level : Float) (len k : ℕ) → crossingsAnswer w n alts level len ≡ listing.Refused 4 k → ⊥
+unfolding crossingsAnswer crossingsChecked afterColumn listAnswer
+never-4 w n alts level len k e = column (columnAnswer w n alts (11 * length alts)) (room-never-4 w n alts) e
+  where
+    list : (b : Bool) (m : ℕ) → cond b (listing.Refused 9 m) (listing.Listed m) ≡ listing.Refused 4 k → ⊥
+    list true m f = let z : _≡_ {A = ℕ} 9 4 = cc in omega arith
+    list false m f = let z : _≡_ {A = ℕ} 0 1 = cc in omega arith
+
+    falls : (b c : Bool) (i m : ℕ) → crossingsRefusedOr (cond b (Refused 8 i) Accepted) (cond c (listing.Refused 9 m) (listing.Listed m)) ≡ listing.Refused 4 k → ⊥
+    falls true c i m f = let z : _≡_ {A = ℕ} 8 4 = cc in omega arith
+    falls false c i m f = list c m f
+
+    column : (a : Answer) → Never 4 a
+        → crossingsRefusedOr (cond (not (acceptedOf a)) a (cond (ltb (altitudesRise alts) (length alts)) (Refused 8 (altitudesRise alts)) Accepted)) (cond (ltb len (length (listOf w n alts level))) (listing.Refused 9 (length (listOf w n alts level))) (listing.Listed (length (listOf w n alts level)))) ≡ listing.Refused 4 k
+        → ⊥
+    column Accepted h f = falls (ltb (altitudesRise alts) (length alts)) (ltb len (length (listOf w n alts level))) (altitudesRise alts) (length (listOf w n alts level)) f
+    column (Refused i j) h f = let g : _≡_ {A = ℕ} i 4 = cc in h j (ap (λ (m : ℕ). Refused m j) g)
 
 column-passed : (a : Answer) (alts : List Float) → acceptedOf (afterColumn a alts) ≡ true → acceptedOf a ≡ true
 unfolding afterColumn

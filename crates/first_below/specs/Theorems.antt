@@ -1,12 +1,13 @@
 -- What the index and the row are, when none is answered, and the part of demand 3.
 use Prim.Native.Nat.{ℕ, zero, suc, _+_, _*_, _<_, _≤_}
 use mathlib.Core.Path.{_≡_, refl, sym, ap, _∙_}
-use mathlib.Core.Bool.{Bool, true, false, not, false≢true}
+use mathlib.Core.Bool.{Bool, true, false, cond, not, false≢true}
 use mathlib.Core.List.{List, [], _∷_, _++_, append-assoc, append-nil}
 use native.Mathlib.Omega.{arith}
+use borrow.Author.Tests.{eqb-false}
 use lib.Dec.{eqb}
 use lib.IntN.{ℤ}
-use lib.ListN.{length, take, drop}
+use lib.ListN.{length, take, drop, length-append, List·getD-append}
 use lib.Seq.{take-at, drop-at, drop-drop}
 use lib.Ieee.{Float, lt}
 use Rattle.numbers.specs.Arithmetic.{_‼_}
@@ -15,18 +16,18 @@ use Rattle.setting.specs.declared.Input.{Input}
 use Rattle.acceptance.specs.declared.Answer.{Answer}
 use Rattle.acceptance.specs.declared.Answer.the-variants.{Accepted, Refused}
 use Rattle.acceptance.specs.Acceptance.{acceptedOf, withAltOf}
-use Rattle.acceptance.specs.Refusals.{test-passed}
+use Rattle.acceptance.specs.Refusals.{test-passed, Never}
 use Rattle.atmosphere.specs.Atmosphere.{elevenOf}
 use Rattle.shutoff.specs.Shut.{Alike}
 use Rattle.shutoff.specs.Theorems.{eleven≡}
 use Rattle.drag.specs.Length.{eleven-long}
 use Rattle.altitudes.specs.Altitudes.{columnAnswer}
-use Rattle.altitudes.specs.Room.{at-most-512}
+use Rattle.altitudes.specs.Room.{at-most-512, room-never-4}
 use Rattle.column.specs.Column.{columnRows, columnAfter}
 use Rattle.column.specs.Theorems.{column-known, at-altitude, rows≡, column-written}
 use Rattle.first_below_list.specs.declared.First.{First}
 use Rattle.first_below_list.specs.declared.First.the-variants as first
-use Rattle.first_below_list.specs.FirstBelowList.{isBelow, rowIn, firstRow}
+use Rattle.first_below_list.specs.FirstBelowList.{isBelow, rowIn, firstBelow, firstRow}
 use Rattle.first_below_list.specs.Theorems.{isAt}
 use Rattle.first_below_list.specs.Theorems as list
 use Rattle.first_below.specs.FirstBelow.{firstBelowChecked, firstBelowRefusedOr, firstOf, firstAnswer, firstAfter}
@@ -56,7 +57,20 @@ module _ (w : List ℤ) (n : Input) where
 
 -- ---- the answer
 
--- The column's refusals are those with room for its rows (`any-room`, crate altitudes), so none of them is for the buffer: its 4 does not occur.
+-- 4 is for the row that is lent, at 11, and for nothing else: no rows are lent, so the column's own 4 can't occur.
+pub four-told : (w : List ℤ) (n : Input) (alts : List Float) (level : Float) (len k : ℕ) → firstAnswer w n alts level len ≡ first.Refused 4 k → (k ≡ 11) × (len ≡ 11 → ⊥)
+unfolding firstAnswer firstBelowChecked firstOf
+four-told w n alts level len k e = row (eqb len 11) refl e
+  where
+    column : (a : Answer) → Never 4 a → firstBelowRefusedOr a (firstBelow level (columnRows w n alts) (length alts)) ≡ first.Refused 4 k → ⊥
+    column Accepted h f = list.never-refused level (columnRows w n alts) (length alts) 0 4 k f
+    column (Refused i j) h f = let g : _≡_ {A = ℕ} i 4 = cc in h j (ap (λ (m : ℕ). Refused m j) g)
+
+    row : (b : Bool) → eqb len 11 ≡ b
+        → firstBelowRefusedOr (cond (not b) (Refused 4 11) (columnAnswer w n alts (11 * length alts))) (firstBelow level (columnRows w n alts) (length alts)) ≡ first.Refused 4 k
+        → (k ≡ 11) × (len ≡ 11 → ⊥)
+    row true t f = absurd (column (columnAnswer w n alts (11 * length alts)) (room-never-4 w n alts) f)
+    row false t f = (cc, eqb-false len 11 t)
 
 -- what passes the checks passes the column's, and has at most 512 altitudes
 pub first-checked-column : (w : List ℤ) (n : Input) (alts : List Float) (len : ℕ) → acceptedOf (firstBelowChecked w n alts len) ≡ true
@@ -133,6 +147,28 @@ module _ (w : List ℤ) (n : Input) (alts : List Float) (level : Float) (xs : Li
       go (first.At k) g = absurd (false≢true (sym g))
       go first.Nowhere g = refl
       go (first.Refused i j) g = refl
+
+-- ---- the altitudes behind the hit
+
+-- Of the altitudes zs and then ts an index within zs is answered: with any others in the place of ts, that the column takes, answer and row are the same.
+module _ (w : List ℤ) (n : Input) (zs ts us : List Float) (level : Float) (xs : List Float) where
+  same-altitude : (j : ℕ) → j < length zs → (zs ++ ts) ‼ j ≡ (zs ++ us) ‼ j
+  same-altitude j h = List·getD-append zs ts _ j h ∙ sym (List·getD-append zs us _ j h)
+
+  same-row : (j : ℕ) → j < length zs → rowIn (columnRows w n (zs ++ ts)) j ≡ rowIn (columnRows w n (zs ++ us)) j
+  same-row j h =
+      its-row w n (zs ++ ts) j (omega (arith, length-append zs ts))
+      ∙ ap (λ (z : Float). elevenOf w (withAltOf n z)) (same-altitude j h)
+      ∙ sym (its-row w n (zs ++ us) j (omega (arith, length-append zs us)))
+
+  pub behind-the-hit : (k : ℕ) → k < length zs → firstAnswer w n (zs ++ ts) level (length xs) ≡ first.At k → firstBelowChecked w n (zs ++ us) (length xs) ≡ Accepted
+      → (firstAnswer w n (zs ++ us) level (length xs) ≡ first.At k) × (firstAfter w n (zs ++ us) level xs ≡ firstAfter w n (zs ++ ts) level xs)
+  behind-the-hit k h e f =
+      let t = index-told w n (zs ++ ts) level (length xs) k e in
+      let a = index-there w n (zs ++ us) level (length xs) f k (omega (arith, length-append zs us))
+      (ap (λ (r : List Float). lt (r ‼ 5) level) (sym (same-row k h)) ∙ t .2)
+      (λ j i. ap (λ (r : List Float). lt (r ‼ 5) level) (sym (same-row j (omega arith))) ∙ t .3 j i) in
+      (a, row-told w n (zs ++ us) level xs k a .0 ∙ ap (λ (z : Float). elevenOf w (withAltOf n z)) (sym (same-altitude k h)) ∙ sym (row-told w n (zs ++ ts) level xs k e .0))
 
 -- ---- demand 3
 

@@ -90,6 +90,17 @@ module _ (level : Float) (rows : List Float) where
   none-from zero k h = refl
   none-from (suc m) k h = rw (h k (omega arith) (omega arith)) (none-from m (k + 1) (λ j g l. h j (omega arith) (omega arith)))
 
+  -- ---- looking refuses nothing
+
+  pub never-refused : (m k i j : ℕ) → firstFrom level rows m k ≡ Refused i j → ⊥
+  unfolding firstFrom
+  never-refused zero k i j e = let z : _≡_ {A = ℕ} 0 1 = cc in omega arith
+  never-refused (suc m) k i j e = go (isBelow level (rowIn rows k)) e (never-refused m (k + 1) i j)
+    where
+      go : (b : Bool) → cond b (At k) (firstFrom level rows m (k + 1)) ≡ Refused i j → (firstFrom level rows m (k + 1) ≡ Refused i j → ⊥) → ⊥
+      go true f r = let z : _≡_ {A = ℕ} 0 1 = cc in omega arith
+      go false f r = r f
+
   module _ (n : ℕ) where
     -- An index is answered exactly if it is the lowest of the n whose row's d[5] is below the level.
     pub first-told : (k : ℕ) → firstBelow level rows n ≡ At k
