@@ -24,9 +24,9 @@ use Rattle.host_record.specs.Record.{codeOf, recordOf, lengthsOf}
 use Rattle.host.specs.Host.{slicesOf, hostAnswer, hostColumn, hostRows, hostStation, hostWhole, hostNumbers, hostSwitches, hostSwitchedWhole, hostSwitchedNumbers}
 
 -- a choice made twice is made once
-pub twice : (b : Bool) (ys xs : List Float) → cond b ys xs ≡ cond b (cond b ys xs) xs
-twice true ys xs = refl
-twice false ys xs = refl
+pub twice : {A : Type 0} (b : Bool) (y x : A) → cond b y x ≡ cond b (cond b y x) x
+twice true y x = refl
+twice false y x = refl
 
 -- the tests on a lent slice and on the record's
 module _ (needed : ℕ) (f l : List Float) (w : List ℤ) (len : ℕ) where
@@ -62,8 +62,8 @@ module _ (year doy : ℤ) (f l : List Float) (w : List ℤ) where
         → v ≡ w
         → hostAnswer year doy f l w (length xs) ≡ rest xs
         → (x ≡ codeOf (hostAnswer year doy f l w (length xs)))
-        × (ys ≡ cond (acceptedOf (hostAnswer year doy f l w (length xs))) (row w (recordOf year doy f l)) xs)
-    answered row x r n v ys e0 e1 e2 e3 e4 e5 = (simp (e0, e1, e3, e4, e5), simp (e2, e3, e4, e5))
+        × (ys ≡ cond (acceptedOf (hostAnswer year doy f l w (length xs))) (cond (acceptedOf (rest xs)) (row w (recordOf year doy f l)) xs) xs)
+    answered row x r n v ys e0 e1 e2 e3 e4 e5 = (simp (e0, e1, e3, e4, e5), simp (e2, e3, e4, e5) (twice (acceptedOf (rest xs)) _ xs))
 
   module _ (alts xs : List Float) where
     pub answered-column : (x : ℕ) (r : Answer) (n : Input) (v : List ℤ) (ys : List Float)
@@ -144,7 +144,9 @@ module _ (year doy : ℤ) (f l : List Float) (w : List ℤ) (ys : List ℤ) (xs 
       → hostStation year doy f l w (length ys) (length xs) ≡ stationAnswer w (recordOf year doy f l) (length ys) (length xs)
       → Outcome x ys' xs'
   unfolding hostWhole hostNumbers wholeAfter stationNumbersAfter
-  prepared x r n v ys' xs' e0 e1 e2 e3 e4 e5 e6 = (simp (e0, e1, e4, e5, e6), simp (e2, e4, e5, e6), simp (e3, e4, e5, e6))
+  prepared x r n v ys' xs' e0 e1 e2 e3 e4 e5 e6 =
+      let b = acceptedOf (stationAnswer w (recordOf year doy f l) (length ys) (length xs)) in
+      (simp (e0, e1, e4, e5, e6), simp (e2, e4, e5, e6) (twice b _ ys), simp (e3, e4, e5, e6) (twice b _ xs))
 
 -- ---- a new switch row
 
@@ -178,4 +180,5 @@ module _ (w whole : List ℤ) (xs : List Float) where
   unfolding hostSwitches hostSwitchedWhole hostSwitchedNumbers switchedWhole switchedNumbers
   switches-done e f h x r v ys zs e0 e1 e2 e3 e4 =
       let s : hostSwitches w whole xs ≡ switchesAnswer w whole xs = simp (eq-eqb _ _ e, eq-eqb _ _ f, eq-eqb _ _ h) in
-      (rw s (e0 ∙ ap codeOf (e1 ∙ ap (λ (u : List ℤ). switchesAnswer u whole xs) e4)), rw s (rw e4 at e2), rw s (rw e4 at e3))
+      let b = acceptedOf (switchesAnswer w whole xs) in
+      (rw s (e0 ∙ ap codeOf (e1 ∙ ap (λ (u : List ℤ). switchesAnswer u whole xs) e4)), rw s ((rw e4 at e2) ∙ twice b _ whole), rw s ((rw e4 at e3) ∙ twice b _ xs))

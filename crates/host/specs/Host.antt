@@ -4,18 +4,17 @@ use mathlib.Core.Bool.{cond, not}
 use mathlib.Core.List.{List}
 use lib.Dec.{eqb}
 use lib.IntN.{ℤ}
-use lib.ListN.{length, drop}
+use lib.ListN.{length}
 use lib.Ieee.{Float}
-use Rattle.numbers.specs.Literals.{0·0}
 use Rattle.acceptance.specs.declared.Answer.{Answer}
 use Rattle.acceptance.specs.declared.Answer.the-variants.{Accepted, Refused}
-use Rattle.acceptance.specs.Acceptance.{acceptedOf, withAltOf}
-use Rattle.atmosphere.specs.Atmosphere.{answerOf, elevenOf}
+use Rattle.acceptance.specs.Acceptance.{acceptedOf}
+use Rattle.atmosphere.specs.Atmosphere.{answerOf, rowAfter}
 use Rattle.altitudes.specs.Altitudes.{columnAnswer}
 use Rattle.column.specs.Column.{columnAfter}
-use Rattle.station_record.specs.Record.{stationWhole, recordIn, stationAnswer, switchesAnswer}
-use Rattle.station.specs.Station.{stationNumbers, renewedOf}
-use Rattle.drag.specs.Drag.{dragOf}
+use Rattle.station_record.specs.Record.{stationAnswer, switchesAnswer}
+use Rattle.station.specs.Station.{wholeAfter, stationNumbersAfter, switchedWhole, switchedNumbers}
+use Rattle.drag.specs.Drag.{dragAfter}
 use Rattle.host_record.specs.Record.{recordOf, lengthsOf}
 
 -- 4 for a lent slice of len numbers that needs to have another length, then for the record's slices
@@ -30,12 +29,12 @@ hostAnswer year doy f l w len =
 -- the lent row afterwards
 unfoldable pub hostRow : ℤ → ℤ → List Float → List Float → List ℤ → List Float → List Float
 hostRow year doy f l w xs =
-    cond (acceptedOf (hostAnswer year doy f l w (length xs))) (elevenOf w (recordOf year doy f l)) xs
+    cond (acceptedOf (hostAnswer year doy f l w (length xs))) (rowAfter w (recordOf year doy f l) xs) xs
 
 -- the lent row after gtd7d, whose answer is the same
 unfoldable pub hostDrag : ℤ → ℤ → List Float → List Float → List ℤ → List Float → List Float
 hostDrag year doy f l w xs =
-    cond (acceptedOf (hostAnswer year doy f l w (length xs))) (dragOf w (recordOf year doy f l)) xs
+    cond (acceptedOf (hostAnswer year doy f l w (length xs))) (dragAfter w (recordOf year doy f l) xs) xs
 
 -- 4 for the slices, then the column's answer
 unfoldable pub hostColumn : ℤ → ℤ → List Float → List Float → List ℤ → List Float → ℕ → Answer
@@ -57,11 +56,11 @@ hostStation year doy f l w ints count =
 -- its slices afterwards
 unfoldable pub hostWhole : ℤ → ℤ → List Float → List Float → List ℤ → List ℤ → ℕ → List ℤ
 hostWhole year doy f l w ys count =
-    cond (acceptedOf (hostStation year doy f l w (length ys) count)) (stationWhole w (withAltOf (recordOf year doy f l) 0·0)) ys
+    cond (acceptedOf (hostStation year doy f l w (length ys) count)) (wholeAfter w (recordOf year doy f l) ys count) ys
 
 unfoldable pub hostNumbers : ℤ → ℤ → List Float → List Float → List ℤ → ℕ → List Float → List Float
 hostNumbers year doy f l w ints xs =
-    cond (acceptedOf (hostStation year doy f l w ints (length xs))) (stationNumbers w (withAltOf (recordOf year doy f l) 0·0)) xs
+    cond (acceptedOf (hostStation year doy f l w ints (length xs))) (stationNumbersAfter w (recordOf year doy f l) ints xs) xs
 
 -- a new switch row: 4 for the station's two slices, for the row, then what the station answers
 unfoldable pub hostSwitches : List ℤ → List ℤ → List Float → Answer
@@ -73,7 +72,7 @@ hostSwitches w whole xs =
 
 -- its slices afterwards
 unfoldable pub hostSwitchedWhole : List ℤ → List ℤ → List Float → List ℤ
-hostSwitchedWhole w whole xs = cond (acceptedOf (hostSwitches w whole xs)) (stationWhole w (recordIn whole xs)) whole
+hostSwitchedWhole w whole xs = cond (acceptedOf (hostSwitches w whole xs)) (switchedWhole w whole xs) whole
 
 unfoldable pub hostSwitchedNumbers : List ℤ → List ℤ → List Float → List Float
-hostSwitchedNumbers w whole xs = cond (acceptedOf (hostSwitches w whole xs)) (renewedOf (drop 3 whole) w (recordIn whole xs) xs) xs
+hostSwitchedNumbers w whole xs = cond (acceptedOf (hostSwitches w whole xs)) (switchedNumbers w whole xs) xs

@@ -1,5 +1,6 @@
--- The definitions that the contracts of this crate cite, and a theorem on the descent.
+-- The definitions that the contracts of this crate cite, and what holds of a station (Stations) and of a descent (DescentTheorems) from C.
 pub mod Host
+pub mod Stations
 pub mod Crossings
 pub mod Bands
 pub mod Boards

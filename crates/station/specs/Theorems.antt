@@ -10,7 +10,7 @@ use lib.Dec.{eqb}
 use lib.IntN.{ℤ, pos}
 use lib.ListN.{length, take, drop, getD}
 use lib.Seq.{drop-cons, drop-length}
-use lib.Ieee.{Float, nan, neg, le, lt, eq, ofBits}
+use lib.Ieee.{Float, nan, neg, le}
 use Rattle.numbers.specs.Arithmetic.{_‼_}
 use Rattle.numbers.specs.Literals.{0·0, 24·0, 48·0, 90·0, 400·0, 1000·0, 2500·0, 86400·0}
 use Rattle.numbers.specs.Tests.{finiteOf}
@@ -24,6 +24,7 @@ use Rattle.acceptance.specs.declared.Answer.{Answer}
 use Rattle.acceptance.specs.declared.Answer.the-variants.{Accepted, Refused}
 use Rattle.acceptance.specs.Acceptance.{withinOf, dayWithin, lowest, arrayUnfitOf, unfitOf, arrayOutsideOf, outsideOf, foundOf, judgedOf, acceptedOf, unmixedOf, recordAnswer, withAltOf}
 use Rattle.acceptance.specs.Refusals.{no-refusal}
+use Rattle.acceptance.specs.Altitude.{zero-finite, zero-within}
 use Rattle.atmosphere.specs.Atmosphere.{elevenOf, answerOf, rowAfter}
 use Rattle.stored_parts.specs.Parts.{allParts, partsAt}
 use Rattle.stored.specs.Stored.{rowStored}
@@ -155,11 +156,21 @@ dropped : (w : List ℤ) (n : Input) → drop 3 (stationWhole w n) ≡ w
 unfolding stationWhole
 dropped w n = refl
 
+-- 'A change is refused as the one-altitude call refuses the changed record, its altitude not looked at': a held record stands at altitude 0
+pub change-met : (w : List ℤ) (n : Input) (c : Change) → Held w n → changeAnswer c (stationWhole w n) (stationNumbers w n) ≡ judgedOf w (changeOf c n)
+unfolding changeAnswer
+change-met w n c h = rw (dropped w n, record-back w n h, eq-eqb _ _ (whole-long w n (h .row)), eq-eqb _ _ (numbers-long w n))
+
+-- 'and then leaves the station as it was', whatever it held
+pub change-refused : (c : Change) (whole : List ℤ) (xs : List Float) → acceptedOf (changeAnswer c whole xs) ≡ false → changedNumbers c whole xs ≡ xs
+unfolding changedNumbers
+change-refused c whole xs e = rw e
+
 change-told : (w : List ℤ) (n : Input) (c : Change) → Held w n
     → changedNumbers c (stationWhole w n) (stationNumbers w n) ≡ stationNumbers w (cond (acceptedOf (judgedOf w (changeOf c n))) (changeOf c n) n)
-unfolding changedNumbers changeAnswer
+unfolding changedNumbers
 change-told w n c h =
-    rw (dropped w n, record-back w n h, eq-eqb _ _ (whole-long w n (h .row)), eq-eqb _ _ (numbers-long w n))
+    rw (change-met w n c h, dropped w n, record-back w n h)
     (chosen-numbers w (acceptedOf (judgedOf w (changeOf c n))) (changeOf c n) n)
 
 -- ---- a new row
@@ -209,12 +220,12 @@ switched-held w u n false len e h = h
 
 -- ---- any calls
 
-call-told : (c : Call) (w : List ℤ) (n : Input) → Held w n → callOn c (stationWhole w n) (stationNumbers w n) ≡ stationOf ((callOf c w n) .0) ((callOf c w n) .1)
+pub call-told : (c : Call) (w : List ℤ) (n : Input) → Held w n → callOn c (stationWhole w n) (stationNumbers w n) ≡ stationOf ((callOf c w n) .0) ((callOf c w n) .1)
 unfolding callOn callOf
 call-told (change c) w n h = ap₂ (λ (ys : List ℤ) (xs : List Float). (ys, xs)) (sym (whole-one w n c (acceptedOf (judgedOf w (changeOf c n))))) (change-told w n c h)
 call-told (switches u e) w n h = ap₂ (λ (ys : List ℤ) (xs : List Float). (ys, xs)) (whole-switched w u n h) (numbers-switched w u n h)
 
-call-held : (c : Call) (w : List ℤ) (n : Input) → Held w n → Held ((callOf c w n) .0) ((callOf c w n) .1)
+pub call-held : (c : Call) (w : List ℤ) (n : Input) → Held w n → Held ((callOf c w n) .0) ((callOf c w n) .1)
 unfolding callOf
 call-held (change c) w n h = changed-held w n c (acceptedOf (judgedOf w (changeOf c n))) refl h
 call-held (switches u e) w n h = switched-held w u n (acceptedOf (judgedOf u n)) e refl h
@@ -260,14 +271,6 @@ unfolding foundOf
 chain true d u o r s lacks e f g i j = rw e
 chain false true u o r s lacks e f g i j = rw (e, f, g, i)
 chain false false u o r s lacks e f g i j = rw (e, f, g, i, j)
-
-zero-finite : not (finiteOf 0·0) ≡ false
-unfolding finiteOf lt eq ofBits
-zero-finite = refl
-
-zero-within : not (withinOf 0·0 2500·0 0·0) ≡ false
-unfolding withinOf le lt eq ofBits
-zero-within = refl
 
 -- a held record with an altitude is refused for that altitude alone
 judged-at : (w : List ℤ) (n : Input) (z : Float) → Held w n
@@ -373,6 +376,14 @@ pub altitude-kept : (w : List ℤ) (n : Input) (cs : List Call) (z : Float) (row
 altitude-kept w n cs z row h =
     let r = kept-station w n cs h in
     rw (r .0) (altitude-told ((heldAfter w n cs) .0) ((heldAfter w n cs) .1) z row (r .1))
+
+-- a change of it is answered as the one-altitude call answers the changed record
+pub change-kept : (w : List ℤ) (n : Input) (cs : List Call) (c : Change) → Held w n
+    → changeAnswer c ((stationAfter (stationWhole w n) (stationNumbers w n) cs) .0) ((stationAfter (stationWhole w n) (stationNumbers w n) cs) .1)
+    ≡ judgedOf ((heldAfter w n cs) .0) (changeOf c ((heldAfter w n cs) .1))
+change-kept w n cs c h =
+    let r = kept-station w n cs h in
+    rw (r .0) (change-met ((heldAfter w n cs) .0) ((heldAfter w n cs) .1) c (r .1))
 
 -- what preparing accepts is held
 pub prepared-held : (w : List ℤ) (n : Input) → length w ≡ 24 → length (n .«ap_array») ≡ 7 → stationAnswer w n 27 259 ≡ Accepted → Held w (withAltOf n 0·0)

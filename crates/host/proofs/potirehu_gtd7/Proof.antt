@@ -17,7 +17,7 @@ returns : tie.Need-returns
 unfolding hostRow
 returns c =
     let A = c .before .before .before .before .before .args in
-    refused (hostAnswer (A .year) (A .doy) (A .fields .now) (A .ap-array .now) (A .switches .now) (length (A .row .now))) (Refused 4 11) (elevenOf (A .switches .now) (recordOf (A .year) (A .doy) (A .fields .now) (A .ap-array .now))) (A .row .now) _
+    refused (hostAnswer (A .year) (A .doy) (A .fields .now) (A .ap-array .now) (A .switches .now) (length (A .row .now))) (Refused 4 11) (rowAfter (A .switches .now) (recordOf (A .year) (A .doy) (A .fields .now) (A .ap-array .now)) (A .row .now)) (A .row .now) _
     (no-row (A .year) (A .doy) (A .fields .now) (A .ap-array .now) (A .switches .now) (A .row .now) (c .before .if1 .taken))
     refl
     (c .code .ensures)
@@ -29,7 +29,7 @@ returns-2 c =
     let k = at .before .lengths in
     let A = at .before .before .before .before .before .before .args in
     let t = sym (at .accepted .ensures) ∙ not-true _ (c .before .if2 .taken) in
-    refused (hostAnswer (A .year) (A .doy) (A .fields .now) (A .ap-array .now) (A .switches .now) (length (A .row .now))) (k .result) (elevenOf (A .switches .now) (recordOf (A .year) (A .doy) (A .fields .now) (A .ap-array .now))) (A .row .now) _
+    refused (hostAnswer (A .year) (A .doy) (A .fields .now) (A .ap-array .now) (A .switches .now) (length (A .row .now))) (k .result) (rowAfter (A .switches .now) (recordOf (A .year) (A .doy) (A .fields .now) (A .ap-array .now)) (A .row .now)) (A .row .now) _
     (a-row (A .year) (A .doy) (A .fields .now) (A .ap-array .now) (A .switches .now) (A .row .now) (at .before .before .if1 .left)
     ∙ stopped (A .fields .now) (A .ap-array .now) (A .switches .now) (k .result) (k .ensures) t (rest (A .year) (A .doy) (A .fields .now) (A .ap-array .now) (A .switches .now) (A .row .now)))
     t
