@@ -1,4 +1,5 @@
--- The State that gtd7 leaves: when its mark says that dm28 was set, and that it says so after every accepted run below 72.5 km.
+-- The State that gtd7 leaves: when its mark says that dm28 was set, that dm28 is 0 where it does not, and that it says so after every accepted run below
+-- 72.5 km.
 use Prim.Native.Nat.{ℕ}
 use mathlib.Core.Path.{_≡_, refl, sym, ap, _∙_}
 use mathlib.Core.Bool.{Bool, true, false, cond, not, _&&_, false≢true}
@@ -7,7 +8,7 @@ use lib.Dec.{eqb}
 use lib.IntN.{ℤ}
 use lib.Ieee.{Float, lt, le, eq, ne, ofBits}
 use Rattle.numbers.specs.Arithmetic.{_‼_}
-use Rattle.numbers.specs.Literals.{1·0, 72·5}
+use Rattle.numbers.specs.Literals.{0·0, 1·0, 72·5}
 use Rattle.setting.specs.declared.Input.{Input}
 use Rattle.setting.specs.declared.View.{View}
 use Rattle.setting.specs.Switches.{given, isOne, onOff, filled, swOf}
@@ -19,6 +20,7 @@ use Rattle.mixing.specs.Limits.{mixedAt}
 use Rattle.places.proofs.Order.{lt-asym}
 use Rattle.expansion.specs.Expansion.{stateAfter}
 use Rattle.plan.specs.Plan.{Ran, run, stepped}
+use Rattle.plan.specs.Mark.{marked-where, unmarked-leaves}
 use Rattle.gts7_arithmetic.specs.declared.Site.{Site}
 use Rattle.gts7_arithmetic.specs.Gts7Arithmetic.{siteWith}
 use Rattle.lower_atmosphere.specs.declared.Gtd7Output.{Gtd7Output}
@@ -31,9 +33,9 @@ use Rattle.model_state.specs.Mark.{gtd7-marks}
 
 -- ---- the mark after any run
 
-chosen-test : (b : Bool) → cond b true false ≡ b
-chosen-test true = refl
-chosen-test false = refl
+-- whether N2 is mixed at gts7's altitude
+abbrev mixesN2 : View → Site → Float → Bool
+mixesN2 v x alt = (mixedAt (x .nine) (v .sw ‼ 15) (cond (lt 72·5 alt) alt 72·5)) .n2
 
 -- From a fresh State gtd7 leaves the mark true exactly where N2 is mixed at gts7's altitude, whatever the number that is then in dm28
 pub left-marked : (v : View) (x : Site) (alt : Float)
@@ -41,8 +43,16 @@ pub left-marked : (v : View) (x : Site) (alt : Float)
 unfolding stepped stateAfter freshOf
 left-marked v x alt =
     ap (λ (r : Ran Gtd7Output). r .left .«dm28_set») (gtd7-left v x alt)
-    ∙ gtd7-marks (v .sw) x alt _ _
-    ∙ chosen-test ((mixedAt (x .nine) (v .sw ‼ 15) (cond (lt 72·5 alt) alt 72·5)) .n2)
+    ∙ marked-where _ (gtd7Plan (v .sw) x alt) _ refl (mixesN2 v x alt) (gtd7-marks (v .sw) x alt)
+
+-- 'In State a dm28 of 0 means that nobody set it': where the mark is false after gtd7 from a fresh State, dm28 is 0
+pub unmarked-zero : (v : View) (x : Site) (alt : Float)
+    → (run v (gtd7Plan (v .sw) x alt) freshOf) .left .«dm28_set» ≡ false → (run v (gtd7Plan (v .sw) x alt) freshOf) .left .dm28 ≡ 0·0
+unfolding stepped stateAfter freshOf
+unmarked-zero v x alt e =
+    ap (λ (r : Ran Gtd7Output). r .left .dm28) (gtd7-left v x alt)
+    ∙ unmarked-leaves _ (gtd7Plan (v .sw) x alt) _ refl (mixesN2 v x alt) (gtd7-marks (v .sw) x alt)
+    (sym (ap (λ (r : Ran Gtd7Output). r .left .«dm28_set») (gtd7-left v x alt)) ∙ e)
 
 -- ---- after accepted runs below 72.5 km
 

@@ -1,4 +1,4 @@
--- The mark beside dm28 after gts7 and gtd7: N2's step sets it where N2 is mixed, and no other step does.
+-- dm28 and the mark beside it after gts7 and gtd7: N2's step sets both where N2 is mixed, and no other step touches either.
 use mathlib.Core.Path.{_∙_}
 use mathlib.Core.Bool.{Bool, false, cond, not}
 use mathlib.Core.List.{List}

@@ -1,6 +1,6 @@
--- The mark beside dm28: the step that sets dm28 sets it too, and every other step leaves it as it was.
-use mathlib.Core.Path.{_≡_, refl, ap, _∙_}
-use mathlib.Core.Bool.{Bool, true, false, cond}
+-- dm28 and the mark beside it: the step that sets dm28 sets the mark too, and every other step leaves both as they were.
+use mathlib.Core.Path.{_≡_, refl, sym, ap, _∙_}
+use mathlib.Core.Bool.{Bool, true, false, true≢false}
 use mathlib.Core.List.{List}
 use lib.Ieee.{Float}
 use Rattle.plan.specs.Fields.{Fields, setWhen, setGravity, setDd, setDm04, setDm16, setDm28, setDm32, setDm40, setDm01, setDm14, setTn1, setTn2, setTn3, setNodes1, setTop3}
@@ -8,9 +8,13 @@ use Rattle.plan.specs.Plan.{Ask, Plan, ask, keep, done, either, _>>=_, t
 
 -- ---- steps
 
--- a step that leaves the mark as it was
+-- dm28 and its mark
+abbrev pub mixedN2 : Fields → Float × Bool
+mixedN2 f = (f .dm28, f .«dm28_set»)
+
+-- a step that leaves both as they were
 abbrev pub Leaves : (Fields → Fields) → Type 0
-Leaves u = (f : Fields) → (u f) .«dm28_set» ≡ f .«dm28_set»
+Leaves u = (f : Fields) → mixedN2 (u f) ≡ mixedN2 f
 
 -- dm28 can be set and be 0: the mark is true whatever x is
 pub dm28-marks : (x : Float) (f : Fields) → ((setDm28 x f) .«dm28_set» ≡ true) × ((setDm28 x f) .dm28 ≡ x)
@@ -75,11 +79,12 @@ when-leaves false u h f = refl
 
 -- ---- plans
 
--- a plan after which the mark is true where b is, and else as it was
+-- a plan after which the mark is true where b is, and else dm28 and mark are as they were
 abbrev pub Marks : {A : Type 0} → Bool → Plan A → Type 0
-Marks b m = (g : Ask → Float) (f : Fields) → (fieldsAfter g m f) .«dm28_set» ≡ cond b true (f .«dm28_set»)
+Marks true m = (g : Ask → Float) (f : Fields) → (fieldsAfter g m f) .«dm28_set» ≡ true
+Marks false m = (g : Ask → Float) (f : Fields) → mixedN2 (fieldsAfter g m f) ≡ mixedN2 f
 
--- a plan that leaves the mark
+-- a plan that leaves both
 abbrev pub Unmarking : {A : Type 0} → Plan A → Type 0
 Unmarking m = Marks false m
 
@@ -89,17 +94,19 @@ done-leaves a g f = refl
 
 pub ask-marks : {A : Type 0} (b : Bool) (q : Ask) (k : Float → Plan A) → ((x : Float) → Marks b (k x)) → Marks b (ask q k)
 unfolding fieldsAfter
-ask-marks b q k h g f = h (g q) g f
+ask-marks true q k h = λ g f. h (g q) g f
+ask-marks false q k h = λ g f. h (g q) g f
 
 pub keep-marks : {A : Type 0} (b : Bool) (u : Fields → Fields) (m : Plan A) → Leaves u → Marks b m → Marks b (keep u m)
 unfolding fieldsAfter
-keep-marks b u m h i g f = i g (u f) ∙ ap (cond b true) (h f)
+keep-marks true u m h i = λ g f. i g (u f)
+keep-marks false u m h i = λ g f. i g (u f) ∙ h f
 
 -- a step that sets the mark where b holds
 pub when-marks : {A : Type 0} (b : Bool) (u : Fields → Fields) (m : Plan A) → ((f : Fields) → (u f) .«dm28_set» ≡ true) → Unmarking m → Marks b (keep (setWhen b u) m)
 unfolding fieldsAfter
-when-marks true u m h i g f = i g (u f) ∙ h f
-when-marks false u m h i g f = i g f
+when-marks true u m h i = λ g f. ap (λ (x : Float × Bool). x .1) (i g (u f)) ∙ h f
+when-marks false u m h i = λ g f. i g f
 
 pub either-leaves : {A : Type 0} (b : Bool) (x y : Plan A) → Unmarking x → Unmarking y → Unmarking (either b x y)
 either-leaves true x y h i = h
@@ -107,7 +114,22 @@ either-leaves false x y h i = i
 
 -- one plan, then another: the mark is set by the first, or by the second
 pub then-leaves : {A B : Type 0} (b : Bool) (m : Plan A) (k : A → Plan B) → Marks b m → ((a : A) → Unmarking (k a)) → Marks b (m >>= k)
-then-leaves b m k h i g f = ap (λ (x : Fields). x .«dm28_set») (kept->>= g m k f) ∙ i (told g m) g (fieldsAfter g m f) ∙ h g f
+then-leaves true m k h i = λ g f. ap (λ (x : Fields). x .«dm28_set») (kept->>= g m k f) ∙ ap (λ (x : Float × Bool). x .1) (i (told g m) g (fieldsAfter g m f)) ∙ h g f
+then-leaves false m k h i = λ g f. ap mixedN2 (kept->>= g m k f) ∙ i (told g m) g (fieldsAfter g m f) ∙ h g f
 
 pub then-marks : {A B : Type 0} (b : Bool) (m : Plan A) (k : A → Plan B) → Unmarking m → ((a : A) → Marks b (k a)) → Marks b (m >>= k)
-then-marks b m k h i g f = ap (λ (x : Fields). x .«dm28_set») (kept->>= g m k f) ∙ i (told g m) g (fieldsAfter g m f) ∙ ap (cond b true) (h g f)
+then-marks true m k h i = λ g f. ap (λ (x : Fields). x .«dm28_set») (kept->>= g m k f) ∙ i (told g m) g (fieldsAfter g m f)
+then-marks false m k h i = λ g f. ap mixedN2 (kept->>= g m k f) ∙ i (told g m) g (fieldsAfter g m f) ∙ h g f
+
+-- ---- from a State in which neither is set
+
+module _ {A : Type 0} (g : Ask → Float) (m : Plan A) (f : Fields) (new : f .«dm28_set» ≡ false) where
+  -- the mark is then true exactly where b is
+  pub marked-where : (b : Bool) → Marks b m → (fieldsAfter g m f) .«dm28_set» ≡ b
+  marked-where true h = h g f
+  marked-where false h = ap (λ (x : Float × Bool). x .1) (h g f) ∙ new
+
+  -- a mark that is false leaves dm28 as it was
+  pub unmarked-leaves : (b : Bool) → Marks b m → (fieldsAfter g m f) .«dm28_set» ≡ false → (fieldsAfter g m f) .dm28 ≡ f .dm28
+  unmarked-leaves true h e = absurd (true≢false (sym (h g f) ∙ e))
+  unmarked-leaves false h e = ap (λ (x : Float × Bool). x .0) (h g f)

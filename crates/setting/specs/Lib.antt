@@ -1,5 +1,6 @@
--- The definitions that the contracts of this crate cite.
+-- The definitions that the contracts of this crate cite, and document 01's sentence on the switch row, entry by entry (Entries).
 pub mod Switches
+pub mod Entries
 pub mod State
 pub mod Phases
 pub mod View
