@@ -1,11 +1,14 @@
--- Densities in a table that reading gave: the one-altitude call's with the row of the one band in which the metre lies; and demand 3 by that row.
+-- Densities in a table that reading gave: the one-altitude call's with the row of the one band in which the metre lies; a metre outside every table; and
+-- demand 3 by that row.
 use Prim.Native.Nat.{ℕ, _≤_}
 use mathlib.Core.Path.{_≡_, refl, sym, ap, _∙_, subst}
+use mathlib.Core.Logic.{_⊎_}
 use mathlib.Core.Bool.{Bool, true, false, cond, not}
 use mathlib.Core.List.{List}
 use lib.Dec.{T, eqb}
 use lib.IntN.{ℤ, pos}
 use lib.ListN.{length, getD}
+use lib.Signed.{_<ℤ_}
 use lib.Ieee.{Float}
 use Rattle.setting.specs.declared.Input.{Input}
 use Rattle.acceptance.specs.declared.Answer.{Answer}
@@ -15,11 +18,28 @@ use Rattle.atmosphere.specs.Atmosphere.{answerOf, elevenOf, rowAfter}
 use Rattle.band_table.specs.declared.Row.{Row}
 use Rattle.band_table.specs.Band.{noBand}
 use Rattle.band_table.specs.Table.{bandRow, OneBand}
+use Rattle.band_table.proofs.Theorems.{no-row}
 use Rattle.band_form.specs.Bands.{bandsOf, Gave}
 use Rattle.band_form.proofs.Theorems.{one-band}
 use Rattle.shutoff.specs.Shut.{Alike}
 use Rattle.shutoff.specs.Theorems.{demand-3}
 use Rattle.bands.specs.Bands.{atMetre, bandedAnswer, bandedAfter}
+
+-- ---- a metre outside 0 to 2,500,000
+
+-- 'refused with 3, place 3, after the row slice's length and before the record is looked at': in any table, for any record; the row is as it was
+pub metre-refused : (t : List ℤ) (metre : ℤ) (n : Input) (len : ℕ) → (metre <ℤ pos 0) ⊎ (pos 2500000 <ℤ metre)
+    → bandedAnswer t metre n len ≡ cond (not (eqb len 11)) (Refused 4 11) (Refused 3 3)
+unfolding bandedAnswer
+metre-refused t metre n len h = rw (no-row t metre h)
+
+pub metre-row-kept : (t : List ℤ) (metre : ℤ) (n : Input) (xs : List Float) → (metre <ℤ pos 0) ⊎ (pos 2500000 <ℤ metre) → bandedAfter t metre n xs ≡ xs
+unfolding bandedAfter
+metre-row-kept t metre n xs h = rw (metre-refused t metre n (length xs) h) (go (eqb (length xs) 11) _)
+  where
+    go : (b : Bool) (ys : List Float) → cond (acceptedOf (cond (not b) (Refused 4 11) (Refused 3 3))) ys xs ≡ xs
+    go true ys = refl
+    go false ys = refl
 
 -- ---- a metre that has a row, in any table
 

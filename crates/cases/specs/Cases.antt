@@ -1,6 +1,7 @@
 -- S1 to S10 of document 01: one table, and one statement that covers it; and ccor at e = 70 and -70.
 use Prim.Native.Nat.{_≤_}
 use mathlib.Core.Path.{_≡_, refl}
+use mathlib.Core.Bool.{Bool, true, false}
 use mathlib.Core.List.{List, [], _∷_}
 use lib.IntN.{ℤ, pos}
 use lib.ListN.{length}
@@ -12,9 +13,11 @@ use Rattle.elementary.specs.Exp.{expOf}
 use Rattle.exponential_tables.specs.Tables.{coarse, fine}
 use Rattle.mixing.specs.Mixing.{ccorOf, dnetOf}
 use Rattle.spline.specs.Nodes.{splintOf, searched, spliniOf, integral, segmentOf}
+use Rattle.spline_calls.specs.Outcome.{Outcome, gives, counted}
+use Rattle.spline_calls.specs.Calls.{threeLong, spliniCall, splintCall}
 use Rattle.setting.specs.declared.Input.{Input}
 use Rattle.setting.specs.declared.State.{State}
-use Rattle.setting.specs.Switches.{given, swOf, swcOf}
+use Rattle.setting.specs.Switches.{given, isOne, swOf, swcOf}
 use Rattle.setting.specs.ApHistory.{asksHistoryOf, lacksHistoryOf}
 use Rattle.setting.specs.Cases.{s5, s6}
 use Rattle.expansion_calls.specs.declared.Expanded.{Expanded}
@@ -22,19 +25,22 @@ use Rattle.expansion_calls.specs.ExpansionCalls.{acceptedCall, glob7sCallOf}
 use Rattle.expansion_calls.specs.Cases.{s7}
 use Rattle.acceptance.specs.declared.Answer.{Answer}
 use Rattle.acceptance.specs.declared.Answer.the-variants.{Accepted, Refused}
-use Rattle.acceptance.specs.Acceptance.{withinOf, arrayUnfitOf, unfitOf, arrayOutsideOf, outsideOf, foundOf, judgedOf}
+use Rattle.acceptance.specs.Acceptance.{withinOf, arrayUnfitOf, unfitOf, arrayOutsideOf, outsideOf, foundOf, judgedOf, unmixedOf, recordAnswer}
 use Rattle.acceptance.specs.Cases.{sample, array-there}
+use Rattle.atmosphere.specs.Atmosphere.{answerOf}
 
 -- a case: what the definition gives, and document 01's figure or answer
 pub data Case : Type 0 where
   number : Float → Float → Case
   answer : Answer → Answer → Case
   expanded : Expanded → Expanded → Case
+  outcome : Outcome Float → Outcome Float → Case
 
 abbrev pub Holds : Case → Type 0
 Holds (number x y) = x ≡ y
 Holds (answer x y) = x ≡ y
 Holds (expanded x y) = x ≡ y
+Holds (outcome x y) = x ≡ y
 
 abbrev pub Every : List Case → Type 0
 Every [] = Unit
@@ -60,10 +66,10 @@ cases zhm xmm xm r w p n s =
     number (swOf w ‼ 3) 0·0 ∷ number (swcOf w ‼ 3) 1·0 ∷
     number (swOf w ‼ 9) 2·0 ∷ number (swcOf w ‼ 9) 2·0 ∷
     expanded (glob7sCallOf w n p s) (acceptedCall (neg 1·0) s) ∷
-    answer (judgedOf w (sample 400·0 (neg 1000·0))) Accepted ∷
-    answer (judgedOf w (sample 400·0 (neg (dec 10005 1)))) (Refused 3 5) ∷
-    number (splintOf xa ya y2a 2 0·5) 3·0 ∷
-    number (spliniOf xa ya y2a 2 0·5) (dec 125 2) ∷
+    answer (answerOf w (sample 400·0 (neg 1000·0)) 11) Accepted ∷
+    answer (answerOf w (sample 400·0 (neg (dec 10005 1))) 11) (Refused 3 5) ∷
+    outcome (splintCall xa ya y2a 2 0·5) (gives 3·0) ∷
+    outcome (spliniCall xa ya y2a 2 0·5) (gives (dec 125 2)) ∷
     []
 
 mixing-holds : (zhm xmm xm r : Float)
@@ -71,13 +77,25 @@ mixing-holds : (zhm xmm xm r : Float)
 unfolding dnetOf ccorOf expOf coarse fine ofBits add sub mul div lt eq neg isNan round
 mixing-holds zhm xmm xm r = (refl, refl, refl, refl)
 
-spline-holds : (splintOf xa ya y2a 2 0·5 ≡ 3·0) × (spliniOf xa ya y2a 2 0·5 ≡ dec 125 2)
-unfolding splintOf searched spliniOf integral segmentOf ofBits dec add sub mul div lt eq neg round
+spline-holds : (splintCall xa ya y2a 2 0·5 ≡ gives 3·0) × (spliniCall xa ya y2a 2 0·5 ≡ gives (dec 125 2))
+unfolding splintCall spliniCall threeLong counted splintOf searched spliniOf integral segmentOf ofBits dec add sub mul div lt eq neg round
 spline-holds = (refl, refl)
 
-longitude-holds : (w : List ℤ) → (judgedOf w (sample 400·0 (neg 1000·0)) ≡ Accepted) × (judgedOf w (sample 400·0 (neg (dec 10005 1))) ≡ Refused 3 5)
+longitude-judged : (w : List ℤ) → (judgedOf w (sample 400·0 (neg 1000·0)) ≡ Accepted) × (judgedOf w (sample 400·0 (neg (dec 10005 1))) ≡ Refused 3 5)
 unfolding judgedOf lacksHistoryOf outsideOf arrayOutsideOf unfitOf arrayUnfitOf foundOf withinOf finiteOf dec neg le lt round ofBits
-longitude-holds w = (rw (array-there (asksHistoryOf w)) refl, rw (array-there (asksHistoryOf w)) refl)
+longitude-judged w = (rw (array-there (asksHistoryOf w)) refl, rw (array-there (asksHistoryOf w)) refl)
+
+-- at 400 km 10 does not occur, whatever switch 15 is
+high-mixed : (one : Bool) (longitude : Float) → unmixedOf one ((sample 400·0 longitude) .alt) ≡ false
+unfolding unmixedOf lt ofBits
+high-mixed true longitude = refl
+high-mixed false longitude = refl
+
+longitude-holds : (w : List ℤ) → (answerOf w (sample 400·0 (neg 1000·0)) 11 ≡ Accepted) × (answerOf w (sample 400·0 (neg (dec 10005 1))) 11 ≡ Refused 3 5)
+unfolding answerOf recordAnswer
+longitude-holds w =
+    let j = longitude-judged w in
+    (rw (j .0, high-mixed (isOne (given w 15)) (neg 1000·0)), rw (j .1))
 
 -- Each case holds: S5 and S6 where switches 3 and 9 are at 2, S7 where there are 100 to 150 coefficients and p[99] = 1.
 pub cases-hold : (zhm xmm xm r : Float) (w : List ℤ) (p : List Float) (n : Input) (s : State)

@@ -1,7 +1,7 @@
 -- What holds of every descent: start minus end is the sum of the losses, it never rises and never falls below 200 km, it can be flown in two parts; 18's
 -- place; and what an accepted call's start, settings and list are.
 use Prim.Native.Nat.{ℕ, zero, suc, _+_, _-_, _<_, _≤_}
-use mathlib.Core.Path.{_≡_, refl, sym, ap, _∙_, subst}
+use mathlib.Core.Path.{_≡_, refl, sym, ap, _∙_}
 use mathlib.Core.Bool.{Bool, true, false, cond, not, true≢false, false≢true}
 use mathlib.Core.List.{List, [], _∷_, _++_, map}
 use native.Mathlib.Nat.{le-refl}

@@ -1,4 +1,4 @@
--- exp below -708, where the result may be below 2 ^ -1022; that it is what it was elsewhere; and that it is never negative. Assumes nothing.
+-- exp up to -708, where the result may be below 2 ^ -1022; that it is what it was elsewhere; and that it is never negative. Assumes nothing.
 use mathlib.Core.Path.{_≡_, refl, sym, ap, _∙_, subst}
 use mathlib.Core.Bool.{Bool, true, false, not, cond}
 use Prim.Native.Nat.{ℕ, zero, suc, _+_, _-_, _*_, _/_, _%_, _^_, _≤_, _<_, compare, Ordering, Ordering·lt, Ordering·eq, Ordering·gt}
@@ -97,14 +97,17 @@ faint-lt v P C h k p g = mul-lt-mul-of-pos-right (lt-of-lt-of-le (mul-lt-mul-of-
     room : (P : ℕ) → P ≤ 2 ^ 65 → 2 ^ 53 * P ≤ 2 ^ 118
     room P h = omega arith
 
-pub exp-tail : (x : Float) → lt x least ≡ false → lt x faint ≡ true
+pub exp-tail : (x : Float) → isNan x ≡ false → lt x least ≡ false → lt faint x ≡ false
     → (r : ℕ) × HasValue (expOf x) false r (2 ^ 1074) × (r * 2 ^ 64 ≤ fadingOf x + 2 ^ 64) × (fadingOf x ≤ r * 2 ^ 64 + 2 ^ 64)
 unfolding lt isNan
-exp-tail nan h k = clash (sym k)
-exp-tail (inf true) h k = clash h
-exp-tail (inf false) h k = clash (sym k)
-exp-tail (fin false m e) h k = clash (sym k)
-exp-tail (fin true m e) h k =
+exp-tail nan n h k = clash n
+exp-tail (inf true) n h k = clash h
+exp-tail (inf false) n h k = clash k
+exp-tail (fin false m e) n h k = absurd (none (177 * 2 ^ 2 * down e) (m * up e * 1) (mul-pos (lit≤ {m = 1} {n = 708} tt) (down-pos e)) (ltb-false 0 (177 * 2 ^ 2 * down e + m * up e * 1) k))
+  where
+    none : (a b : ℕ) → 0 < a → a + b ≤ 0 → ⊥
+    none a b g l = omega arith
+exp-tail (fin true m e) n h k =
     let x = fin true m e in
     let p = m * up e in
     let d = down e in
@@ -112,8 +115,8 @@ exp-tail (fin true m e) h k =
     let N = timesOf M + 1 in
     let v = kernelOf (expRest 1 M N) in
     let P = 2 ^ (1087 - N) in
-    let g : 708 * d < p * 1 = ltb-true (708 * d) (p * 1) k in
-    let o : over 1 x ≡ true = lt-ltb (1 * d) p (above p d g) in
+    let g : 708 * d ≤ p * 1 = ltb-false (p * 1) (708 * d) k in
+    let o : over 1 x ≡ true = lt-ltb (1 * d) p (above p d (down-pos e) g) in
     let w : Within x 745 = plain p d (ltb-false (745 * 1 * d) (p * 1) h) in
     let f : 708 * 2 ^ 53 ≤ M = le-div-iff-mul-le (down-pos e) .1 (many p d (2 ^ 53) g) in
     let b = kernel-lt (expRest 1 M N) (reduced 1 M (lit≤ {m = 1} {n = 1} tt) (within-scaled 53 745 x w) (λ z. absurd (not-suc-le-zero (le-of-eq z))) .inside) in
@@ -124,14 +127,14 @@ exp-tail (fin true m e) h k =
       le-of-mul-le-mul-right (second (z .0) (v / 128 * P) (2 ^ 1074) (z .3)) (pow-pos 1074),
     )
   where
-    above : (p d : ℕ) → 708 * d < p * 1 → 1 * d < p
-    above p d h = omega arith
+    above : (p d : ℕ) → 0 < d → 708 * d ≤ p * 1 → 1 * d < p
+    above p d g h = omega arith
 
     plain : (p d : ℕ) → p * 1 ≤ 745 * 1 * d → p ≤ 745 * d
     plain p d h = omega arith
 
-    many : (p d c : ℕ) → 708 * d < p * 1 → 708 * c * d ≤ p * c
-    many p d c h = omega (arith, mul-le-mul-right c (le-of-lt h))
+    many : (p d c : ℕ) → 708 * d ≤ p * 1 → 708 * c * d ≤ p * c
+    many p d c h = omega (arith, mul-le-mul-right c h)
 
     first : (r a c : ℕ) → r * (2 ^ 64 * c) ≤ a * c + 2 ^ 64 * c → r * 2 ^ 64 * c ≤ (a + 2 ^ 64) * c
     first r a c h = omega arith

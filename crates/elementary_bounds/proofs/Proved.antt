@@ -12,13 +12,13 @@ use lib.Ieee.{Float, nan, inf, fin, binary64, up, down, fits, neg, lt, eq, isNan
 use lib.Ieee.Back.{whole-unique}
 use lib.Ieee.Exact.{HasValue}
 use lib.Ieee.Fits.{and-l, and-r, down-pos}
-use Rattle.fixed_point.specs.Float.{over, unit, nought}
+use Rattle.fixed_point.specs.Float.{Within, over, unit, nought}
 use Rattle.fixed_point.proofs.Range.{clash, not-negative, passes-left, passes-right}
 use Rattle.exponential_tables.specs.Tables.{coarse, fine}
 use Rattle.natural_exponential.specs.Exp.{expOf, most, least}
 use Rattle.natural_exponential.proofs.Cases.{exp-most, exp-least, least-most}
 use Rattle.natural_logarithm.specs.Log.{fractionOf, differenceOf, logOf}
-use Rattle.natural_logarithm.proofs.LogCases.{difference-plus, difference-minus, log-negative, log-one}
+use Rattle.natural_logarithm.proofs.LogCases.{difference-plus, difference-minus, log-negative, log-zero, log-one, zeroes, log-else}
 use Rattle.circular_tables.specs.Tables.{sines, cosines}
 use Rattle.circular_functions.specs.Trig.{sinOf, cosOf}
 use Rattle.circular_functions.proofs.TrigCases.{sin-over, cos-over}
@@ -27,7 +27,7 @@ use Rattle.square_root.proofs.RootCases.{sqrt-negative}
 use Rattle.elementary.specs.Pow.{wholeExponent, powerProduct, powOf}
 use Rattle.elementary.proofs.PowCases.{pow-two, pow-whole, pow-of-zero, pow-of-infinity, pow-rest, sides-above, sides-below, rest-negative, rest-nan, rest-nan-exponent, rest-is}
 use Rattle.elementary_bounds.specs.Series.{NearLog}
-use Rattle.elementary_bounds.specs.Theorems.{numerator, denominator, HasDifference, ExpNear, ExpTail, ExpKept, ExpSome, ExpPlus, SinNear, CosNear, LogNear, LogTail, LogSize, SinSize, CosSize, SqrtNear, ExpZero, ExpEnds, LogEnds, SinCosZero, SinBeyond, CosBeyond, SqrtEnds, PowTwo, PowRules, PowWhole, PowLast}
+use Rattle.elementary_bounds.specs.Theorems.{numerator, denominator, HasDifference, ExpNear, ExpTail, ExpKept, ExpSome, ExpPlus, SinNear, CosNear, LogNear, LogTail, LogMinus, LogSize, SinSize, CosSize, SqrtNear, ExpZero, ExpEnds, LogEnds, SinCosZero, SinBeyond, CosBeyond, SqrtEnds, PowTwo, PowRules, PowWhole, PowLast}
 use Rattle.elementary_bounds.proofs.ExpNear.{exp-near}
 use Rattle.elementary_bounds.proofs.ExpTail.{exp-tail, exp-kept, exp-plus}
 use Rattle.elementary_bounds.proofs.ExpSome.{exp-some}
@@ -294,6 +294,22 @@ log-zeros false = refl
 pub LogEnds-is : LogEnds
 unfolding logOf isNan lt eq
 LogEnds-is = (refl, λ x h. log-negative x (passes-left x nought h) h, log-zeros, refl, refl)
+
+log-plus : (x : Float) → eq x (inf false) ≡ true → logOf x ≡ inf false
+unfolding logOf isNan lt eq
+log-plus nan e = clash (sym e)
+log-plus (inf true) e = clash (sym e)
+log-plus (inf false) e = refl
+log-plus (fin s m i) e = clash (sym e)
+
+pub LogMinus-is : LogMinus
+LogMinus-is x fx = (λ h. only h (eq x nought) refl (lt nought x) refl (eq x (inf false)) refl, λ e. log-zero x (zeroes x e .0) (zeroes x e .1) e)
+  where
+    only : logOf x ≡ inf true → (z : Bool) → eq x nought ≡ z → (a : Bool) → lt nought x ≡ a → (i : Bool) → eq x (inf false) ≡ i → z ≡ true
+    only h true e a l i f = refl
+    only h false e false l i f = cc (log-else x l e)
+    only h false e true l true f = cc (log-plus x f)
+    only h false e true l false f = absurd (subst (λ (y : Float). Within y 1024) h (log-size x fx l f))
 
 pub SinCosZero-is : SinCosZero
 unfolding sinOf cosOf sines cosines round

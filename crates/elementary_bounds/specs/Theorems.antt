@@ -73,11 +73,11 @@ LogNear =
 abbrev pub fadingOf : Float → ℕ
 fadingOf x = kernelOf (expRest 1 (scaledOf 53 x) (timesOf (scaledOf 53 x) + 1)) / 128 * 2 ^ (1087 - (timesOf (scaledOf 53 x) + 1))
 
--- From -745 up to -708, exp x is r / 2 ^ 1074 exactly, for an r within 1 of fadingOf x / 2 ^ 64: it lies within 2 ^ -1074 of the fraction.
--- There, and nowhere else, it may be below 2 ^ -1022.
+-- From -745 up to -708, both included, exp x is r / 2 ^ 1074 exactly, for an r within 1 of fadingOf x / 2 ^ 64: it lies within 2 ^ -1074 of the fraction.
+-- That is a bound of rounding; how near the fraction is to e ^ x is not said here. Below 2 ^ -1022 exp may be there, and nowhere else.
 abbrev pub ExpTail : Type 0
 ExpTail =
-    (x : Float) → lt x least ≡ false → lt x faint ≡ true
+    (x : Float) → isNan x ≡ false → lt x least ≡ false → lt faint x ≡ false
     → (r : ℕ) × HasValue (expOf x) false r (2 ^ 1074) × (r * 2 ^ 64 ≤ fadingOf x + 2 ^ 64) × (fadingOf x ≤ r * 2 ^ 64 + 2 ^ 64)
 
 -- From -708 to 709, exp x is the nearest float to the same number over 2 ^ 1074, with an exponent from 1 on.
@@ -93,6 +93,11 @@ abbrev pub LogTail : Type 0
 LogTail =
     (x : Float) → T (fits binary64 x) → lt nought x ≡ true → lt x tiny ≡ true
     → (e : ℕ) × (t : ℕ) × (1 ≤ e) × (t < 2 ^ 52) × ((2 ^ 52 + t) * 2 ^ (e - 1) * denominator x ≡ numerator x * 2 ^ 54 * 2 ^ 1074) × (logOf x ≡ logDigits 54 e t)
+
+-- log gives -infinity for the two zeros, which are the floats that equal 0, and for nothing else.
+-- The other way round as well.
+abbrev pub LogMinus : Type 0
+LogMinus = (x : Float) → T (fits binary64 x) → (logOf x ≡ inf true → eq x nought ≡ true) × (eq x nought ≡ true → logOf x ≡ inf true)
 
 -- ---- sizes
 
