@@ -2,7 +2,8 @@
    switch rows, from a prepared station and orbit by orbit in a descent, two boards' logs held against each other, and the elementary functions it is built on. Nothing is kept between calls; only memcpy and memset are needed from
    outside. docs/RULES.md has every rule.
 
-   An answer of 2^32 or more is a refusal: its number times 2^32 plus a place. The numbers: 1 a history that switch 9 asks for is absent; 2 a field is NaN or
+   An answer of 2^32 or more is a refusal: its number times 2^32 plus a place, which is cut to its lower 32 bits (only 18, of more than 2^32 settings, has a
+   place that this changes). The numbers: 1 a history that switch 9 asks for is absent; 2 a field is NaN or
    infinite; 3 a field is out of range; 4 a slice has not the length needed; 5 too many altitudes, or a node count out of range; 6 a coefficient set of the wrong
    length; 7 a line that is no form of the line program; 8 altitudes that do not rise; 9 a buffer shorter than its list; 10 below 72.5 km N2 is not mixed; 11, 12, 13
    a line of a table of bands that is no band, overlaps, or leaves a gap; 14 a board's log too long or uneven; 15 a board's seconds that do not rise; 16 one of nine
@@ -107,16 +108,16 @@ uint64_t potirehu_station_gtd7d(const int32_t *whole, size_t n_whole, const doub
 
 /* Changes sec, the seconds of the day. Answers 0; or 4 at the length needed, for whole or numbers, then what potirehu_gtd7 refuses of the changed
    record, its altitude not looked at, and leaves the station as it was. */
-uint64_t potirehu_station_sec(int32_t *whole, size_t n_whole, double *numbers, size_t n_numbers, double sec);
+uint64_t potirehu_station_sec(const int32_t *whole, size_t n_whole, double *numbers, size_t n_numbers, double sec);
 
 /* Changes lst, the local time, as potirehu_station_sec changes sec; lst does not follow sec or g_long by itself. */
-uint64_t potirehu_station_lst(int32_t *whole, size_t n_whole, double *numbers, size_t n_numbers, double lst);
+uint64_t potirehu_station_lst(const int32_t *whole, size_t n_whole, double *numbers, size_t n_numbers, double lst);
 
 /* Changes g_long, the longitude, in the same way. */
-uint64_t potirehu_station_g_long(int32_t *whole, size_t n_whole, double *numbers, size_t n_numbers, double g_long);
+uint64_t potirehu_station_g_long(const int32_t *whole, size_t n_whole, double *numbers, size_t n_numbers, double g_long);
 
 /* Changes f107a and f107 together, in the same way. */
-uint64_t potirehu_station_fluxes(int32_t *whole, size_t n_whole, double *numbers, size_t n_numbers, double f107a, double f107);
+uint64_t potirehu_station_fluxes(const int32_t *whole, size_t n_whole, double *numbers, size_t n_numbers, double f107a, double f107);
 
 /* Gives the station a new switch row: from then on every altitude and change gives what a station newly prepared with the same record and this row
    gives. Where the two rows mean the same in entries 1 to 14, no expansion is worked out again. Answers 0; or 4 at the length needed, for whole,

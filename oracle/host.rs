@@ -60,12 +60,12 @@ extern "C" {
     fn potirehu_station_gtd7(whole: *const i32, n_whole: usize, numbers: *const f64, n_numbers: usize, alt: f64, row: *mut f64, n_row: usize) -> u64;
     #[allow(dead_code)]
     fn potirehu_station_gtd7d(whole: *const i32, n_whole: usize, numbers: *const f64, n_numbers: usize, alt: f64, row: *mut f64, n_row: usize) -> u64;
-    fn potirehu_station_sec(whole: *mut i32, n_whole: usize, numbers: *mut f64, n_numbers: usize, sec: f64) -> u64;
-    fn potirehu_station_lst(whole: *mut i32, n_whole: usize, numbers: *mut f64, n_numbers: usize, lst: f64) -> u64;
-    fn potirehu_station_g_long(whole: *mut i32, n_whole: usize, numbers: *mut f64, n_numbers: usize, g_long: f64) -> u64;
+    fn potirehu_station_sec(whole: *const i32, n_whole: usize, numbers: *mut f64, n_numbers: usize, sec: f64) -> u64;
+    fn potirehu_station_lst(whole: *const i32, n_whole: usize, numbers: *mut f64, n_numbers: usize, lst: f64) -> u64;
+    fn potirehu_station_g_long(whole: *const i32, n_whole: usize, numbers: *mut f64, n_numbers: usize, g_long: f64) -> u64;
     #[allow(dead_code)]
     fn potirehu_station_switches(whole: *mut i32, n_whole: usize, numbers: *mut f64, n_numbers: usize, switches: *const i32, n_switches: usize) -> u64;
-    fn potirehu_station_fluxes(whole: *mut i32, n_whole: usize, numbers: *mut f64, n_numbers: usize, f107a: f64, f107: f64) -> u64;
+    fn potirehu_station_fluxes(whole: *const i32, n_whole: usize, numbers: *mut f64, n_numbers: usize, f107a: f64, f107: f64) -> u64;
 }
 
 // The whole number behind a macro of the C header, read where this is compiled; a header without the macro does not compile.
@@ -167,8 +167,8 @@ pub enum Change {
     Fluxes(f64, f64),
 }
 
-pub fn station_change(whole: &mut [i32], numbers: &mut [f64], change: Change) -> (u64, u64) {
-    let (w, n_w, n, n_n) = (whole.as_mut_ptr(), whole.len(), numbers.as_mut_ptr(), numbers.len());
+pub fn station_change(whole: &[i32], numbers: &mut [f64], change: Change) -> (u64, u64) {
+    let (w, n_w, n, n_n) = (whole.as_ptr(), whole.len(), numbers.as_mut_ptr(), numbers.len());
     parted(unsafe {
         match change {
             Change::Sec(x) => potirehu_station_sec(w, n_w, n, n_n, x),

@@ -70,7 +70,7 @@ impl Memory {
     }
 
     fn change(&mut self, n: &Lengths, change: Change) -> (u64, u64) {
-        station_change(&mut self.whole[GUARD..GUARD + n.whole], &mut self.numbers[GUARD..GUARD + n.numbers], change)
+        station_change(&self.whole[GUARD..GUARD + n.whole], &mut self.numbers[GUARD..GUARD + n.numbers], change)
     }
 
     fn switch(&mut self, n: &Lengths, w: &[i32]) -> (u64, u64) {
@@ -530,7 +530,7 @@ fn prepared(r: &Input, w: &[i32; 24]) -> Station {
 }
 
 fn change(s: &mut Station, c: Change) -> f64 {
-    assert_eq!(station_change(&mut s.0, &mut s.1, c), (0, 0));
+    assert_eq!(station_change(&s.0, &mut s.1, c), (0, 0));
     s.1[0]
 }
 

@@ -24,7 +24,7 @@ pub type StationAltitude = unsafe extern "C" fn(
 /// A change of one number of a station.
 #[rustfmt::skip]
 pub type StationChange = unsafe extern "C" fn(
-    whole: *mut i32, n_whole: usize, numbers: *mut f64, n_numbers: usize, value: f64) -> u64;
+    whole: *const i32, n_whole: usize, numbers: *mut f64, n_numbers: usize, value: f64) -> u64;
 
 #[rustfmt::skip]
 extern "C" {
@@ -53,11 +53,11 @@ extern "C" {
         whole: *const i32, n_whole: usize, numbers: *const f64, n_numbers: usize, alt: f64, row: *mut f64, n_row: usize) -> u64;
     pub fn potirehu_station_gtd7d(
         whole: *const i32, n_whole: usize, numbers: *const f64, n_numbers: usize, alt: f64, row: *mut f64, n_row: usize) -> u64;
-    pub fn potirehu_station_sec(whole: *mut i32, n_whole: usize, numbers: *mut f64, n_numbers: usize, sec: f64) -> u64;
-    pub fn potirehu_station_lst(whole: *mut i32, n_whole: usize, numbers: *mut f64, n_numbers: usize, lst: f64) -> u64;
-    pub fn potirehu_station_g_long(whole: *mut i32, n_whole: usize, numbers: *mut f64, n_numbers: usize, g_long: f64) -> u64;
+    pub fn potirehu_station_sec(whole: *const i32, n_whole: usize, numbers: *mut f64, n_numbers: usize, sec: f64) -> u64;
+    pub fn potirehu_station_lst(whole: *const i32, n_whole: usize, numbers: *mut f64, n_numbers: usize, lst: f64) -> u64;
+    pub fn potirehu_station_g_long(whole: *const i32, n_whole: usize, numbers: *mut f64, n_numbers: usize, g_long: f64) -> u64;
     pub fn potirehu_station_fluxes(
-        whole: *mut i32, n_whole: usize, numbers: *mut f64, n_numbers: usize, f107a: f64, f107: f64) -> u64;
+        whole: *const i32, n_whole: usize, numbers: *mut f64, n_numbers: usize, f107a: f64, f107: f64) -> u64;
     pub fn potirehu_station_switches(
         whole: *mut i32, n_whole: usize, numbers: *mut f64, n_numbers: usize, switches: *const i32, n_switches: usize) -> u64;
     pub fn potirehu_descent(

@@ -82,10 +82,10 @@ impl Station {
 
     /// Changes f107a and f107 together.
     pub fn set_fluxes(&mut self, f107a: f64, f107: f64) -> Result<(), Refusal> {
-        let (whole, numbers) = (&mut self.whole, &mut self.numbers);
-        // SAFETY: each pointer goes with the length of the array it is of; both are lent to us alone.
+        let (whole, numbers) = (&self.whole, &mut self.numbers);
+        // SAFETY: each pointer goes with the length of the array it is of; numbers is lent to us alone.
         let answer =
-            unsafe { ffi::potirehu_station_fluxes(whole.as_mut_ptr(), whole.len(), numbers.as_mut_ptr(), numbers.len(), f107a, f107) };
+            unsafe { ffi::potirehu_station_fluxes(whole.as_ptr(), whole.len(), numbers.as_mut_ptr(), numbers.len(), f107a, f107) };
         accepted(answer).map(|_| ())
     }
 
@@ -115,9 +115,9 @@ impl Station {
     }
 
     fn change(&mut self, call: ffi::StationChange, value: f64) -> Result<(), Refusal> {
-        let (whole, numbers) = (&mut self.whole, &mut self.numbers);
-        // SAFETY: each pointer goes with the length of the array it is of; both are lent to us alone.
-        let answer = unsafe { call(whole.as_mut_ptr(), whole.len(), numbers.as_mut_ptr(), numbers.len(), value) };
+        let (whole, numbers) = (&self.whole, &mut self.numbers);
+        // SAFETY: each pointer goes with the length of the array it is of; numbers is lent to us alone.
+        let answer = unsafe { call(whole.as_ptr(), whole.len(), numbers.as_mut_ptr(), numbers.len(), value) };
         accepted(answer).map(|_| ())
     }
 }
