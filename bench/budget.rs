@@ -124,7 +124,10 @@ const TURNS: [(&str, Turn); 6] = [
 const OTHERS: usize = 0;
 
 // A record at 512 altitudes from 0 to 1,000 km, and the indices whose density is asked to be the first below a level.
-const HITS: [usize; 4] = [0, 31, 127, 511];
+const HITS: [usize; 5] = [0, 31, 127, 255, 511];
+
+// What the call answers where no density is below the level.
+const NOWHERE: u64 = u32::MAX as u64;
 
 fn thin() -> (Case, Vec<f64>, Vec<f64>) {
     let c = cases(OTHERS, 0, 1).remove(0);
@@ -186,12 +189,17 @@ fn count(records: usize) {
     let (c, alts, densities) = thin();
     let (fields, ap, n_ap) = numbers(&c.input);
     request(0);
-    for k in HITS {
-        let level = f64::from_bits(densities[k].to_bits() + 1);
+    let mut rows = vec![0.0; 11 * alts.len()];
+    for (level, k) in HITS.map(|k| (f64::from_bits(densities[k].to_bits() + 1), k as u64)).into_iter().chain([(0.0, NOWHERE)]) {
         let mut row = [0.0; 11];
         counted(|| {
-            assert_eq!(first_below(c.input.year, c.input.doy, &fields, &ap[..n_ap], &c.row, &alts, level, &mut row), (0, k as u64));
+            assert_eq!(first_below(c.input.year, c.input.doy, &fields, &ap[..n_ap], &c.row, &alts, level, &mut row), (0, k));
             row[5]
+        });
+        let ends = alts.len().min(k as usize + 1);
+        counted(|| {
+            assert_eq!(ours_column(&c.input, &c.row, &alts[..ends], &mut rows), (0, 0));
+            rows[5]
         });
     }
 }
@@ -321,10 +329,11 @@ fn table(records: usize, path: &str) {
     }
     // one file for the column that the levels are made from
     next();
-    println!("\nThe first altitude thin enough of 512 from 0 to 1,000 km:\n\n| index | rows worked out | instructions |\n|---|---|---|");
-    for k in HITS {
-        let w = next();
-        println!("| {k} | {} | {} |", thousands(w.rows), thousands(w.instructions));
+    println!("\nThe first altitude thin enough of 512 from 0 to 1,000 km, beside a column that ends there:\n");
+    println!("| index | rows worked out | instructions | the column's | ratio |\n|---|---|---|---|---|");
+    for k in HITS.map(|k| k.to_string()).into_iter().chain(["none".to_string()]) {
+        let (w, column) = (next(), next().instructions);
+        println!("| {k} | {} | {} | {} | {:.3} |", thousands(w.rows), thousands(w.instructions), thousands(column), w.instructions as f64 / column as f64);
     }
     println!();
 }

@@ -1,34 +1,47 @@
--- The rows looked at altitude by altitude, and the call's outcomes.
+-- What a walk stores and the rows that it looks at, altitude by altitude, and the call's outcomes.
 use mathlib.Core.Path.{_≡_, refl, sym, ap, _∙_}
 use mathlib.Core.Bool.{Bool, true, false, cond, not, false≢true, true≢false}
-use mathlib.Core.List.{List, [], _∷_, _++_, append-assoc, append-nil}
+use mathlib.Core.List.{List, [], _∷_, _++_}
 use Prim.Native.Nat.{ℕ, zero, suc, _+_, _*_, _-_, _<_, _≤_}
 use native.Mathlib.Omega.{arith}
-use borrow.Author.Tests.{eqb-true, eq-eqb, ne-eqb}
+use borrow.Author.Tests.{eqb-true, eq-eqb, ne-eqb, not-false}
 use lib.Dec.{eqb}
 use lib.IntN.{ℤ}
-use lib.ListN.{length, take, drop, getD, replicate}
-use lib.Seq.{take-at, drop-at}
-use lib.Ieee.{Float, nan}
+use lib.ListN.{length, take}
+use lib.Seq.{length-take-le}
+use lib.Ieee.{Float, le}
 use Rattle.numbers.specs.Arithmetic.{_‼_}
-use Rattle.numbers.specs.Literals.{0·0}
+use Rattle.numbers.specs.Literals.{2500·0}
 use Rattle.setting.specs.declared.Input.{Input}
+use Rattle.setting.specs.declared.View.{View}
+use Rattle.setting.specs.declared.Flags.{Flags}
+use Rattle.setting.specs.Switches.{flagsOf}
 use Rattle.setting.specs.View.{viewOf}
 use Rattle.acceptance.specs.declared.Answer.{Answer}
 use Rattle.acceptance.specs.declared.Answer.the-variants.{Accepted, Refused}
-use Rattle.acceptance.specs.Acceptance.{acceptedOf}
-use Rattle.stored.specs.Stored.{rowStored}
+use Rattle.acceptance.specs.Acceptance.{acceptedOf, withAltOf}
+use Rattle.needed_sets.specs.declared.Need.{Need}
+use Rattle.expansion_values.specs.declared.RecordValues.{RecordValues}
+use Rattle.expansion_values.specs.ExpansionValues.{expansionValuesOf, recordValuesOf}
+use Rattle.gts7_arithmetic.specs.declared.Site.{Site}
+use Rattle.gts7_arithmetic.specs.Gts7Arithmetic.{siteOf}
+use Rattle.atmosphere.specs.Atmosphere.{elevenOf}
+use Rattle.stored_parts.specs.declared.Parts.{Parts}
+use Rattle.stored_parts.specs.Parts.{partsAt, noParts, eitherParts, servesOf, reachedOf}
+use Rattle.stored_parts.specs.Reached.{serves-holds, none-serves, reached-serves, tropo-more, tropo-less}
+use Rattle.stored.specs.Stored.{needOf, storedOf, storedIn, rowStored}
+use Rattle.stored.specs.Eleven.{stored-eleven}
+use Rattle.stored.specs.Reached.{Serves, stored-in-length, stored-laid, serves-both}
 use Rattle.altitudes.specs.Altitudes.{altitudesFrom, columnAnswer}
-use Rattle.altitudes.proofs.Laws.{accepted-altitudes}
+use Rattle.altitudes.proofs.Laws.{accepted-altitudes, not-above}
 use Rattle.column.specs.Column.{columnRows}
-use Rattle.column.specs.Parts.{storedFor, rowsStored}
-use Rattle.column.proofs.Laws.{more-length, rows-are}
 use Rattle.first_below_list.specs.declared.First.{First}
 use Rattle.first_below_list.specs.declared.First.the-variants.{At, Nowhere}
 use Rattle.first_below_list.specs.FirstBelowList.{isBelow, rowIn, firstFrom, firstBelow, firstRow}
 use Rattle.first_below_list.proofs.Laws.{hit, miss}
 use Rattle.first_below.specs.FirstBelow.{firstBelowChecked, firstBelowRefusedOr, firstOf, firstAnswer, firstAfter}
-use Rattle.first_below.specs.Theorems.{first-checked-column}
+use Rattle.first_below.specs.Walk.{partsGrown, numbersGrown}
+use Rattle.first_below.specs.Theorems.{its-row, first-checked-column}
 
 -- ---- the checks
 
@@ -51,78 +64,119 @@ module _ (w : List ℤ) (n : Input) (alts : List Float) (len : ℕ) where
 
 -- ---- the walk
 
-module _ (sw0 sw15 : Float) (s : List Float) where
-  split : (alts : List Float) (k : ℕ) → k < length alts
-      → rowsStored sw0 sw15 s alts ≡ rowsStored sw0 sw15 s (take k alts) ++ (rowStored sw0 sw15 s (getD alts k nan) ++ rowsStored sw0 sw15 s (drop (suc k) alts))
-  unfolding rowsStored
-  split [] k h = absurd (none h)
-    where
-      none : k < 0 → ⊥
-      none g = omega arith
-  split (z ∷ zs) zero h = refl
-  split (z ∷ zs) (suc k) h =
-      ap (λ (r : List Float). rowStored sw0 sw15 s z ++ r) (split zs k (omega arith)) ∙ sym (append-assoc (rowStored sw0 sw15 s z) (rowsStored sw0 sw15 s (take k zs)) _)
+-- every altitude that the parts h serve has its row among the numbers xs
+abbrev pub Served : List ℤ → Input → Parts → List Float → Type 0
+Served w n h xs = Serves ((viewOf w n) .sw ‼ 0) ((viewOf w n) .sw ‼ 15) (λ (z : Float). elevenOf w (withAltOf n z)) h xs
+
+-- at the start nothing is there
+pub nothing-served : (w : List ℤ) (n : Input) (h : Parts) (xs : List Float) → h ≡ noParts → Served w n h xs
+nothing-served w n h xs e z fits s = absurd (false≢true (sym (none-serves z) ∙ (ap (λ (k : Parts). servesOf k z) (sym e) ∙ s)))
+
+pub effect-of : (w : List ℤ) (n : Input) (f : Flags) (i : ℕ) → f ≡ flagsOf w → f .sw ‼ i ≡ (viewOf w n) .sw ‼ i
+unfolding flagsOf viewOf
+effect-of w n f i e = ap (λ (g : Flags). g .sw ‼ i) e
+
+module _ (w : List ℤ) (n : Input) (h : Parts) (z : Float) (xs : List Float) (len : length xs ≡ 234) where
+  abbrev v : View
+  v = viewOf w n
+
+  abbrev x : Site
+  x = siteOf (v .sw) (n .«g_lat») (v .doy) (n .f107a)
+
+  abbrev p : Parts
+  p = reachedOf (partsAt z) h
+
+  -- what a column would have stored of the parts p serves them
+  fresh : Served w n p (take 14 xs ++ storedOf p (v .sw) x (expansionValuesOf v (needOf p)))
+  fresh y fits s = stored-eleven w n p (take 14 xs) y (length-take-le 14 xs (omega (arith, len))) fits (serves-holds p y s)
+
+  pub grown-served : Served w n h xs → Served w n (partsGrown h z) (numbersGrown w n h z xs)
+  unfolding partsGrown numbersGrown
+  grown-served s =
+      serves-both (v .sw ‼ 0) (v .sw ‼ 15) (λ (y : Float). elevenOf w (withAltOf n y)) p h _ xs _ fresh s (stored-laid p (v .sw) x (expansionValuesOf v (needOf p)) xs len)
+      (tropo-more (partsAt z) h) (tropo-less z h)
+
+  pub grown-serves : servesOf (partsGrown h z) z ≡ true
+  unfolding partsGrown
+  grown-serves = reached-serves h z
+
+  pub grown-long : length (numbersGrown w n h z xs) ≡ 234
+  unfolding numbersGrown
+  grown-long = stored-in-length p (v .sw) x (expansionValuesOf v (needOf p)) xs len
+
+  -- what a walk stores at an altitude
+  pub grows : (q r k : Parts) (a : Need) (u : RecordValues) (y : Site) (ys : List Float)
+      → q ≡ partsAt z → r ≡ reachedOf q h → a ≡ needOf r → u ≡ recordValuesOf w n a
+      → y ≡ siteOf (u .sw) (n .«g_lat») (u .doy) (n .f107a) → ys ≡ storedIn r (u .sw) y (u .values) xs → k ≡ eitherParts h r
+      → (k ≡ partsGrown h z) × (ys ≡ numbersGrown w n h z xs)
+  unfolding partsGrown numbersGrown recordValuesOf
+  grows q r k a u y ys eq er ea eu ey es ek = (rw (ek, er, eq), rw (es, ey, eu, ea, er, eq))
+
+-- the row of an altitude that is served is its own
+pub row-is : (w : List ℤ) (n : Input) (h : Parts) (z : Float) (xs one : List Float) (sw0 sw15 : Float)
+    → Served w n h xs → le z 2500·0 ≡ true → servesOf h z ≡ true → sw0 ≡ (viewOf w n) .sw ‼ 0 → sw15 ≡ (viewOf w n) .sw ‼ 15
+    → one ≡ rowStored sw0 sw15 xs z → one ≡ elevenOf w (withAltOf n z)
+row-is w n h z xs one sw0 sw15 s fits t e0 e15 e = e ∙ rw (e0, e15) (s z fits t)
+
+-- the same of what was grown, with what is then there
+pub grown-is : (w : List ℤ) (n : Input) (h : Parts) (z : Float) (xs : List Float) → length xs ≡ 234 → Served w n h xs → (k : Parts) (ys : List Float)
+    → k ≡ partsGrown h z → ys ≡ numbersGrown w n h z xs → Served w n k ys × (servesOf k z ≡ true) × (length ys ≡ 234)
+grown-is w n h z xs len s k ys ek ey =
+    (rw (ek, ey) (grown-served w n h z xs len s), rw ek (grown-serves w n h z xs len), rw ey (grown-long w n h z xs len))
+
+-- and of what was there already
+pub stayed-is : (w : List ℤ) (n : Input) (h : Parts) (z : Float) (xs : List Float) → length xs ≡ 234 → Served w n h xs → (b : Bool) → b ≡ servesOf h z → not b ≡ false
+    → (k : Parts) (ys : List Float) → k ≡ h → ys ≡ xs → Served w n k ys × (servesOf k z ≡ true) × (length ys ≡ 234)
+stayed-is w n h z xs len s b e f k ys ek ey = (rw (ek, ey) s, rw ek (sym e ∙ not-false b f), rw ey len)
+
+-- an accepted altitude is at most 2,500 km
+pub at-most : (k : ℕ) (alts : List Float) (i : ℕ) → altitudesFrom k alts ≡ Accepted → i < length alts → le (alts ‼ i) 2500·0 ≡ true
+at-most k [] i e h = absurd (none h)
+  where
+    none : i < 0 → ⊥
+    none g = omega arith
+at-most k (z ∷ zs) zero e h = not-above k z zs e .0
+at-most k (z ∷ zs) (suc i) e h = at-most (k + 1) zs i (not-above k z zs e .1) (omega arith)
+
+module _ (w : List ℤ) (n : Input) (alts : List Float) (level : Float) where
+  abbrev R : List Float
+  R = columnRows w n alts
 
   -- nothing looked at yet
-  pub start : (alts : List Float) (level : Float) → (length (rowsStored sw0 sw15 s (take (length alts - length alts) alts)) ≡ 11 * (length alts - length alts))
-      × (firstFrom level (rowsStored sw0 sw15 s alts) (length alts) (length alts - length alts) ≡ firstBelow level (rowsStored sw0 sw15 s alts) (length alts))
-  unfolding rowsStored
-  start alts level = let e : length alts - length alts ≡ 0 = omega arith in (rw e, rw e)
+  pub start : firstFrom level R (length alts) (length alts - length alts) ≡ firstBelow level R (length alts)
+  start = let e : length alts - length alts ≡ 0 = omega arith in rw e
 
-  -- the row `one` of the next altitude, where `left` are left
-  module _ (alts one : List Float) (left : ℕ) (h : left ≤ length alts) (g : 0 < left)
-      (long : length (rowsStored sw0 sw15 s (take (length alts - left) alts)) ≡ 11 * (length alts - left))
-      (e : one ≡ rowStored sw0 sw15 s (getD alts (length alts - left) nan)) (len : length one ≡ 11) where
-    its : rowIn (rowsStored sw0 sw15 s alts) (length alts - left) ≡ one
-    unfolding rowIn
-    its =
-        let A = rowsStored sw0 sw15 s (take (length alts - left) alts) in
-        let B = rowsStored sw0 sw15 s (drop (suc (length alts - left)) alts) in
-        rw (split alts (length alts - left) (omega arith), drop-at A (rowStored sw0 sw15 s (getD alts (length alts - left) nan) ++ B) (11 * (length alts - left)) long, ← e, take-at one B 11 len)
+  -- the row `one` of the next altitude, where `left` are left; the row xs becomes ys: `one` where that is below the level
+  module _ (one : List Float) (left : ℕ) (h : left ≤ length alts) (g : 0 < left) (e : one ≡ elevenOf w (withAltOf n (alts ‼ (length alts - left))))
+      (t : Bool) (f : t ≡ isBelow level one) (xs ys : List Float) (d : ys ≡ cond (isBelow level one) one xs)
+      (whole : firstFrom level R left (length alts - left) ≡ firstBelow level R (length alts)) where
+    its : rowIn R (length alts - left) ≡ one
+    its = its-row w n alts (length alts - left) (omega arith) ∙ sym e
 
-    -- the row xs becomes ys: `one` where that is below the level
-    module _ (level : Float) (t : Bool) (f : t ≡ isBelow level one) (xs ys : List Float) (w : ys ≡ cond (isBelow level one) one xs)
-        (whole : firstFrom level (rowsStored sw0 sw15 s alts) left (length alts - left) ≡ firstBelow level (rowsStored sw0 sw15 s alts) (length alts)) where
-      begun : firstFrom level (rowsStored sw0 sw15 s alts) (suc (left - 1)) (length alts - left) ≡ firstBelow level (rowsStored sw0 sw15 s alts) (length alts)
-      begun = let q : suc (left - 1) ≡ left = omega arith in rw q whole
+    begun : firstFrom level R (suc (left - 1)) (length alts - left) ≡ firstBelow level R (length alts)
+    begun = let q : suc (left - 1) ≡ left = omega arith in rw q whole
 
-      same : (b : Bool) → t ≡ b → isBelow level (rowIn (rowsStored sw0 sw15 s alts) (length alts - left)) ≡ b
-      same b u = ap (isBelow level) its ∙ (sym f ∙ u)
+    same : (b : Bool) → t ≡ b → isBelow level (rowIn R (length alts - left)) ≡ b
+    same b u = ap (isBelow level) its ∙ (sym f ∙ u)
 
-      pub thin : t ≡ true
-          → (At (length alts - left) ≡ firstBelow level (rowsStored sw0 sw15 s alts) (length alts)) × (ys ≡ rowIn (rowsStored sw0 sw15 s alts) (length alts - left))
-      thin u = (
-        sym (hit level (rowsStored sw0 sw15 s alts) (left - 1) (length alts - left) (same true u)) ∙ begun,
-        w ∙ (ap (λ (b : Bool). cond b one xs) (sym f ∙ u) ∙ sym its),
-      )
+    pub thin : t ≡ true → (At (length alts - left) ≡ firstBelow level R (length alts)) × (ys ≡ rowIn R (length alts - left))
+    thin u = (
+      sym (hit level R (left - 1) (length alts - left) (same true u)) ∙ begun,
+      d ∙ (ap (λ (b : Bool). cond b one xs) (sym f ∙ u) ∙ sym its),
+    )
 
-      pub thick : t ≡ false
-          → (ys ≡ xs) × (length (rowsStored sw0 sw15 s (take (length alts - (left - 1)) alts)) ≡ 11 * (length alts - (left - 1)))
-          × (firstFrom level (rowsStored sw0 sw15 s alts) (left - 1) (length alts - (left - 1)) ≡ firstBelow level (rowsStored sw0 sw15 s alts) (length alts))
-      thick u =
-          let q : length alts - (left - 1) ≡ length alts - left + 1 = omega arith in (
-            w ∙ ap (λ (b : Bool). cond b one xs) (sym f ∙ u),
-            rw q (more-length sw0 sw15 s alts one (length alts - left) (omega arith) e len long),
-            rw q (sym (miss level (rowsStored sw0 sw15 s alts) (left - 1) (length alts - left) (same false u)) ∙ begun),
-          )
+    pub thick : t ≡ false → (ys ≡ xs) × (firstFrom level R (left - 1) (length alts - (left - 1)) ≡ firstBelow level R (length alts))
+    thick u =
+        let q : length alts - (left - 1) ≡ length alts - left + 1 = omega arith in (
+          d ∙ ap (λ (b : Bool). cond b one xs) (sym f ∙ u),
+          rw q (sym (miss level R (left - 1) (length alts - left) (same false u)) ∙ begun),
+        )
 
 pub none-left : (level : Float) (rows : List Float) (left k : ℕ) → left ≡ 0 → Nowhere ≡ firstFrom level rows left k
 unfolding firstFrom
 none-left level rows left k e = rw e
 
 -- ---- the call
-
--- the rows out of what is stored are those of the record
-pub first-is : (w : List ℤ) (n : Input) (alts numbers sw : List Float) (level : Float) (xs ys : List Float) (r : First)
-    → sw ≡ (viewOf w n) .sw → numbers ≡ take 14 (replicate 234 0·0) ++ storedFor w n alts → altitudesFrom 0 alts ≡ Accepted
-    → r ≡ firstBelow level (rowsStored (sw ‼ 0) (sw ‼ 15) numbers alts) (length alts)
-    → ys ≡ firstRow r (rowsStored (sw ‼ 0) (sw ‼ 15) numbers alts) xs
-    → (r ≡ firstOf w n alts level) × (ys ≡ firstRow r (columnRows w n alts) xs)
-unfolding firstOf
-first-is w n alts numbers sw level xs ys r es en e f g =
-    let same : rowsStored (sw ‼ 0) (sw ‼ 15) numbers alts ≡ columnRows w n alts =
-    sym (append-nil _) ∙ (rows-are w n alts numbers sw [] es en e ∙ append-nil _) in
-    (f ∙ ap (λ (l : List Float). firstBelow level l (length alts)) same, g ∙ ap (λ (l : List Float). firstRow r l xs) same)
 
 refuses : (a : Answer) (x y : First) → acceptedOf a ≡ false → firstBelowRefusedOr a x ≡ firstBelowRefusedOr a y
 refuses Accepted x y h = absurd (true≢false h)

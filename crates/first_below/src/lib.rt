@@ -1,21 +1,31 @@
-// The first altitude of a column whose d[5] is below a level: document 02's W-214, over what is stored for the column's altitudes.
+// The first altitude of a column whose d[5] is below a level: document 02's W-214. What an altitude reads is stored when the walk first reaches it.
 ghost use mathlib.Core.Path.{_≡_};
 ghost use lib.ListN.{length};
 ghost use Rattle.acceptance.specs.declared.Answer.the-variants.{Accepted};
 ghost use Rattle.altitudes.specs.Altitudes.{altitudesFrom};
 ghost use Rattle.column.specs.Column.{columnRows};
-ghost use Rattle.column.specs.Parts.{rowsStored};
 ghost use Rattle.first_below_list.specs.declared.First.the-variants.{Nowhere};
-ghost use Rattle.first_below_list.specs.FirstBelowList.{firstBelow, firstRow};
+ghost use Rattle.first_below_list.specs.FirstBelowList.{firstRow};
 ghost use Rattle.first_below.specs.FirstBelow.{firstBelowChecked, firstBelowRefusedOr, firstOf, firstAnswer, firstAfter};
+ghost use Rattle.first_below.specs.Walk.{partsGrown, numbersGrown};
 use acceptance::Answer;
 use acceptance::accepted;
 use altitudes::column_answer;
-use column::stored_for;
+use expansion_values::record_values;
 use first_below_list::First;
 use first_below_list::taken;
+use gts7_arithmetic::site_of;
 use setting::Input;
+use setting::switches::tselec;
+use stored::need_of;
 use stored::row_on;
+use stored::store_in;
+use stored_parts::Parts;
+use stored_parts::either_parts;
+use stored_parts::no_parts;
+use stored_parts::parts_at;
+use stored_parts::reached;
+use stored_parts::serves;
 
 // 4 for a row whose length len is not 11; then the column's refusals, its buffer taken to be long enough.
 pub fn checked(w: [i32; 24], n: Input, alts: &[f64], len: usize) -> Answer
@@ -27,42 +37,47 @@ pub fn checked(w: [i32; 24], n: Input, alts: &[f64], len: usize) -> Answer
     column_answer(w, n, alts, 11 * alts.len())
 }
 
-// The altitudes in order, out of the stored numbers, until one is thin enough; `left` of them are still to be looked at. sw0 and sw15 are the main
-// effects of switches 0 and 15.
-pub fn first_at(
-    sw0: f64,
-    sw15: f64,
-    numbers: &[f64],
-    alts: &[f64],
-    level: f64,
-    row: &mut [f64],
-) -> First
-    requires { ⌜ (length (now numbers) ≡ 234) × (length (now row) ≡ 11) ⌝ }
-    ensures { λ r. ⌜ (r ≡ firstBelow level (rowsStored sw0 sw15 (now (numbers .entry)) (now (alts .entry))) (length (now (alts .entry))))
-        × (now (row .exit) ≡ firstRow r (rowsStored sw0 sw15 (now (numbers .entry)) (now (alts .entry))) (now (row .entry))) ⌝ }
+// The part that an altitude reads, worked out and stored beside the parts h that are there. The parts that are then there come back.
+pub fn grown(w: [i32; 24], n: Input, h: Parts, z: f64, numbers: &mut [f64]) -> Parts
+    requires { ⌜ length (now numbers) ≡ 234 ⌝ }
+    ensures { λ r. ⌜ (r ≡ partsGrown h z) × (now (numbers .exit) ≡ numbersGrown w n h z (now (numbers .entry))) ⌝ }
 {
+    let q = parts_at(z);
+    let p = reached(q, h);
+    let a = need_of(p);
+    let v = record_values(w, n, a);
+    let sw = v.sw;
+    let x = site_of(sw, n.g_lat, v.doy, n.f107a);
+    let l = v.values;
+    store_in(p, sw, x, l, numbers);
+    either_parts(h, p)
+}
+
+// The first of accepted altitudes: a walk that ends at the hit; `left` of them are still to be looked at.
+pub fn first(w: [i32; 24], n: Input, alts: &[f64], level: f64, row: &mut [f64]) -> First
+    requires { ⌜ (length (now row) ≡ 11) × (altitudesFrom 0 (now alts) ≡ Accepted) ⌝ }
+    ensures { λ r. ⌜ (r ≡ firstOf w n (now (alts .entry)) level) × (now (row .exit) ≡ firstRow r (columnRows w n (now (alts .entry))) (now (row .entry))) ⌝ }
+{
+    let f = tselec(w);
+    let sw0 = f.sw[0];
+    let sw15 = f.sw[15];
+    let mut numbers = [0.0; 234];
     let mut one = [0.0; 11];
+    let mut there = no_parts();
     let mut left = alts.len();
     while 0 < left {
         let k = alts.len() - left;
         let z = alts[k];
-        row_on(sw0, sw15, numbers, z, &mut one);
+        if !serves(there, z) {
+            there = grown(w, n, there, z, &mut numbers);
+        }
+        row_on(sw0, sw15, &numbers, z, &mut one);
         if taken(level, &one, row) {
             return First::At(k);
         }
         left -= 1;
     }
     First::Nowhere
-}
-
-// The first of accepted altitudes; what does not depend on the altitude is worked out once.
-pub fn first(w: [i32; 24], n: Input, alts: &[f64], level: f64, row: &mut [f64]) -> First
-    requires { ⌜ (length (now row) ≡ 11) × (altitudesFrom 0 (now alts) ≡ Accepted) ⌝ }
-    ensures { λ r. ⌜ (r ≡ firstOf w n (now (alts .entry)) level) × (now (row .exit) ≡ firstRow r (columnRows w n (now (alts .entry))) (now (row .entry))) ⌝ }
-{
-    let mut numbers = [0.0; 234];
-    let sw = stored_for(w, n, alts, &mut numbers);
-    first_at(sw[0], sw[15], &numbers, alts, level, row)
 }
 
 // A refusal as the call's answer; nobody asks for an accepted one.

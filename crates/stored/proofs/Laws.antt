@@ -1,9 +1,10 @@
 -- Parts written one behind the other, and what they are.
 use Prim.Native.Nat.{ℕ, _+_}
-use mathlib.Core.Path.{_≡_, refl, sym, ap, _∙_}
-use mathlib.Core.Bool.{Bool, true, false, not}
+use mathlib.Core.Path.{_≡_, refl, sym, ap, ap₂, _∙_}
+use mathlib.Core.Bool.{Bool, true, false, cond, not}
 use mathlib.Core.List.{List, [], _++_, append-assoc, append-nil}
 use native.Mathlib.Omega.{arith}
+use borrow.Author.Tests.{not-true, not-false}
 use borrow.Rule.Slice.PartMut.{putMid}
 use lib.ListN.{length, take, drop, take-append-drop}
 use lib.Seq.{length-take-le, take-at, drop-at, drop-drop, drop-length}
@@ -28,8 +29,9 @@ use Rattle.region.specs.Region.{basesOf, rootsOf, rowOver, rowUnder}
 use Rattle.footing.specs.declared.Footing.{Footing}
 use Rattle.footing.specs.Footing.{footingOf}
 use Rattle.stored_parts.specs.declared.Parts.{Parts}
-use Rattle.stored.specs.Stored.{part, regionNumbers, spineNumbers, spanNumbers, groundNumbers, footingNumbers, shapeIn, rootsIn, spineIn, regionStored, lowStored, footingStored, summitStored, storedOf, lowRow}
+use Rattle.stored.specs.Stored.{part, regionNumbers, spineNumbers, spanNumbers, groundNumbers, footingNumbers, shapeIn, rootsIn, spineIn, regionStored, lowStored, footingStored, summitStored, storedOf, storedIn, lowRow}
 use Rattle.stored.specs.Rows.{grown, footing-length, low-length, region-length, numbers-36, numbers-24}
+use Rattle.stored.specs.Reached.{chosen-length}
 
 -- a row behind what is done
 next : (done row xs out : List Float) (k m : ℕ) → length done ≡ k → out ≡ done ++ drop k xs → putMid k m out row ≡ (done ++ row) ++ drop (k + m) xs
@@ -107,7 +109,16 @@ footing-law on sw x l tropo out r1 r2 r3 a b c f len f1 f2 f3 ea eb ec o e =
     rw (f1, f2, f3, ea, eb, ec)
     (three-laid out (groundNumbers f) (spanNumbers (f .curves .upper)) (spanNumbers (f .curves .lower)) 17 18 18 len (ground-17 f) (span-18 (f .curves .upper)) ∙ footing-is on sw x l tropo f o e)
 
--- five parts behind the record's fourteen numbers
+-- five parts behind the record's fourteen numbers, with nothing left of the slice
+five-laid : (r a b c d e out : List Float) → length out ≡ 234 → (((((r ++ a) ++ b) ++ c) ++ d) ++ e) ++ drop 234 out ≡ r ++ (a ++ (b ++ (c ++ (d ++ e))))
+five-laid r a b c d e out len =
+    ap (λ (t : List Float). (((((r ++ a) ++ b) ++ c) ++ d) ++ e) ++ t) (nothing-left out 234 len)
+    ∙ append-nil (((((r ++ a) ++ b) ++ c) ++ d) ++ e)
+    ∙ append-assoc (((r ++ a) ++ b) ++ c) d e
+    ∙ append-assoc ((r ++ a) ++ b) c (d ++ e)
+    ∙ append-assoc (r ++ a) b (c ++ (d ++ e))
+    ∙ append-assoc r a (b ++ (c ++ (d ++ e)))
+
 pub store-law : (p : Parts) (sw : List Float) (x : Site) (l : ExpansionValues) (out r1 r2 r3 r4 r5 a3 a4 a5 : List Float) (d : Bases)
     → length out ≡ 234
     → r1 ≡ footingStored (p .below) sw x l (p .tropo)
@@ -136,13 +147,58 @@ store-law p sw x l out r1 r2 r3 r4 r5 a3 a4 a5 d len e1 e2 f3 f4 f5 e3 e4 e5 ed 
     let three = next ((R ++ F) ++ L) M out _ 151 36 r151 two in
     let four = next (((R ++ F) ++ L) ++ M) U out _ 187 36 r187 three in
     rw (e1, e2, f3, f4, f5, e3, e4, e5, ed)
-    (next ((((R ++ F) ++ L) ++ M) ++ U) S out _ 223 11 r223 four
-    ∙ ap (λ (r : List Float). (((((R ++ F) ++ L) ++ M) ++ U) ++ S) ++ r) (nothing-left out 234 len)
-    ∙ append-nil (((((R ++ F) ++ L) ++ M) ++ U) ++ S)
-    ∙ append-assoc (((R ++ F) ++ L) ++ M) U S
-    ∙ append-assoc ((R ++ F) ++ L) M (U ++ S)
-    ∙ append-assoc (R ++ F) L (M ++ (U ++ S))
-    ∙ append-assoc R F (L ++ (M ++ (U ++ S))))
+    (next ((((R ++ F) ++ L) ++ M) ++ U) S out _ 223 11 r223 four ∙ five-laid R F L M U S out len)
+
+-- a part that is not asked for stays, another is put
+pub unasked : (on : Bool) (f xs : List Float) → not on ≡ true → xs ≡ cond on f xs
+unasked on f xs e = rw (not-true on e)
+
+pub asked : (on : Bool) (f ys xs : List Float) → not on ≡ false → ys ≡ f → ys ≡ cond on f xs
+asked on f ys xs e g = rw (not-false on e) g
+
+-- what lies behind what is done
+slice-of : (done xs out : List Float) (k m : ℕ) → length done ≡ k → out ≡ done ++ drop k xs → take m (drop k out) ≡ part k m xs
+slice-of done xs out k m len e = rw (e, drop-at done (drop k xs) k len)
+
+-- five parts, each put or as it was
+pub store-in-law : (p : Parts) (sw : List Float) (x : Site) (l : ExpansionValues) (out r1 r2 r3 r4 r5 : List Float) (d : Bases)
+    → length out ≡ 234
+    → r1 ≡ cond (p .below) (footingStored true sw x l (p .tropo)) (part 14 53 out)
+    → r2 ≡ cond (p .low) (lowStored true sw x l d) (part 67 84 (putMid 14 53 out r1))
+    → r3 ≡ cond (p .mid) (regionStored true sw x l d 200·0) (part 151 36 (putMid 67 84 (putMid 14 53 out r1) r2))
+    → r4 ≡ cond (p .top) (regionStored true sw x l d 300·0) (part 187 36 (putMid 151 36 (putMid 67 84 (putMid 14 53 out r1) r2) r3))
+    → r5 ≡ cond (p .summit) (summitStored true sw x l) (part 223 11 (putMid 187 36 (putMid 151 36 (putMid 67 84 (putMid 14 53 out r1) r2) r3) r4))
+    → d ≡ basesOf (sw ‼ 21) l
+    → putMid 223 11 (putMid 187 36 (putMid 151 36 (putMid 67 84 (putMid 14 53 out r1) r2) r3) r4) r5 ≡ storedIn p sw x l out
+unfolding storedIn
+store-in-law p sw x l out r1 r2 r3 r4 r5 d len e1 e2 e3 e4 e5 ed =
+    let k = basesOf (sw ‼ 21) l in
+    let A = cond (p .below) (footingStored true sw x l (p .tropo)) (part 14 53 out) in
+    let B = cond (p .low) (lowStored true sw x l k) (part 67 84 out) in
+    let C = cond (p .mid) (regionStored true sw x l k 200·0) (part 151 36 out) in
+    let D = cond (p .top) (regionStored true sw x l k 300·0) (part 187 36 out) in
+    let E = cond (p .summit) (summitStored true sw x l) (part 223 11 out) in
+    let R = take 14 out in
+    let r14 : length R ≡ 14 = length-take-le 14 out (omega (arith, len)) in
+    let r67 = grown R A 14 53 r14 (chosen-length (p .below) _ out 14 53 (footing-length true sw x l (p .tropo)) (omega (arith, len))) in
+    let r151 = grown (R ++ A) B 67 84 r67 (chosen-length (p .low) _ out 67 84 (low-length true sw x l k) (omega (arith, len))) in
+    let r187 = grown ((R ++ A) ++ B) C 151 36 r151 (chosen-length (p .mid) _ out 151 36 (region-length true sw x l k 200·0) (omega (arith, len))) in
+    let r223 = grown (((R ++ A) ++ B) ++ C) D 187 36 r187 (chosen-length (p .top) _ out 187 36 (region-length true sw x l k 300·0) (omega (arith, len))) in
+    let P1 = putMid 14 53 out r1 in
+    let P2 = putMid 67 84 P1 r2 in
+    let P3 = putMid 151 36 P2 r3 in
+    let P4 = putMid 187 36 P3 r4 in
+    let one : P1 ≡ (R ++ A) ++ drop 67 out = ap (putMid 14 53 out) e1 ∙ next R A out out 14 53 r14 (sym (take-append-drop 14 out)) in
+    let f2 : r2 ≡ B = e2 ∙ ap₂ (λ (b : Bases) (t : List Float). cond (p .low) (lowStored true sw x l b) t) ed (slice-of (R ++ A) out P1 67 84 r67 one) in
+    let two : P2 ≡ ((R ++ A) ++ B) ++ drop 151 out = ap (putMid 67 84 P1) f2 ∙ next (R ++ A) B out P1 67 84 r67 one in
+    let f3 : r3 ≡ C = e3 ∙ ap₂ (λ (b : Bases) (t : List Float). cond (p .mid) (regionStored true sw x l b 200·0) t) ed (slice-of ((R ++ A) ++ B) out P2 151 36 r151 two) in
+    let three : P3 ≡ (((R ++ A) ++ B) ++ C) ++ drop 187 out = ap (putMid 151 36 P2) f3 ∙ next ((R ++ A) ++ B) C out P2 151 36 r151 two in
+    let f4 : r4 ≡ D = e4 ∙ ap₂ (λ (b : Bases) (t : List Float). cond (p .top) (regionStored true sw x l b 300·0) t) ed (slice-of (((R ++ A) ++ B) ++ C) out P3 187 36 r187 three) in
+    let four : P4 ≡ ((((R ++ A) ++ B) ++ C) ++ D) ++ drop 223 out = ap (putMid 187 36 P3) f4 ∙ next (((R ++ A) ++ B) ++ C) D out P3 187 36 r187 three in
+    let f5 : r5 ≡ E = e5 ∙ ap (λ (t : List Float). cond (p .summit) (summitStored true sw x l) t) (slice-of ((((R ++ A) ++ B) ++ C) ++ D) out P4 223 11 r223 four) in
+    ap (putMid 223 11 P4) f5
+    ∙ next ((((R ++ A) ++ B) ++ C) ++ D) E out P4 223 11 r223 four
+    ∙ five-laid R A B C D E out len
 
 -- a spine that was read has its logarithm
 pub spine-logged : (xs : List Float) (s : Spine) → s ≡ spineIn xs → s .lt ≡ logOf (s .rt)

@@ -325,7 +325,7 @@ numbers-24 s = refl
 pub grown : (a b : List Float) (m n : ℕ) → length a ≡ m → length b ≡ n → length (a ++ b) ≡ m + n
 grown a b m n e f = length-append a b ∙ ap₂ (λ (i j : ℕ). i + j) e f
 
-drop-past : (a r : List Float) (n k : ℕ) → length a ≡ n → drop (n + k) (a ++ r) ≡ drop k r
+pub drop-past : (a r : List Float) (n k : ℕ) → length a ≡ n → drop (n + k) (a ++ r) ≡ drop k r
 drop-past a r n k e = sym (drop-drop k n (a ++ r)) ∙ ap (drop k) (drop-at a r n e)
 
 -- where each part stands, behind the record's fourteen numbers
@@ -357,23 +357,23 @@ module _ (p : Parts) (sw : List Float) (x : Site) (l : ExpansionValues) (rec : L
   u36 : length U ≡ 36
   u36 = region-length (p .top) sw x l (basesOf (sw ‼ 21) l) 300·0
 
-  footing-part : part 14 53 (rec ++ storedOf p sw x l) ≡ F
+  pub footing-part : part 14 53 (rec ++ storedOf p sw x l) ≡ F
   unfolding storedOf
   footing-part = ap (take 53) (drop-at rec _ 14 len) ∙ take-at F _ 53 f53
 
-  low-part : part 67 84 (rec ++ storedOf p sw x l) ≡ L
+  pub low-part : part 67 84 (rec ++ storedOf p sw x l) ≡ L
   unfolding storedOf
   low-part = ap (take 84) (drop-past rec _ 14 53 len ∙ drop-at F _ 53 f53) ∙ take-at L _ 84 l84
 
-  mid-part : part 151 36 (rec ++ storedOf p sw x l) ≡ M
+  pub mid-part : part 151 36 (rec ++ storedOf p sw x l) ≡ M
   unfolding storedOf
   mid-part = ap (take 36) (drop-past rec _ 14 137 len ∙ drop-past F _ 53 84 f53 ∙ drop-at L _ 84 l84) ∙ take-at M _ 36 m36
 
-  top-part : part 187 36 (rec ++ storedOf p sw x l) ≡ U
+  pub top-part : part 187 36 (rec ++ storedOf p sw x l) ≡ U
   unfolding storedOf
   top-part = ap (take 36) (drop-past rec _ 14 173 len ∙ drop-past F _ 53 120 f53 ∙ drop-past L _ 84 36 l84 ∙ drop-at M _ 36 m36) ∙ take-at U _ 36 u36
 
-  summit-part : part 223 11 (rec ++ storedOf p sw x l) ≡ take 11 S
+  pub summit-part : part 223 11 (rec ++ storedOf p sw x l) ≡ take 11 S
   unfolding storedOf
   summit-part = ap (take 11) (drop-past rec _ 14 209 len ∙ drop-past F _ 53 156 f53 ∙ drop-past L _ 84 72 l84 ∙ drop-past M _ 36 36 m36 ∙ drop-at U _ 36 u36)
 
@@ -416,7 +416,7 @@ above-eleven : (u : Gts7Output) → length ((gtd7Above u) .row) ≡ 11
 unfolding gtd7Above
 above-eleven u = refl
 
-summit-length : (on : Bool) (sw : List Float) (x : Site) (l : ExpansionValues) → length (summitStored on sw x l) ≡ 11
+pub summit-length : (on : Bool) (sw : List Float) (x : Site) (l : ExpansionValues) → length (summitStored on sw x l) ≡ 11
 unfolding summitStored
 summit-length true sw x l = ap length (sym (at-72 sw x l 72·5 not-over at-itself)) ∙ above-eleven (told (answerTo l) (gts7Plan sw x 72·5))
 summit-length false sw x l = refl

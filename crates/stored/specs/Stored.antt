@@ -1,7 +1,7 @@
 -- What a station stores of a record and a switch row, as a list of numbers, and the row of an altitude out of that list. The nine constants are the
 -- present ones and are not stored.
 use Prim.Native.Nat.{ℕ, _+_}
-use mathlib.Core.Bool.{Bool, cond, not, _||_}
+use mathlib.Core.Bool.{Bool, true, cond, not, _||_}
 use mathlib.Core.List.{List, [], _∷_, _++_}
 use lib.ListN.{take, drop, replicate}
 use lib.Ieee.{Float, lt}
@@ -103,11 +103,22 @@ storedOf p sw x l =
     ++ (regionStored (p .top) sw x l d 300·0
     ++ summitStored (p .summit) sw x l)))
 
--- ---- read again
-
 -- n numbers from the a-th on
 abbrev pub part : ℕ → ℕ → List Float → List Float
 part a n xs = take n (drop a xs)
+
+-- the same among numbers xs that are there: each part of p in its own place, all else as it was
+unfoldable pub storedIn : Parts → List Float → Site → ExpansionValues → List Float → List Float
+storedIn p sw x l xs =
+    let d = basesOf (sw ‼ 21) l in
+    take 14 xs
+    ++ (cond (p .below) (footingStored true sw x l (p .tropo)) (part 14 53 xs)
+    ++ (cond (p .low) (lowStored true sw x l d) (part 67 84 xs)
+    ++ (cond (p .mid) (regionStored true sw x l d 200·0) (part 151 36 xs)
+    ++ (cond (p .top) (regionStored true sw x l d 300·0) (part 187 36 xs)
+    ++ cond (p .summit) (summitStored true sw x l) (part 223 11 xs)))))
+
+-- ---- read again
 
 unfoldable pub fiveIn : List Float → ℕ → List Float
 fiveIn xs at = (xs ‼ at) ∷ (xs ‼ (at + 1)) ∷ (xs ‼ (at + 2)) ∷ (xs ‼ (at + 3)) ∷ (xs ‼ (at + 4)) ∷ []

@@ -1,12 +1,13 @@
 // What a station stores of a record and a switch row, as a list of numbers that no altitude changes; and the row of an altitude out of that list,
 // with no expansion worked out.
 ghost use mathlib.Core.Path.{_≡_};
+ghost use mathlib.Core.Bool.{true, cond};
 ghost use mathlib.Core.List.{_++_};
 ghost use Prim.Native.Nat.{_+_, _≤_};
 ghost use lib.ListN.{length, take, drop};
 ghost use Rattle.parameters.specs.Parameters.{presentOf};
 ghost use Rattle.region.specs.Region.{rowOver};
-ghost use Rattle.stored.specs.Stored.{needOf, regionNumbers, spineNumbers, spanNumbers, groundNumbers, fiveIn, shapeIn, rootIn, rootsIn, spineIn, spanIn, footingIn, regionStored, lowStored, footingStored, summitStored, storedOf, lowRow, rowStored};
+ghost use Rattle.stored.specs.Stored.{needOf, regionNumbers, spineNumbers, spanNumbers, groundNumbers, fiveIn, shapeIn, rootIn, rootsIn, spineIn, spanIn, footingIn, regionStored, lowStored, footingStored, summitStored, storedOf, storedIn, lowRow, rowStored};
 use atmosphere::row_above;
 use elementary::logarithm::log;
 use footing::Curves;
@@ -445,6 +446,78 @@ pub fn store(p: Parts, sw: [f64; 24], x: Site, l: ExpansionValues, out: &mut [f6
     put(&mut out[187..223], &c);
     let a = summit_stored(p.summit, sw, x, l);
     put(&mut out[223..234], &a);
+}
+
+// ---- the same among numbers that are there: a part that is asked for, into its own place
+
+pub fn footing_in(
+    on: bool,
+    sw: [f64; 24],
+    x: Site,
+    l: ExpansionValues,
+    tropo: bool,
+    out: &mut [f64],
+)
+    requires { ⌜ length (now out) ≡ 53 ⌝ }
+    ensures { λ _. ⌜ now (out .exit) ≡ cond on (footingStored true sw x l tropo) (now (out .entry)) ⌝ }
+{
+    if !on {
+        return;
+    }
+    put_footing(true, sw, x, l, tropo, out);
+}
+
+pub fn low_in(on: bool, sw: [f64; 24], x: Site, l: ExpansionValues, d: Bases, out: &mut [f64])
+    requires { ⌜ length (now out) ≡ 84 ⌝ }
+    ensures { λ _. ⌜ now (out .exit) ≡ cond on (lowStored true sw x l d) (now (out .entry)) ⌝ }
+{
+    if !on {
+        return;
+    }
+    put_low(true, sw, x, l, d, out);
+}
+
+pub fn region_in(
+    on: bool,
+    sw: [f64; 24],
+    x: Site,
+    l: ExpansionValues,
+    d: Bases,
+    z: f64,
+    out: &mut [f64],
+)
+    requires { ⌜ length (now out) ≡ 36 ⌝ }
+    ensures { λ _. ⌜ now (out .exit) ≡ cond on (regionStored true sw x l d z) (now (out .entry)) ⌝ }
+{
+    if !on {
+        return;
+    }
+    let r = region_stored(true, sw, x, l, d, z);
+    put(out, &r);
+}
+
+pub fn summit_in(on: bool, sw: [f64; 24], x: Site, l: ExpansionValues, out: &mut [f64])
+    requires { ⌜ length (now out) ≡ 11 ⌝ }
+    ensures { λ _. ⌜ now (out .exit) ≡ cond on (summitStored true sw x l) (now (out .entry)) ⌝ }
+{
+    if !on {
+        return;
+    }
+    let r = summit_stored(true, sw, x, l);
+    put(out, &r);
+}
+
+// The parts p, each into its own place; what is there of the others stays.
+pub fn store_in(p: Parts, sw: [f64; 24], x: Site, l: ExpansionValues, out: &mut [f64])
+    requires { ⌜ length (now out) ≡ 234 ⌝ }
+    ensures { λ _. ⌜ now (out .exit) ≡ storedIn p sw x l (now (out .entry)) ⌝ }
+{
+    let d = bases_of(sw[21], l);
+    footing_in(p.below, sw, x, l, p.tropo, &mut out[14..67]);
+    low_in(p.low, sw, x, l, d, &mut out[67..151]);
+    region_in(p.mid, sw, x, l, d, 200.0, &mut out[151..187]);
+    region_in(p.top, sw, x, l, d, 300.0, &mut out[187..223]);
+    summit_in(p.summit, sw, x, l, &mut out[223..234]);
 }
 
 // ---- the row of an altitude

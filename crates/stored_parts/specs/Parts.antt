@@ -1,5 +1,5 @@
 -- The tests by which a row out of the stored numbers takes its way, and the parts that altitudes read.
-use mathlib.Core.Bool.{Bool, true, false, not, _&&_, _||_}
+use mathlib.Core.Bool.{Bool, true, false, cond, not, _&&_, _||_}
 use mathlib.Core.List.{List, [], _∷_}
 use lib.Ieee.{Float, lt, le}
 use Rattle.numbers.specs.Arithmetic.{_‼_}
@@ -55,6 +55,18 @@ eitherParts a b =
       mid = a .mid || b .mid;
       top = a .top || b .top;
     }
+
+-- whether the part that an altitude's row is read from is among the parts h: at 72.5 km the summit; below it the footing, with the troposphere's nodes
+-- below 32.5 km; else its region
+unfoldable pub servesOf : Parts → Float → Bool
+servesOf h alt =
+    cond (not (aboveSummit alt))
+    (cond (fromSummit alt) (h .summit) (h .below && (not (lt alt 32·5) || h .tropo)))
+    (cond (not (aboveZa alt)) (h .low) (cond (below300 alt) (h .mid) (h .top)))
+
+-- the parts q, the footing with the troposphere's nodes where h has them
+unfoldable pub reachedOf : Parts → Parts → Parts
+reachedOf q h = record { summit = q .summit; below = q .below; tropo = q .tropo || (q .below && h .tropo); low = q .low; mid = q .mid; top = q .top }
 
 -- the parts that one of the altitudes reads, or that were read before
 unfoldable pub partsFrom : Parts → List Float → Parts

@@ -1,6 +1,6 @@
 // Which parts of what a station stores an altitude reads: the tests by which a row takes its way, and the parts of an altitude and of a list of altitudes.
 ghost use mathlib.Core.Path.{_≡_};
-ghost use Rattle.stored_parts.specs.Parts.{aboveSummit, fromSummit, aboveZa, below300, partsAt, allParts, noParts, eitherParts, partsFrom};
+ghost use Rattle.stored_parts.specs.Parts.{aboveSummit, fromSummit, aboveZa, below300, partsAt, allParts, noParts, eitherParts, servesOf, reachedOf, partsFrom};
 use tables::pdl1;
 
 // ---- the tests
@@ -103,6 +103,39 @@ pub fn either_parts(a: Parts, b: Parts) -> Parts
         low: a.low | b.low,
         mid: a.mid | b.mid,
         top: a.top | b.top,
+    }
+}
+
+// Whether the part that an altitude's row is read from is among the parts h.
+pub fn serves(h: Parts, alt: f64) -> bool
+    ensures { λ r. ⌜ r ≡ servesOf h alt ⌝ }
+{
+    if !above_summit(alt) {
+        if from_summit(alt) {
+            return h.summit;
+        }
+        return h.below & (!(alt < 32.5) | h.tropo);
+    }
+    if !above_za(alt) {
+        return h.low;
+    }
+    if below_300(alt) {
+        return h.mid;
+    }
+    h.top
+}
+
+// The parts q, the footing with the troposphere's nodes where h has them: what is stored where h is there and q is reached.
+pub fn reached(q: Parts, h: Parts) -> Parts
+    ensures { λ r. ⌜ r ≡ reachedOf q h ⌝ }
+{
+    Parts {
+        summit: q.summit,
+        below: q.below,
+        tropo: q.tropo | (q.below & h.tropo),
+        low: q.low,
+        mid: q.mid,
+        top: q.top,
     }
 }
 
