@@ -10,7 +10,7 @@ use lib.IntN.{ℤ}
 use lib.Ieee.{Float, nan, inf, fin, up, down, lt, le, eq, ofBits}
 use lib.Ieee.Fits.{down-pos}
 use Rattle.numbers.specs.Arithmetic.{_‼_}
-use Rattle.numbers.specs.Booleans.{and-both, or-left, or-right}
+use Rattle.numbers.specs.Booleans.{and-both, both, or-left, or-right}
 use Rattle.numbers.specs.Literals.{32·5, 72·5, 300·0}
 use Rattle.tables.specs.Tables.{pdlT1}
 use Rattle.stored_parts.specs.declared.Parts.{Parts}
@@ -28,14 +28,14 @@ unfolding lt le eq
 lower nan n d n' d' p k h = absurd (false≢true h)
 lower (inf true) n d n' d' p k h = refl
 lower (inf false) n d n' d' p k h = absurd (false≢true h)
-lower (fin true m e) n d n' d' p k h = rw (ne-eqb (n' * up d' * down e) 0 (λ z. absurd (none z))) (both (eqb (n' * up d' * down e) (m * up e * down d')))
+lower (fin true m e) n d n' d' p k h = rw (ne-eqb (n' * up d' * down e) 0 (λ z. absurd (none z))) (never (eqb (n' * up d' * down e) (m * up e * down d')))
   where
     none : n' * up d' * down e ≡ 0 → ⊥
     none z = omega (arith, mul-pos p (down-pos e))
 
-    both : (b : Bool) → (b && false) ≡ false
-    both true = refl
-    both false = refl
+    never : (b : Bool) → (b && false) ≡ false
+    never true = refl
+    never false = refl
 lower (fin false m e) n d n' d' p k h =
     let f = k (m * up e) (down e) (down-pos e) (ltb-true (m * up e * down d) (n * up d * down e) h) in
     rw (le-ltb (n' * up d' * down e) (m * up e * down d') (le-of-lt f), ne-eqb (n' * up d' * down e) (m * up e * down d') (λ z. absurd (apart (m * up e * down d') (n' * up d' * down e) f z)))
@@ -68,14 +68,6 @@ summit-at z e = or-left (lt 72·5 z) (eq 72·5 z) e
 
 -- ---- what serves an altitude holds its parts
 
-first-true : (a b : Bool) → (a && b) ≡ true → a ≡ true
-first-true true b e = refl
-first-true false b e = absurd (false≢true e)
-
-second-true : (a b : Bool) → (a && b) ≡ true → b ≡ true
-second-true true b e = e
-second-true false b e = absurd (false≢true e)
-
 not-both : {X : Type 0} (a : Bool) → a ≡ true → a ≡ false → X
 not-both a e f = absurd (false≢true (sym f ∙ e))
 
@@ -89,7 +81,7 @@ serves-holds h z s = by (aboveSummit z) refl (fromSummit z) refl (aboveZa z) ref
   where
     -- below 72.5 km or at it no region above is read; above it nothing below is
     under : {X : Type 0} → aboveSummit z ≡ false → (b : Bool) → (aboveZa z && b) ≡ true → X
-    under e b f = not-both (aboveSummit z) (za-above z (first-true (aboveZa z) b f)) e
+    under e b f = not-both (aboveSummit z) (za-above z (both (aboveZa z) b f .0)) e
 
     not-tropo : {X : Type 0} → fromSummit z ≡ true → lt z 32·5 ≡ true → X
     not-tropo e f = not-both (fromSummit z) e (tropo-below z f)
@@ -98,10 +90,10 @@ serves-holds h z s = by (aboveSummit z) refl (fromSummit z) refl (aboveZa z) ref
     by false ea false ef b eb c ec =
         let t = rw (ea, ef) at s in
         record {
-          summit = λ e. not-both (fromSummit z) (first-true (fromSummit z) _ e) ef;
-          below = λ e. first-true (h .below) _ t;
-          tropo = here (lt z 32·5) (h .tropo) (second-true (h .below) _ t);
-          low = λ e. not-both (aboveSummit z) (first-true (aboveSummit z) _ e) ea;
+          summit = λ e. not-both (fromSummit z) (both (fromSummit z) _ e .0) ef;
+          below = λ e. both (h .below) _ t .0;
+          tropo = here (lt z 32·5) (h .tropo) (both (h .below) _ t .1);
+          low = λ e. not-both (aboveSummit z) (both (aboveSummit z) _ e .0) ea;
           mid = under ea (below300 z);
           top = under ea (not (below300 z));
         }
@@ -111,7 +103,7 @@ serves-holds h z s = by (aboveSummit z) refl (fromSummit z) refl (aboveZa z) ref
           summit = λ e. t;
           below = λ e. not-both (not (fromSummit z)) e (ap not ef);
           tropo = not-tropo ef;
-          low = λ e. not-both (aboveSummit z) (first-true (aboveSummit z) _ e) ea;
+          low = λ e. not-both (aboveSummit z) (both (aboveSummit z) _ e .0) ea;
           mid = under ea (below300 z);
           top = under ea (not (below300 z));
         }
@@ -119,33 +111,33 @@ serves-holds h z s = by (aboveSummit z) refl (fromSummit z) refl (aboveZa z) ref
         let t = rw (ea, eb) at s in
         let g = summit-at z ea in
         record {
-          summit = λ e. not-both (not (aboveSummit z)) (second-true (fromSummit z) _ e) (ap not ea);
+          summit = λ e. not-both (not (aboveSummit z)) (both (fromSummit z) _ e .1) (ap not ea);
           below = λ e. not-both (not (fromSummit z)) e (ap not g);
           tropo = not-tropo g;
           low = λ e. t;
-          mid = λ e. not-both (aboveZa z) (first-true (aboveZa z) _ e) eb;
-          top = λ e. not-both (aboveZa z) (first-true (aboveZa z) _ e) eb;
+          mid = λ e. not-both (aboveZa z) (both (aboveZa z) _ e .0) eb;
+          top = λ e. not-both (aboveZa z) (both (aboveZa z) _ e .0) eb;
         }
     by true ea f ef true eb true ec =
         let t = rw (ea, eb, ec) at s in
         let g = summit-at z ea in
         record {
-          summit = λ e. not-both (not (aboveSummit z)) (second-true (fromSummit z) _ e) (ap not ea);
+          summit = λ e. not-both (not (aboveSummit z)) (both (fromSummit z) _ e .1) (ap not ea);
           below = λ e. not-both (not (fromSummit z)) e (ap not g);
           tropo = not-tropo g;
-          low = λ e. not-both (not (aboveZa z)) (second-true (aboveSummit z) _ e) (ap not eb);
+          low = λ e. not-both (not (aboveZa z)) (both (aboveSummit z) _ e .1) (ap not eb);
           mid = λ e. t;
-          top = λ e. not-both (not (below300 z)) (second-true (aboveZa z) _ e) (ap not ec);
+          top = λ e. not-both (not (below300 z)) (both (aboveZa z) _ e .1) (ap not ec);
         }
     by true ea f ef true eb false ec =
         let t = rw (ea, eb, ec) at s in
         let g = summit-at z ea in
         record {
-          summit = λ e. not-both (not (aboveSummit z)) (second-true (fromSummit z) _ e) (ap not ea);
+          summit = λ e. not-both (not (aboveSummit z)) (both (fromSummit z) _ e .1) (ap not ea);
           below = λ e. not-both (not (fromSummit z)) e (ap not g);
           tropo = not-tropo g;
-          low = λ e. not-both (not (aboveZa z)) (second-true (aboveSummit z) _ e) (ap not eb);
-          mid = λ e. not-both (below300 z) (second-true (aboveZa z) _ e) ec;
+          low = λ e. not-both (not (aboveZa z)) (both (aboveSummit z) _ e .1) (ap not eb);
+          mid = λ e. not-both (below300 z) (both (aboveZa z) _ e .1) ec;
           top = λ e. t;
         }
 
@@ -171,13 +163,13 @@ reached-serves h z = by (aboveSummit z) refl (fromSummit z) refl (aboveZa z) ref
     last true = refl
     last false = refl
 
-    both : (t a : Bool) → (not t || (a || (t || a))) ≡ true
-    both true true = refl
-    both true false = refl
-    both false a = refl
+    among : (t a : Bool) → (not t || (a || (t || a))) ≡ true
+    among true true = refl
+    among true false = refl
+    among false a = refl
 
     by : (a : Bool) → aboveSummit z ≡ a → (f : Bool) → fromSummit z ≡ f → (b : Bool) → aboveZa z ≡ b → (c : Bool) → below300 z ≡ c → servesOf (eitherParts h (reachedOf (partsAt z) h)) z ≡ true
-    by false ea false ef b eb c ec = rw (ea, ef, last (h .below)) (both (lt z 32·5) (h .tropo))
+    by false ea false ef b eb c ec = rw (ea, ef, last (h .below)) (among (lt z 32·5) (h .tropo))
     by false ea true ef b eb c ec = rw (ea, ef) (last (h .summit))
     by true ea f ef false eb c ec = rw (ea, eb) (last (h .low))
     by true ea f ef true eb true ec = rw (ea, eb, ec) (last (h .mid))
@@ -194,4 +186,4 @@ tropo-less z h e f = by (lt z 32·5) refl f
   where
     by : (t : Bool) → lt z 32·5 ≡ t → (t || (not (fromSummit z) && h .tropo)) ≡ true → h .tropo ≡ true
     by true et g = not-both (not (fromSummit z)) (ap not (tropo-below z et)) e
-    by false et g = second-true (not (fromSummit z)) (h .tropo) g
+    by false et g = both (not (fromSummit z)) (h .tropo) g .1

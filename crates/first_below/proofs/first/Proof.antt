@@ -2,17 +2,22 @@
 use mathlib.Core.Path.{_≡_, refl, sym, ap, _∙_}
 use mathlib.Core.Logic.{⊎-elim}
 use mathlib.Core.Bool.{true}
-use Prim.Native.Nat.{_≤_, _-_}
+use mathlib.Core.List.{List}
+use Prim.Native.Nat.{ℕ, _≤_, _-_}
 use native.Mathlib.Omega.{arith}
 use borrow.Author.Needs.{needs}
+use lib.IntN.{ℤ}
 use lib.ListN.{length}
+use lib.Ieee.{Float}
 use Rattle.numbers.specs.Arithmetic.{_‼_}
+use Rattle.setting.specs.declared.Input.{Input}
 use Rattle.setting.specs.View.{viewOf}
 use Rattle.column.specs.Column.{columnRows}
+use Rattle.stored_parts.specs.declared.Parts.{Parts}
 use Rattle.stored_parts.specs.Parts.{servesOf}
 use Rattle.first_below_list.specs.FirstBelowList.{firstFrom, firstBelow}
 use Rattle.first_below.specs.FirstBelow.{firstOf}
-use Rattle.first_below.proofs.Laws.{Served, nothing-served, effect-of, row-is, grown-long, grown-is, stayed-is, at-most, start, thin, thick, none-left}
+use Rattle.first_below.proofs.Laws.{Served, nothing-served, effect-of, row-is, grown-is, stayed-is, at-most, start, thin, thick, none-left}
 use Rattle.first_below.proofs.first.Statement.{statement}
 use Rattle.first_below.proofs.first.Tie as tie
 
@@ -33,29 +38,31 @@ loop-holds c =
     let A = first .args in
     (search needs, refl, first .pre .0, refl, refl, effect-of (A .w) (A .n) (flags .result) 0 (flags .ensures), effect-of (A .w) (A .n) (flags .result) 15 (flags .ensures), nothing-served (A .w) (A .n) (c .no-parts .result) _ (c .no-parts .ensures), start (A .w) (A .n) (A .alts .now) (A .level))
 
-counted : tie.Need-slice-aggregate-row-on Inv-loop μ-loop
-counted c =
-    let met = c .before in
-    let at = met .before .before .before .before .loop in
-    let A = met .before .before .before .before .before .before .before .before .before .before .before .args in
-    let long : length (met .if1 .numbers) ≡ 234 =
+-- Behind the test of whether the parts serve, whichever way was taken: they do, and the numbers are as many as they were.
+abbrev There : List ℤ → Input → List Float → ℕ → Parts → List Float → Type 0
+There w n alts left h xs = Served w n h xs × (servesOf h (alts ‼ (length alts - left)) ≡ true) × (length xs ≡ 234)
+
+abbrev entered : tie.Joined1 Inv-loop μ-loop → tie.Start Inv-loop μ-loop
+entered c = c .before .before .before .before .before .before .before .before .before .before .before
+
+abbrev looked : tie.Joined1 Inv-loop μ-loop → tie.At-loop Inv-loop μ-loop
+looked c = c .before .before .before .before
+
+there-is : (c : tie.Joined1 Inv-loop μ-loop)
+    → There (entered c .args .w) (entered c .args .n) (entered c .args .alts .now) (looked c .loop .left) (c .if1 .there) (c .if1 .numbers)
+there-is c =
+    let A = entered c .args in
+    let at = looked c .loop in
     ⊎-elim
-    (λ u. ap length (u .4 ∙ u .2 .ensures .1) ∙ grown-long (A .w) (A .n) (at .there) _ (at .numbers) (at .inv .4))
-    (λ u. ap length (u .1) ∙ at .inv .4)
-    (met .if1 .came) in
-    sym long
+    (λ u. grown-is (A .w) (A .n) (at .there) _ (at .numbers) (at .inv .4) (at .inv .7) (c .if1 .there) (c .if1 .numbers) (u .5 ∙ u .2 .ensures .0) (u .4 ∙ u .2 .ensures .1))
+    (λ u. stayed-is (A .w) (A .n) (at .there) _ (at .numbers) (at .inv .4) (at .inv .7) (c .before .serves .result) (c .before .serves .ensures) (u .0 .left) (c .if1 .there) (c .if1 .numbers) (u .2) (u .1))
+    (c .if1 .came)
+
+counted : tie.Need-slice-aggregate-row-on Inv-loop μ-loop
+counted c = sym (there-is (c .before) .2)
 
 row-on-requires : tie.Need-row-on-requires Inv-loop μ-loop
-row-on-requires c κs =
-    let met = c .before .before in
-    let at = met .before .before .before .before .loop in
-    let A = met .before .before .before .before .before .before .before .before .before .before .before .args in
-    let long : length (met .if1 .numbers) ≡ 234 =
-    ⊎-elim
-    (λ u. ap length (u .4 ∙ u .2 .ensures .1) ∙ grown-long (A .w) (A .n) (at .there) _ (at .numbers) (at .inv .4))
-    (λ u. ap length (u .1) ∙ at .inv .4)
-    (met .if1 .came) in
-    (long, at .inv .1)
+row-on-requires c κs = (there-is (c .before .before) .2, looked (c .before .before) .loop .inv .1)
 
 returns : tie.Need-returns Inv-loop μ-loop
 unfolding firstOf
@@ -63,19 +70,12 @@ returns c =
     let t = c .before .before .before .taken in
     let row = c .before .before .before .before .before .before .before .row-on in
     let met = c .before .before .before .before .before .before .before .before .before .before in
-    let test = met .before .before .before in
-    let at = test .before .loop in
-    let first = test .before .before .before .before .before .before .before .before in
+    let at = looked met .loop in
+    let first = entered met in
     let A = first .args in
-    let z = (A .alts .now) ‼ (length (A .alts .now) - at .left) in
-    let fits = at-most 0 (A .alts .now) (length (A .alts .now) - at .left) (first .pre .1) (omega arith) in
-    let there : Served (A .w) (A .n) (met .if1 .there) (met .if1 .numbers) × (servesOf (met .if1 .there) z ≡ true) × (length (met .if1 .numbers) ≡ 234) =
-    ⊎-elim
-    (λ u. grown-is (A .w) (A .n) (at .there) z (at .numbers) (at .inv .4) (at .inv .7) (met .if1 .there) (met .if1 .numbers) (u .5 ∙ u .2 .ensures .0) (u .4 ∙ u .2 .ensures .1))
-    (λ u. stayed-is (A .w) (A .n) (at .there) z (at .numbers) (at .inv .4) (at .inv .7) (met .before .serves .result) (met .before .serves .ensures) (u .0 .left) (met .if1 .there) (met .if1 .numbers) (u .2) (u .1))
-    (met .if1 .came) in
-    let r = row-is (A .w) (A .n) (met .if1 .there) z (met .if1 .numbers) _ _ _ (there .0) fits (there .1) (at .inv .5) (at .inv .6) (row .ensures) in
-    thin (A .w) (A .n) (A .alts .now) (A .level) _ (at .left) (at .inv .0) (test .loop-test .taken) r
+    let there = there-is met in
+    let r = row-is (A .w) (A .n) (met .if1 .there) _ (met .if1 .numbers) _ _ _ (there .0) (at-most 0 (A .alts .now) _ (first .pre .1) (omega arith)) (there .1) (at .inv .5) (at .inv .6) (row .ensures) in
+    thin (A .w) (A .n) (A .alts .now) (A .level) _ (at .left) (at .inv .0) (met .before .before .before .loop-test .taken) r
     (t .result) (t .ensures .0) (at .row) _ (t .ensures .1) (at .inv .8) (c .if2 .taken)
 
 loop-again : tie.Need-loop-again Inv-loop μ-loop
@@ -83,20 +83,13 @@ loop-again c =
     let t = c .before .before .before .taken in
     let row = c .before .before .before .before .before .before .before .row-on in
     let met = c .before .before .before .before .before .before .before .before .before .before in
-    let test = met .before .before .before in
-    let at = test .before .loop in
-    let first = test .before .before .before .before .before .before .before .before in
+    let at = looked met .loop in
+    let first = entered met in
     let A = first .args in
-    let z = (A .alts .now) ‼ (length (A .alts .now) - at .left) in
-    let fits = at-most 0 (A .alts .now) (length (A .alts .now) - at .left) (first .pre .1) (omega arith) in
-    let there : Served (A .w) (A .n) (met .if1 .there) (met .if1 .numbers) × (servesOf (met .if1 .there) z ≡ true) × (length (met .if1 .numbers) ≡ 234) =
-    ⊎-elim
-    (λ u. grown-is (A .w) (A .n) (at .there) z (at .numbers) (at .inv .4) (at .inv .7) (met .if1 .there) (met .if1 .numbers) (u .5 ∙ u .2 .ensures .0) (u .4 ∙ u .2 .ensures .1))
-    (λ u. stayed-is (A .w) (A .n) (at .there) z (at .numbers) (at .inv .4) (at .inv .7) (met .before .serves .result) (met .before .serves .ensures) (u .0 .left) (met .if1 .there) (met .if1 .numbers) (u .2) (u .1))
-    (met .if1 .came) in
-    let r = row-is (A .w) (A .n) (met .if1 .there) z (met .if1 .numbers) _ _ _ (there .0) fits (there .1) (at .inv .5) (at .inv .6) (row .ensures) in
+    let there = there-is met in
+    let r = row-is (A .w) (A .n) (met .if1 .there) _ (met .if1 .numbers) _ _ _ (there .0) (at-most 0 (A .alts .now) _ (first .pre .1) (omega arith)) (there .1) (at .inv .5) (at .inv .6) (row .ensures) in
     let s =
-    thick (A .w) (A .n) (A .alts .now) (A .level) _ (at .left) (at .inv .0) (test .loop-test .taken) r
+    thick (A .w) (A .n) (A .alts .now) (A .level) _ (at .left) (at .inv .0) (met .before .before .before .loop-test .taken) r
     (t .result) (t .ensures .0) (at .row) _ (t .ensures .1) (at .inv .8) (c .if2 .left) in
     (search needs, search needs, search needs, s .0 ∙ at .inv .3, there .2, at .inv .5, at .inv .6, there .0, s .1)
 
