@@ -1,5 +1,5 @@
 #!/usr/bin/env python3
-"""generate.py [--check]: the tables and the coefficients of the series of the elementary functions.
+"""generate.py [--check]: the tables and the coefficients of the series of the elementary functions, and the proofs of the functions that are tables.
 
 Writes each into the files that hold it, in place of what stands there; --check only compares, and fails where they differ.
 Tables are cut down to whole numbers, at 400 bits by mpmath. Coefficients are whole numbers and exact.
@@ -75,12 +75,17 @@ BELOW = log_series([1, -1], [3, 1])  # y = (1 + u) / 2: -z = (1 - u) / (3 + u)
 
 # ---- where each stands: arms of a `match`, or a list
 
+
+def pairs(name, first, second):
+    return [f"{name}({a}, {b})" for a, b in zip(first, second)]
+
+
+# crate, function, arms, the lists that the arms hold
 ARMS = [
-    ("exponential_tables/src/lib.rt", "coarse_at", COARSE),
-    ("exponential_tables/src/lib.rt", "fine_at", FINE),
-    ("circular_tables/src/lib.rt", "sine_at", SINES),
-    ("circular_tables/src/lib.rt", "cosine_at", COSINES),
-    ("logarithm_tables/src/lib.rt", "piece_at", [f"Piece({r}, {v})" for r, v in zip(RECIPROCALS, LOGARITHMS)]),
+    ("exponential_tables", "coarse_at", COARSE, ["coarse"]),
+    ("exponential_tables", "fine_at", FINE, ["fine"]),
+    ("circular_tables", "sine_cosine_at", pairs("SineCosine", SINES, COSINES), ["sines", "cosines"]),
+    ("logarithm_tables", "piece_at", pairs("Piece", RECIPROCALS, LOGARITHMS), ["reciprocals", "logarithms"]),
 ]
 SERIES = "elementary_bounds/specs/Series.antt"
 LISTS = [
@@ -115,25 +120,65 @@ def numbers(block):
     return [int(v) for v in re.findall(r"\d+", re.sub(r"\d+ =>", "", block))]
 
 
-def settle(path, name, text, start, end, values, block):
-    """Replace text[start:end] by block, unless its numbers are the values already."""
+def settle(path, name, text, start, end, same, block):
+    """Replace text[start:end] by block, unless they are the same already."""
     global failed
-    if numbers(text[start:end]) == values:
+    if same:
         return
     if check:
         print(f"{path}: {name} differs from what generate.py makes")
         failed = 1
         return
+    (ROOT / path).parent.mkdir(parents=True, exist_ok=True)
     (ROOT / path).write_text(text[:start] + block + text[end:])
     print(f"{path}: {name} written")
 
 
-for path, name, values in ARMS:
+def proof(crate, name, count, lists):
+    """The proof of a table's function: an arm gives the entries at its key, and no index is left past the last."""
+
+    def arm(k):
+        entries = [f"entry-at {table} (c .match .keys{k + 1}) refl" for table in lists]
+        return "(λ c. " + (entries[0] if len(entries) == 1 else "(" + ", ".join(entries) + ")") + ")"
+
+    row = 3 if len(lists) == 1 else 1
+    arms = "\n".join("    " + " ".join(arm(k) for k in range(start, min(start + row, count))) for start in range(0, count, row))
+    module = f"Rattle.{crate}.proofs.{name}"
+    return f"""-- `{crate}::{name}` meets its contract. Made by scripts/elementary/generate.py. Assumes nothing.
+use mathlib.Core.Path.{{refl}}
+use native.Mathlib.Omega.{{arith}}
+use Rattle.{crate}.specs.Tables.{{{", ".join(lists)}}}
+use Rattle.fixed_point.proofs.Arms.{{entry-at, rest-above}}
+use {module}.Statement.{{statement}}
+use {module}.Tie as tie
+
+-- past the last key: no index is left
+beyond : tie.Need-returns-{count + 1}
+beyond c = omega (arith, rest-above {count} (c .before .args .i) (c .match .rest))
+
+pub {name.replace("_", "-")}-spec : {{M : Type 1}} → statement M
+unfolding {" ".join(lists)}
+{name.replace("_", "-")}-spec =
+    tie.close
+    (tie.spec
+{arms}
+    beyond)
+"""
+
+
+for crate, name, values, lists in ARMS:
+    path = f"{crate}/proofs/{name}/Proof.antt"
+    text = proof(crate, name, len(values), lists)
+    there = (ROOT / path).read_text() if (ROOT / path).exists() else ""
+    settle(path, name, there, 0, len(there), there == text, text)
+
+for crate, name, values, _ in ARMS:
+    path = f"{crate}/src/lib.rt"
     text = (ROOT / path).read_text()
     start = text.index("    match i {\n", text.index(f"pub fn {name}(")) + len("    match i {\n")
     end = text.index("        _ => ", start)
     block = "".join(f"        {i} => {v},\n" for i, v in enumerate(values))
-    settle(path, name, text, start, end, numbers(block), block)
+    settle(path, name, text, start, end, numbers(text[start:end]) == numbers(block), block)
 
 for path, name, values, row in LISTS:
     text = (ROOT / path).read_text()
@@ -143,7 +188,7 @@ for path, name, values, row in LISTS:
     rows = [values[k : k + row] for k in range(0, len(values), row)] if row else [values]
     body = " ∷\n    ".join(" ∷ ".join(map(str, r)) for r in rows) + " ∷ []"
     block = ("\n    " if row else " ") + (f"({body})" if "homogeneous" in name else body)
-    settle(path, name, text, start, end, values, block)
+    settle(path, name, text, start, end, numbers(text[start:end]) == values, block)
 
 print("generate.py: all as generated" if check and not failed else "generate.py: done" if not check else "generate.py: differences")
 sys.exit(failed)

@@ -1,5 +1,6 @@
 // Whether the one-altitude call accepts a record: refusals 2, 1 and 3 of document 01, then 10 of document 02, in this order, with their places.
 ghost use mathlib.Core.Path.{_≡_};
+ghost use mathlib.Core.Bool.{cond};
 ghost use Rattle.setting.specs.Switches.{given, isOne};
 ghost use Rattle.acceptance.specs.Acceptance.{withinOf, dayWithin, arrayUnfitOf, unfitOf, arrayOutsideOf, outsideOf, foundOf, judgedOf, acceptedOf, unmixedOf, recordAnswer, withAltOf};
 use numbers::finite;
@@ -34,131 +35,77 @@ pub fn day_within(n: Input) -> bool
     true
 }
 
-// The place of the first value of an array that is there and not finite, or 17.
+// The field at which a test failed, else the lowest of those behind it.
+pub fn failed_at(failed: bool, field: usize, behind: usize) -> usize
+    ensures { λ r. ⌜ r ≡ cond failed field behind ⌝ }
+{
+    if failed {
+        return field;
+    }
+    behind
+}
+
+// The place of the first value of an array that is there and not finite, or 17. The tests stand last first, as the first that fails decides.
 pub fn array_unfit(there: bool, a: [f64; 7]) -> usize
     ensures { λ r. ⌜ r ≡ arrayUnfitOf there a ⌝ }
 {
-    if there & !finite(a[0]) {
-        return 10;
-    }
-    if there & !finite(a[1]) {
-        return 11;
-    }
-    if there & !finite(a[2]) {
-        return 12;
-    }
-    if there & !finite(a[3]) {
-        return 13;
-    }
-    if there & !finite(a[4]) {
-        return 14;
-    }
-    if there & !finite(a[5]) {
-        return 15;
-    }
-    if there & !finite(a[6]) {
-        return 16;
-    }
-    17
+    let from_16 = failed_at(there & !finite(a[6]), 16, 17);
+    let from_15 = failed_at(there & !finite(a[5]), 15, from_16);
+    let from_14 = failed_at(there & !finite(a[4]), 14, from_15);
+    let from_13 = failed_at(there & !finite(a[3]), 13, from_14);
+    let from_12 = failed_at(there & !finite(a[2]), 12, from_13);
+    let from_11 = failed_at(there & !finite(a[1]), 11, from_12);
+    failed_at(there & !finite(a[0]), 10, from_11)
 }
 
 // The lowest field that is not finite, or 17.
 pub fn unfit(n: Input) -> usize
     ensures { λ r. ⌜ r ≡ unfitOf n ⌝ }
 {
-    if !finite(n.sec) {
-        return 2;
-    }
-    if !finite(n.alt) {
-        return 3;
-    }
-    if !finite(n.g_lat) {
-        return 4;
-    }
-    if !finite(n.g_long) {
-        return 5;
-    }
-    if !finite(n.lst) {
-        return 6;
-    }
-    if !finite(n.f107a) {
-        return 7;
-    }
-    if !finite(n.f107) {
-        return 8;
-    }
-    if !finite(n.ap) {
-        return 9;
-    }
     let h = n.history;
     let a = n.ap_array;
     let none = absent(h);
-    array_unfit(!none, a)
+    let from_10 = array_unfit(!none, a);
+    let from_9 = failed_at(!finite(n.ap), 9, from_10);
+    let from_8 = failed_at(!finite(n.f107), 8, from_9);
+    let from_7 = failed_at(!finite(n.f107a), 7, from_8);
+    let from_6 = failed_at(!finite(n.lst), 6, from_7);
+    let from_5 = failed_at(!finite(n.g_long), 5, from_6);
+    let from_4 = failed_at(!finite(n.g_lat), 4, from_5);
+    let from_3 = failed_at(!finite(n.alt), 3, from_4);
+    failed_at(!finite(n.sec), 2, from_3)
 }
 
 // The place of the first value of an array that is there and outside 0 to 400, or 17.
 pub fn array_outside(there: bool, a: [f64; 7]) -> usize
     ensures { λ r. ⌜ r ≡ arrayOutsideOf there a ⌝ }
 {
-    if there & !within(0.0, 400.0, a[0]) {
-        return 10;
-    }
-    if there & !within(0.0, 400.0, a[1]) {
-        return 11;
-    }
-    if there & !within(0.0, 400.0, a[2]) {
-        return 12;
-    }
-    if there & !within(0.0, 400.0, a[3]) {
-        return 13;
-    }
-    if there & !within(0.0, 400.0, a[4]) {
-        return 14;
-    }
-    if there & !within(0.0, 400.0, a[5]) {
-        return 15;
-    }
-    if there & !within(0.0, 400.0, a[6]) {
-        return 16;
-    }
-    17
+    let from_16 = failed_at(there & !within(0.0, 400.0, a[6]), 16, 17);
+    let from_15 = failed_at(there & !within(0.0, 400.0, a[5]), 15, from_16);
+    let from_14 = failed_at(there & !within(0.0, 400.0, a[4]), 14, from_15);
+    let from_13 = failed_at(there & !within(0.0, 400.0, a[3]), 13, from_14);
+    let from_12 = failed_at(there & !within(0.0, 400.0, a[2]), 12, from_13);
+    let from_11 = failed_at(there & !within(0.0, 400.0, a[1]), 11, from_12);
+    failed_at(there & !within(0.0, 400.0, a[0]), 10, from_11)
 }
 
 // The lowest field out of its range, or 17.
 pub fn outside(n: Input) -> usize
     ensures { λ r. ⌜ r ≡ outsideOf n ⌝ }
 {
-    if !day_within(n) {
-        return 1;
-    }
-    if !within(0.0, 86400.0, n.sec) {
-        return 2;
-    }
-    if !within(0.0, 2500.0, n.alt) {
-        return 3;
-    }
-    if !within(-90.0, 90.0, n.g_lat) {
-        return 4;
-    }
-    if !within(-1000.0, 1000.0, n.g_long) {
-        return 5;
-    }
-    if !within(-24.0, 48.0, n.lst) {
-        return 6;
-    }
-    if !within(0.0, 1000.0, n.f107a) {
-        return 7;
-    }
-    if !within(0.0, 1000.0, n.f107) {
-        return 8;
-    }
-    if !within(0.0, 400.0, n.ap) {
-        return 9;
-    }
     let h = n.history;
     let a = n.ap_array;
     let none = absent(h);
-    array_outside(!none, a)
+    let from_10 = array_outside(!none, a);
+    let from_9 = failed_at(!within(0.0, 400.0, n.ap), 9, from_10);
+    let from_8 = failed_at(!within(0.0, 1000.0, n.f107), 8, from_9);
+    let from_7 = failed_at(!within(0.0, 1000.0, n.f107a), 7, from_8);
+    let from_6 = failed_at(!within(-24.0, 48.0, n.lst), 6, from_7);
+    let from_5 = failed_at(!within(-1000.0, 1000.0, n.g_long), 5, from_6);
+    let from_4 = failed_at(!within(-90.0, 90.0, n.g_lat), 4, from_5);
+    let from_3 = failed_at(!within(0.0, 2500.0, n.alt), 3, from_4);
+    let from_2 = failed_at(!within(0.0, 86400.0, n.sec), 2, from_3);
+    failed_at(!day_within(n), 1, from_2)
 }
 
 // Whether a place is one of the fields 0 to 16.

@@ -1,6 +1,6 @@
 -- The altitudes met one by one, and the answer to a column.
 use mathlib.Core.Path.{_≡_, refl, sym, ap, subst}
-use mathlib.Core.Bool.{Bool, true, false, cond, not, _&&_, false≢true}
+use mathlib.Core.Bool.{Bool, true, false, cond, not, _&&_, false≢true, and-assoc, and-true}
 use mathlib.Core.List.{List, _∷_}
 use Prim.Native.Nat.{ℕ, suc, _+_, _*_, _<_, _≤_}
 use native.Mathlib.Numerals.{add-one}
@@ -12,12 +12,25 @@ use lib.Seq.{drop-cons, drop-length}
 use lib.Ieee.{Float, nan, le}
 use Rattle.numbers.specs.Literals.{0·0, 2500·0}
 use Rattle.numbers.specs.Tests.{finiteOf}
+use Rattle.numbers.specs.Booleans.{both}
 use Rattle.setting.specs.declared.Input.{Input}
 use Rattle.setting.specs.Switches.{given, isOne}
 use Rattle.acceptance.specs.declared.Answer.{Answer}
 use Rattle.acceptance.specs.declared.Answer.the-variants.{Accepted, Refused}
 use Rattle.acceptance.specs.Acceptance.{withinOf, judgedOf, acceptedOf, unmixedOf, withAltOf}
 use Rattle.altitudes.specs.Altitudes.{altitudesFrom, unmixedFrom, judgedAllOf, columnAnswer}
+use Rattle.altitudes.specs.Within.{allWithin}
+
+-- ---- all in range
+
+module _ (alts : List Float) (k : ℕ) (h : k < length alts) where
+  pub within-here : (all b : Bool) → b ≡ withinOf 0·0 2500·0 (getD alts k nan) → ((all && b) && allWithin (drop (k + 1) alts)) ≡ (all && allWithin (drop k alts))
+  unfolding allWithin
+  within-here all b e = rw (drop-cons alts k nan h, add-one, ← e) (and-assoc all b _)
+
+pub all-within : (alts : List Float) (k : ℕ) (all : Bool) → k ≡ length alts → all ≡ (all && allWithin (drop k alts))
+unfolding allWithin
+all-within alts k all e = rw (e, drop-length alts) (sym (and-true all))
 
 -- ---- the altitudes
 
@@ -98,16 +111,12 @@ passed : (b : Bool) (n k : ℕ) (a : Answer) → cond (not b) (Refused n k) a �
 passed true n k a e = (refl, e)
 passed false n k a e = absurd (subst (λ (r : Answer). T (not (acceptedOf r))) e tt)
 
-right-of : (a b : Bool) → (a && b) ≡ true → b ≡ true
-right-of true b e = e
-right-of false b e = absurd (false≢true e)
-
 pub not-above : (k : ℕ) (z : Float) (zs : List Float) → altitudesFrom k (z ∷ zs) ≡ Accepted → (le z 2500·0 ≡ true) × (altitudesFrom (k + 1) zs ≡ Accepted)
 unfolding altitudesFrom withinOf
 not-above k z zs e =
     let f = passed (finiteOf z) 2 (17 + k) _ e in
     let g = passed (le 0·0 z && le z 2500·0) 3 (17 + k) _ (f .1) in
-    (right-of (le 0·0 z) (le z 2500·0) (g .0), g .1)
+    (both (le 0·0 z) (le z 2500·0) (g .0) .1, g .1)
 
 second-passed : (b : Bool) (c : Bool) (n : ℕ) (a : Answer) → acceptedOf (cond b (Refused 5 512) (cond c (Refused 4 n) a)) ≡ true → c ≡ false
 second-passed true c n a h = absurd (false≢true h)

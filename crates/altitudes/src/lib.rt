@@ -1,6 +1,7 @@
 // What a column's record, its altitudes and the length of its buffer meet.
 ghost use mathlib.Core.Path.{_≡_};
 ghost use Rattle.altitudes.specs.Altitudes.{altitudesFrom, unmixedFrom, judgedAllOf, columnAnswer};
+ghost use Rattle.altitudes.specs.Within.{allWithin};
 use acceptance::Answer;
 use acceptance::accepted;
 use acceptance::judge;
@@ -11,10 +12,27 @@ use acceptance::within;
 use numbers::finite;
 use setting::Input;
 
-// The first altitude that is refused, in order: 2, else 3.
+// Whether all altitudes are in range. The loop has no way out, so that it is compiled to several altitudes at a time.
+pub fn all_within(alts: &[f64]) -> bool
+    ensures { λ r. ⌜ r ≡ allWithin (now (alts .entry)) ⌝ }
+{
+    let mut all = true;
+    let mut k: usize = 0;
+    while k < alts.len() {
+        let z = alts[k];
+        all = all & within(0.0, 2500.0, z);
+        k += 1;
+    }
+    all
+}
+
+// The first altitude that is refused, in order: 2, else 3. Where all are in range none is.
 pub fn altitudes(alts: &[f64]) -> Answer
     ensures { λ r. ⌜ r ≡ altitudesFrom 0 (now (alts .entry)) ⌝ }
 {
+    if all_within(alts) {
+        return Answer::Accepted;
+    }
     let mut k: usize = 0;
     while k < alts.len() {
         let z = alts[k];
@@ -33,6 +51,9 @@ pub fn altitudes(alts: &[f64]) -> Answer
 pub fn unmixed_altitude(on: bool, alts: &[f64]) -> Answer
     ensures { λ r. ⌜ r ≡ unmixedFrom on 0 (now (alts .entry)) ⌝ }
 {
+    if on {
+        return Answer::Accepted;
+    }
     let mut k: usize = 0;
     while k < alts.len() {
         let z = alts[k];

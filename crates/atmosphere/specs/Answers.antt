@@ -20,7 +20,7 @@ use Rattle.needed_sets.specs.declared.Need.{Need}
 use Rattle.needed_sets.specs.NeededSets.{needAt, withHigh}
 use Rattle.expansion_values.specs.ExpansionValues.{legendreIn, quietOf, activeOf, wideOf, expansionValuesOf}
 use Rattle.expansion_values.specs.Settled.{Settled, fresh-settled, after-settled, globe7-first, globe7-second, glob7s-first, glob7s-second, Kept, kept-done, kept-ask, kept-keep, kept-then, kept-either}
-use Rattle.mixing.specs.declared.limits.Mixed.{Mixed}
+use Rattle.mixing_limits.specs.declared.Mixed.{Mixed}
 use Rattle.profile.specs.declared.unchecked.Shape.{Shape}
 use Rattle.gts7_arithmetic.specs.declared.Site.{Site}
 use Rattle.gts7_arithmetic.specs.declared.Gts7Output.{Gts7Output}

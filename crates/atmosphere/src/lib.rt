@@ -18,10 +18,11 @@ use footing::row_below;
 use gts7_arithmetic::Site;
 use gts7_arithmetic::site_with;
 use lower_atmosphere::above;
-use mixing::limits::mixed_at;
-use mixing::limits::some_mixed;
+use mixing_limits::mixed_at;
+use mixing_limits::some_mixed;
 use needed_sets::need_at;
 use numbers::pick;
+use numbers::put_row;
 use parameters::Parameters;
 use parameters::present;
 use plan::ExpansionValues;
@@ -66,25 +67,13 @@ pub fn eleven(sw: [f64; 24], x: Site, l: ExpansionValues, alt: f64) -> [f64; 11]
     row_lower(sw, x, l, alt)
 }
 
-// The eleven numbers into a row of eleven.
-pub fn put(out: &mut [f64], v: [f64; 11])
-    requires { ⌜ length (now out) ≡ 11 ⌝ }
-    ensures { λ _. ⌜ now (out .exit) ≡ v ⌝ }
-{
-    let mut i: usize = 0;
-    while i < 11 {
-        out[i] = v[i];
-        i += 1;
-    }
-}
-
 // The same into a lent row of eleven.
 pub fn row_at(sw: [f64; 24], x: Site, l: ExpansionValues, alt: f64, out: &mut [f64])
     requires { ⌜ (length (now out) ≡ 11) × HasMass x ⌝ }
     ensures { λ _. ⌜ now (out .exit) ≡ elevenFrom sw x l alt ⌝ }
 {
     let row = eleven(sw, x, l, alt);
-    put(out, row);
+    put_row(out, row);
 }
 
 // What the row of a record reads of it under a switch row.

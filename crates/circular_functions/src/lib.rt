@@ -1,7 +1,6 @@
 // sin and cos on f64, by whole numbers alone: quarter turns are taken off the argument, and the sine and the cosine of
 // what is left come from a table's entry and a short series.
-use circular_tables::cosine_at;
-use circular_tables::sine_at;
+use circular_tables::sine_cosine_at;
 use fixed_point::apart;
 use fixed_point::choose;
 use fixed_point::high;
@@ -54,11 +53,10 @@ pub fn part(h: u64, r: u64) -> u64
     requires { ⌜ r ≤ 2 ^ 58 ⌝ }
     ensures { λ v. ⌜ (v ≡ circularPart h r) × (v ≤ 2 ^ 59) ⌝ }
 {
-    let a = sine_at(r / 1125899906842624);
-    let b = cosine_at(r / 1125899906842624);
+    let entry = sine_cosine_at(r / 1125899906842624);
     let d = r % 1125899906842624;
-    let u = choose(h, a, b);
-    let w = choose(h, b, a);
+    let u = choose(h, entry.0, entry.1);
+    let w = choose(h, entry.1, entry.0);
     offset(h, u, scaling(w, cubic(d))) - decrement(u, versine(d))
 }
 

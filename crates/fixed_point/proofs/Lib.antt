@@ -1,6 +1,6 @@
 -- Laws that several proofs cite.
 pub mod Product
-pub mod Rest
+pub mod Arms
 pub mod Choice
 pub mod Decode
 pub mod Bits

@@ -5,8 +5,8 @@ use mathlib.Core.List.{List, [], _∷_}
 use lib.Ieee.{Float, lt}
 use Rattle.numbers.specs.Arithmetic.{_⊕_, _⊖_, _⊗_, _⊘_, _‼_}
 use Rattle.numbers.specs.Literals.{0·0, 1·0, 32·5, 72·5}
-use Rattle.mixing.specs.Limits.{mixedAt}
-use Rattle.mixing.specs.declared.limits.Mixed.{Mixed}
+use Rattle.mixing_limits.specs.Limits.{mixedAt}
+use Rattle.mixing_limits.specs.declared.Mixed.{Mixed}
 use Rattle.profile.specs.declared.unchecked.Shape.{Shape}
 use Rattle.profile.specs.declared.unchecked.Profile.{Profile}
 use Rattle.profile.specs.Profile.{returnedNumber, temperatureIn}
@@ -21,7 +21,8 @@ use Rattle.gts7_arithmetic.specs.Gts7Arithmetic.{massOf}
 use Rattle.stages.specs.Stages.{shapePlan, n2Plan, heliumPlan, o2Plan, argonPlan}
 use Rattle.lower_atmosphere.specs.declared.Meso.{Meso}
 use Rattle.lower_atmosphere.specs.declared.Nodes.{Nodes}
-use Rattle.lower_atmosphere.specs.LowerAtmosphere.{mesoNodesPlan, unsetNodes, dmcOf, dm28mOf, lowerN2, fullOf, kilogramsOf}
+use Rattle.mixing.specs.Mixing.{dmcOf}
+use Rattle.lower_atmosphere.specs.LowerAtmosphere.{mesoNodesPlan, unsetNodes, dm28mOf, lowerN2, fullOf, kilogramsOf}
 use Rattle.footing.specs.declared.Curves.{Curves}
 use Rattle.footing.specs.declared.Footing.{Footing}
 use Rattle.footing.specs.declared.Three.{Three}

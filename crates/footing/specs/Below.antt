@@ -6,8 +6,8 @@ use mathlib.Core.List.{List}
 use lib.Ieee.{Float, lt, eq, ne, ofBits}
 use Rattle.numbers.specs.Arithmetic.{_⊗_, _‼_}
 use Rattle.numbers.specs.Literals.{0·0, 1·0, 32·5, 72·5}
-use Rattle.mixing.specs.Limits.{mixedAt}
-use Rattle.mixing.specs.declared.limits.Mixed.{Mixed}
+use Rattle.mixing_limits.specs.Limits.{mixedAt}
+use Rattle.mixing_limits.specs.declared.Mixed.{Mixed}
 use Rattle.profile.specs.Curve.{layerOf, flooredOf}
 use Rattle.profile.specs.Profile.{densmOf, profileAnswer, temperatureIn}
 use Rattle.layers.specs.Layers.{spanOf, densm-upper, densm-lower}

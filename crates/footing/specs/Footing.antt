@@ -4,8 +4,8 @@ use mathlib.Core.List.{List, [], _∷_}
 use lib.Ieee.{Float, lt, ne}
 use Rattle.numbers.specs.Arithmetic.{_⊕_, _⊖_, _⊗_, _⊘_, _‼_}
 use Rattle.numbers.specs.Literals.{0·0, 1·0, 32·5, 72·5, 1·0E6}
-use Rattle.mixing.specs.Limits.{mixedAt}
-use Rattle.mixing.specs.declared.limits.Mixed.{Mixed}
+use Rattle.mixing_limits.specs.Limits.{mixedAt}
+use Rattle.mixing_limits.specs.declared.Mixed.{Mixed}
 use Rattle.profile.specs.Curve.{layerOf}
 use Rattle.profile.specs.Profile.{loweredOf, returnedNumber, temperatureIn}
 use Rattle.profile.specs.declared.unchecked.Profile.{Profile}
@@ -19,7 +19,8 @@ use Rattle.gts7_arithmetic.specs.declared.Site.{Site}
 use Rattle.gts7_arithmetic.specs.Gts7Arithmetic.{massOf}
 use Rattle.stages.specs.Stages.{shapePlan, n2Plan, heliumPlan, o2Plan, argonPlan}
 use Rattle.lower_atmosphere.specs.declared.Meso.{Meso}
-use Rattle.lower_atmosphere.specs.LowerAtmosphere.{mesoNodesPlan, lowerPlan, unsetNodes, dmcOf, dm28mOf, zn2, zn3, lowerN2, fullOf, kilogramsOf}
+use Rattle.mixing.specs.Mixing.{dmcOf}
+use Rattle.lower_atmosphere.specs.LowerAtmosphere.{mesoNodesPlan, lowerPlan, unsetNodes, dm28mOf, zn2, zn3, lowerN2, fullOf, kilogramsOf}
 use Rattle.footing.specs.declared.Curves.{Curves}
 use Rattle.footing.specs.declared.Footing.{Footing}
 use Rattle.footing.specs.declared.Three.{Three}

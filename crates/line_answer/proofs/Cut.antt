@@ -11,15 +11,10 @@ use native.Mathlib.Omega.{arith}
 use lib.Seq.{length-take-le, take-suc-set, take-at, drop-at, drop-drop, drop-cons, drop-length}
 use Rattle.line_text.proofs.Choice.{cond-true, cond-false}
 use Rattle.line_text.specs.Text.{written, Writes}
+use Rattle.line_cut.specs.Lines.{nextNumber, keptOf, lenKept, lineKept}
 use Rattle.line_answer.specs.declared.Place.{Place}
 use Rattle.line_answer.specs.Answer.{answerText}
-use Rattle.line_answer.specs.Lines.{Progress, nextNumber, progressOf, keptOf, stepOf, fedOf, lenAfter, lineStep, lineAfter, KeptBehind, lastPrinted, begin}
-
-pub after-more : (n : ℕ) → n < 0xffff_ffff_ffff_ffff → n + 1 ≡ nextNumber n
-after-more n h = cond-true _ _ _ (lt-ltb n 0xffff_ffff_ffff_ffff h)
-
-pub after-last : (n : ℕ) → 0xffff_ffff_ffff_ffff ≤ n → n ≡ nextNumber n
-after-last n h = cond-false _ _ _ (le-ltb n 0xffff_ffff_ffff_ffff h)
+use Rattle.line_answer.specs.Lines.{Progress, progressOf, stepOf, fedOf, lenAfter, lineStep, lineAfter, KeptBehind, lastPrinted, begin}
 
 take-written : (b c t : List ℕ) (at r : ℕ) → at ≤ length b → Writes b at t c r → take r c ≡ take at b ++ t
 unfolding written
@@ -52,20 +47,10 @@ module _ (line out : List ℕ) (p : Place) (b : ℕ) where
   line-ended c r m e h w f =
       rw (f, take-written out c (answerText (take (p .len) line) (p .number)) (p .used) r h w) (cond-true _ _ _ (eq-eqb b 10 e))
 
-  module _ (ne : b ≡ 10 → ⊥) (h : p .len ≤ length line) where
-    pub line-longer : p .len < 512 → p .len < length line
-        → progressOf (set line (p .len) b) out (record { len = p .len + 1; number = p .number; used = p .used }) ≡ stepOf b (progressOf line out p)
-    unfolding progressOf stepOf keptOf
-    line-longer g i =
-        let k : take (p .len + 1) (set line (p .len) b) ≡ take (p .len) line ++ (b ∷ []) = rw add-one (take-suc-set line (p .len) b i) in
-        let room : ltb (length (take (p .len) line)) 512 ≡ true = rw (length-take-le (p .len) line h) (lt-ltb _ _ g) in
-        rw (k ∙ cond-true _ _ (take (p .len) line) room) (cond-false _ _ _ (ne-eqb b 10 ne))
-
-    pub line-full : 512 ≤ p .len → progressOf line out p ≡ stepOf b (progressOf line out p)
-    unfolding progressOf stepOf keptOf
-    line-full g =
-        let room : ltb (length (take (p .len) line)) 512 ≡ false = rw (length-take-le (p .len) line h) (le-ltb _ _ g) in
-        ap (λ (l : List ℕ). record { kept = l; number = p .number; printed = take (p .used) out }) (cond-false _ (take (p .len) line ++ (b ∷ [])) _ room) ∙ cond-false _ _ _ (ne-eqb b 10 ne)
+  pub line-kept : (l : List ℕ) (m : ℕ) → (b ≡ 10 → ⊥) → take m l ≡ keptOf (take (p .len) line) b
+      → progressOf l out (record { len = m; number = p .number; used = p .used }) ≡ stepOf b (progressOf line out p)
+  unfolding progressOf stepOf
+  line-kept l m ne e = rw e (cond-false _ _ _ (ne-eqb b 10 ne))
 
 -- the bytes kept and the line's buffer
 module _ (line : List ℕ) (len b : ℕ) where
@@ -73,16 +58,9 @@ module _ (line : List ℕ) (len b : ℕ) where
   unfolding lenAfter lineStep
   begun-anew e = (cond-true _ _ _ (eq-eqb b 10 e), cond-true _ _ _ (eq-eqb b 10 e))
 
-  module _ (ne : b ≡ 10 → ⊥) where
-    pub one-more : len < 512 → (len + 1 ≡ lenAfter b len) × (set line len b ≡ lineStep b len line)
-    unfolding lenAfter lineStep
-    one-more h =
-        (cond-true _ _ _ (lt-ltb _ _ h) ∙ cond-false _ _ _ (ne-eqb b 10 ne), cond-true _ _ _ (lt-ltb _ _ h) ∙ cond-false _ _ _ (ne-eqb b 10 ne))
-
-    pub no-more : 512 ≤ len → (len ≡ lenAfter b len) × (line ≡ lineStep b len line)
-    unfolding lenAfter lineStep
-    no-more h =
-        (cond-false _ _ _ (le-ltb _ _ h) ∙ cond-false _ _ _ (ne-eqb b 10 ne), cond-false _ _ _ (le-ltb _ _ h) ∙ cond-false _ _ _ (ne-eqb b 10 ne))
+  pub one-kept : (l : List ℕ) (m : ℕ) → (b ≡ 10 → ⊥) → m ≡ lenKept len → l ≡ lineKept b len line → (m ≡ lenAfter b len) × (l ≡ lineStep b len line)
+  unfolding lenAfter lineStep
+  one-kept l m ne e f = (e ∙ cond-false _ _ _ (ne-eqb b 10 ne), f ∙ cond-false _ _ _ (ne-eqb b 10 ne))
 
 -- ---- a chunk
 

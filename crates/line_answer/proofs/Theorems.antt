@@ -20,8 +20,8 @@ use Rattle.line_form.proofs.Theorems.{dnet-read, dnet-gives, ccor-read, ccor-gi
 use Rattle.line_text.specs.Text.{valueText, refusedText}
 use Rattle.line_text.proofs.Choice.{cond-true, cond-false}
 use Rattle.line_answer.specs.Answer.{dnetValue, ccorValue, runAnswer, answerText}
-use Rattle.line_cut.specs.Lines.{linesFrom}
-use Rattle.line_answer.specs.Lines.{nextNumber, answersFrom, answersTo, Progress, keptOf, stepOf, fedOf, lastPrinted, begin, writtenFor, joinedChunks}
+use Rattle.line_cut.specs.Lines.{linesFrom, nextNumber, keptOf}
+use Rattle.line_answer.specs.Lines.{answersFrom, answersTo, Progress, stepOf, fedOf, lastPrinted, begin, writtenFor, joinedChunks}
 
 -- ---- a line by its form
 

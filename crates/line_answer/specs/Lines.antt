@@ -1,19 +1,15 @@
 -- The answers to the lines of a text; and the same byte by byte, as the program reads them.
-use Prim.Native.Nat.{ℕ, _+_}
+use Prim.Native.Nat.{ℕ}
 use mathlib.Core.Path.{_≡_}
 use mathlib.Core.Bool.{cond}
 use mathlib.Core.List.{List, [], _∷_, _++_}
-use lib.Dec.{ltb, eqb}
-use lib.ListN.{length, take, drop, set}
-use Rattle.line_cut.specs.Lines.{linesFrom}
+use lib.Dec.{eqb}
+use lib.ListN.{length, take, drop}
+use Rattle.line_cut.specs.Lines.{linesFrom, nextNumber, keptOf, lenKept, lineKept}
 use Rattle.line_answer.specs.declared.Place.{Place}
 use Rattle.line_answer.specs.Answer.{answerText}
 
 -- ---- a whole text
-
--- the number after a line's, which stops at the largest that 64 bits hold
-abbrev pub nextNumber : ℕ → ℕ
-nextNumber number = cond (ltb number 0xffff_ffff_ffff_ffff) (number + 1) number
 
 -- the answers to lines, the first of which has the number given
 unfoldable pub answersFrom : ℕ → List (List ℕ) → List ℕ
@@ -40,10 +36,6 @@ begin kept number = record { kept = kept; number = number; printed = [] }
 unfoldable pub progressOf : List ℕ → List ℕ → Place → Progress
 progressOf line out p = record { kept = take (p .len) line; number = p .number; printed = take (p .used) out }
 
--- one byte more of a line: of a longer one 512 bytes are kept, one more than a form may have
-unfoldable pub keptOf : List ℕ → ℕ → List ℕ
-keptOf l b = cond (ltb (length l) 512) (l ++ (b ∷ [])) l
-
 -- a newline has the line answered; any other byte is one more of it
 unfoldable pub stepOf : ℕ → Progress → Progress
 stepOf b s =
@@ -56,10 +48,10 @@ fedOf (b ∷ bytes) s = fedOf bytes (stepOf b s)
 
 -- how many bytes of the line begun are kept after a byte, and the line's buffer after it: behind them lies what lay there
 unfoldable pub lenAfter : ℕ → ℕ → ℕ
-lenAfter b len = cond (eqb b 10) 0 (cond (ltb len 512) (len + 1) len)
+lenAfter b len = cond (eqb b 10) 0 (lenKept len)
 
 unfoldable pub lineStep : ℕ → ℕ → List ℕ → List ℕ
-lineStep b len line = cond (eqb b 10) line (cond (ltb len 512) (set line len b) line)
+lineStep b len line = cond (eqb b 10) line (lineKept b len line)
 
 -- the line's buffer after the bytes of a chunk
 unfoldable pub lineAfter : List ℕ → ℕ → List ℕ → List ℕ

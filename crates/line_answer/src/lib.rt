@@ -4,9 +4,11 @@ ghost use Prim.Native.Nat.{_+_, _*_, _≤_};
 ghost use lib.ListN.{length, take};
 ghost use Rattle.line_text.specs.Text.{Writes};
 ghost use Rattle.line_answer.specs.Answer.{dnetValue, ccorValue, outcomeText, runAnswer, answerText};
-ghost use Rattle.line_answer.specs.Lines.{nextNumber, progressOf, stepOf, fedOf, lenAfter, lineStep, lineAfter, KeptBehind, lastPrinted, begin};
+ghost use Rattle.line_answer.specs.Lines.{progressOf, stepOf, fedOf, lenAfter, lineStep, lineAfter, KeptBehind, lastPrinted, begin};
 use acceptance::Answer;
 use atmosphere::gtd7;
+use line_cut::keep;
+use line_cut::next_number;
 use line_form::Reading;
 use line_form::Run;
 use line_form::ccor_form;
@@ -94,15 +96,6 @@ pub fn answer(out: &mut [u8], at: usize, s: &[u8], number: u64) -> usize
     refused(out, at, 7, number)
 }
 
-pub fn after(number: u64) -> u64
-    ensures { λ r. ⌜ r ≡ nextNumber number ⌝ }
-{
-    if number < 18446744073709551615 {
-        return number + 1;
-    }
-    number
-}
-
 // One byte of the input.
 pub fn take_byte(b: u8, line: &mut [u8], out: &mut [u8], p: Place) -> Place
     requires { ⌜ (length (now line) ≡ 512) × (p .len ≤ 512) × (p .used + 193 ≤ length (now out)) ⌝ }
@@ -118,19 +111,15 @@ pub fn take_byte(b: u8, line: &mut [u8], out: &mut [u8], p: Place) -> Place
         let end = answer(out, used, &line[..len], number);
         return Place {
             len: 0,
-            number: after(number),
+            number: next_number(number),
             used: end,
         };
     }
-    if len < 512 {
-        line[len] = b;
-        return Place {
-            len: len + 1,
-            number: number,
-            used: used,
-        };
+    Place {
+        len: keep(b, line, len),
+        number: number,
+        used: used,
     }
-    p
 }
 
 // Before the input.

@@ -18,7 +18,8 @@ use Rattle.gts7_arithmetic.specs.Gts7Arithmetic.{massOf}
 use Rattle.lower_atmosphere.specs.declared.Meso.{Meso}
 use Rattle.lower_atmosphere.specs.declared.Nodes.{Nodes}
 use Rattle.lower_atmosphere.specs.declared.Gtd7Output.{Gtd7Output}
-use Rattle.lower_atmosphere.specs.LowerAtmosphere.{mesosphereOf, troposphereOf, unsetNodes, mesoNodesPlan, lowerPlan, dmcOf, dm28mOf, lowerN2, lowerTemperature, fullOf, kilogramsOf, gtd7Below}
+use Rattle.mixing.specs.Mixing.{dmcOf}
+use Rattle.lower_atmosphere.specs.LowerAtmosphere.{mesosphereOf, troposphereOf, unsetNodes, mesoNodesPlan, lowerPlan, dm28mOf, lowerN2, lowerTemperature, fullOf, kilogramsOf, gtd7Below}
 
 pub meso-law : (sw : List Float) (h : Shape) (l : ExpansionValues) (x : Meso) (k : Float) (p9 p2 p1 p0 q : List Float)
     → x ≡ mesosphereOf h q (record { pma0 = p0 ‼ 0; pma1 = p1 ‼ 0; pma2 = p2 ‼ 0; pma9 = p9 ‼ 0 }) k

@@ -3,8 +3,9 @@ use mathlib.Core.Bool.{cond, not}
 use mathlib.Core.List.{List, [], _∷_}
 use lib.Ieee.{Float, lt, ne}
 use Rattle.numbers.specs.Arithmetic.{_⊕_, _⊖_, _⊗_, _⊘_, _‼_}
-use Rattle.numbers.specs.Literals.{0·0, 1·0, 2·0, 10·0, 15·0, 20·0, 32·5, 45·0, 55·0, 62·5, 72·5, 1000·0, 1·0E6}
+use Rattle.numbers.specs.Literals.{0·0, 1·0, 2·0, 10·0, 15·0, 20·0, 32·5, 45·0, 55·0, 72·5, 1000·0, 1·0E6}
 use Rattle.elementary.specs.Pow.{powOf}
+use Rattle.mixing.specs.Mixing.{dmcOf}
 use Rattle.profile.specs.declared.unchecked.Profile.{Profile}
 use Rattle.profile.specs.declared.unchecked.Shape.{Shape}
 use Rattle.profile.specs.Profile.{densmOf, returnedNumber, temperatureIn}
@@ -82,10 +83,6 @@ lowerPlan sw alt m =
       let w = troposphereOf m pavgmT tropoFirst (powOf (pmaT6 ‼ 0 ⊗ pavgmT ‼ 6) 2·0) (record { pma3 = pma3; pma4 = pma4; pma5 = pma5; pma6 = pma6; pma7 = pma7 })
       setTn3 (w .tn3) (w .tgn3)
       done w)
-
--- dmc
-unfoldable pub dmcOf : Float → Float
-dmcOf alt = cond (lt 62·5 alt) (1·0 ⊖ (72·5 ⊖ alt) ⊘ (72·5 ⊖ 62·5)) 0·0
 
 -- dm28m
 unfoldable pub dm28mOf : Float → Float → Float

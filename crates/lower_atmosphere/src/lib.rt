@@ -1,11 +1,12 @@
 // gtd7 below 72.5 km: its nodes from the expansions, its densities and temperature.
 ghost use mathlib.Core.Path.{_≡_};
 ghost use Rattle.plan.specs.Plan.{told, answerTo};
-ghost use Rattle.lower_atmosphere.specs.LowerAtmosphere.{mesosphereOf, troposphereOf, unsetNodes, dmcOf, dm28mOf, lowerN2, fullOf, kilogramsOf, lowerTemperature, gtd7Below, gtd7Above, mesoNodesPlan, mesoPlan, lowerPlan};
+ghost use Rattle.lower_atmosphere.specs.LowerAtmosphere.{mesosphereOf, troposphereOf, unsetNodes, dm28mOf, lowerN2, fullOf, kilogramsOf, lowerTemperature, gtd7Below, gtd7Above, mesoNodesPlan, mesoPlan, lowerPlan};
 use elementary::power::pow;
 use gts7_arithmetic::Gts7Output;
 use gts7_arithmetic::Site;
 use gts7_arithmetic::mass;
+use mixing::dmc;
 use numbers::pick;
 use plan::ExpansionValues;
 use profile::unchecked::Profile;
@@ -175,13 +176,6 @@ pub fn lower_stage(sw: [f64; 24], alt: f64, m: Meso, l: ExpansionValues) -> Node
         pma7: 1.0 + sw[22] * l.pma7,
     };
     troposphere(m, q, first, k, answer)
-}
-
-// dmc: the linear transition to full mixing.
-pub fn dmc(alt: f64) -> f64
-    ensures { λ r. ⌜ r ≡ dmcOf alt ⌝ }
-{
-    pick(alt > 62.5, 1.0 - (72.5 - alt) / (72.5 - 62.5), 0.0)
 }
 
 // dm28m: the mixed density of N2 in the units asked for.

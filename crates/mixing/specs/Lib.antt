@@ -1,3 +1,2 @@
--- What the calls of this crate give (Mixing), and where each species is mixed (Limits).
+-- What the calls of this crate give.
 pub mod Mixing
-pub mod Limits

@@ -1,8 +1,8 @@
--- Chemistry and dissociation corrections, and the blend of two densities at the turbopause.
+-- Chemistry and dissociation corrections, the blend of two densities at the turbopause, and the transition to full mixing.
 use mathlib.Core.Bool.{cond, _&&_, _||_}
 use lib.Ieee.{Float, lt, eq, neg}
 use Rattle.numbers.specs.Arithmetic.{_⊕_, _⊖_, _⊗_, _⊘_}
-use Rattle.numbers.specs.Literals.{0·0, 0·5, 1·0, 10·0, 70·0}
+use Rattle.numbers.specs.Literals.{0·0, 0·5, 1·0, 10·0, 62·5, 70·0, 72·5}
 use Rattle.elementary.specs.Exp.{expOf}
 use Rattle.elementary.specs.Log.{logOf}
 use Rattle.elementary.specs.Pow.{powOf}
@@ -41,3 +41,7 @@ dnetOf dd dm zhm xmm xm =
     cond (eq dm 0·0) dd1
     (cond (eq dd1 0·0) dm
     (blendOf dd1 dm a)))
+
+-- dmc of gtd7: the linear transition to full mixing, from 62.5 to 72.5 km
+unfoldable pub dmcOf : Float → Float
+dmcOf alt = cond (lt 62·5 alt) (1·0 ⊖ (72·5 ⊖ alt) ⊘ (72·5 ⊖ 62·5)) 0·0

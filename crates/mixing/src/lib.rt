@@ -1,9 +1,6 @@
-// Chemistry and dissociation corrections, and the blend of two densities at the turbopause.
+// Chemistry and dissociation corrections, the blend of two densities at the turbopause, and the transition to full mixing.
 ghost use mathlib.Core.Path.{_≡_};
-ghost use Rattle.mixing.specs.Mixing.{ccorOf, ccor2Of, blendOf, dnetOf};
-
-pub mod limits;
-
+ghost use Rattle.mixing.specs.Mixing.{ccorOf, ccor2Of, blendOf, dnetOf, dmcOf};
 use elementary::exponential::exp;
 use elementary::logarithm::log;
 use elementary::power::pow;
@@ -71,4 +68,11 @@ pub fn dnet(dd: f64, dm: f64, zhm: f64, xmm: f64, xm: f64) -> f64
         return dm;
     }
     blend(dd1, dm, a)
+}
+
+// dmc: the linear transition to full mixing.
+pub fn dmc(alt: f64) -> f64
+    ensures { λ r. ⌜ r ≡ dmcOf alt ⌝ }
+{
+    pick(alt > 62.5, 1.0 - (72.5 - alt) / (72.5 - 62.5), 0.0)
 }

@@ -16,8 +16,8 @@ use Rattle.plan.specs.Plan.{Plan, Ask, either, _>>=_, ends, told, fieldsAfter, 
 use Rattle.needed_sets.specs.declared.Need.{Need}
 use Rattle.needed_sets.specs.NeededSets.{needAt, withHigh}
 use Rattle.expansion_values.specs.ExpansionValues.{expansionValuesOf}
-use Rattle.mixing.specs.Limits.{mixedAt}
-use Rattle.mixing.specs.declared.limits.Mixed.{Mixed}
+use Rattle.mixing_limits.specs.Limits.{mixedAt}
+use Rattle.mixing_limits.specs.declared.Mixed.{Mixed}
 use Rattle.profile.specs.declared.unchecked.Shape.{Shape}
 use Rattle.species.specs.declared.Blend.{Blend}
 use Rattle.species.specs.declared.Mixture.{Mixture}

@@ -16,7 +16,7 @@ use Rattle.setting.specs.State.{freshOf}
 use Rattle.setting.specs.View.{viewOf}
 use Rattle.parameters.specs.Parameters.{presentOf}
 use Rattle.parameters.specs.declared.Parameters.{Parameters}
-use Rattle.mixing.specs.Limits.{mixedAt}
+use Rattle.mixing_limits.specs.Limits.{mixedAt}
 use Rattle.places.proofs.Order.{lt-asym}
 use Rattle.expansion.specs.Expansion.{stateAfter}
 use Rattle.plan.specs.Plan.{Ran, run, stepped}

@@ -6,8 +6,8 @@ use lib.Ieee.{Float, lt, le}
 use Rattle.numbers.specs.Arithmetic.{_⊗_, _‼_}
 use Rattle.numbers.specs.Literals.{32·5, 72·5, 300·0}
 use Rattle.profile.specs.declared.unchecked.Shape.{Shape}
-use Rattle.mixing.specs.Limits.{mixedAt}
-use Rattle.mixing.specs.declared.limits.Mixed.{Mixed}
+use Rattle.mixing_limits.specs.Limits.{mixedAt}
+use Rattle.mixing_limits.specs.declared.Mixed.{Mixed}
 use Rattle.species.specs.Species.{heliumOf, oxygenOf, o2Of, argonOf, hydrogenOf, nitrogenOf}
 use Rattle.plan.specs.Fields.{Fields, setWhen, setDm04, setDm16, setDm32, setDm40, setDm01, setDm14}
 use Rattle.plan.specs.Plan.{done, ask, keep, _>>=_}

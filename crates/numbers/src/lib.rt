@@ -1,6 +1,7 @@
 // Operations on numbers that every part of the model uses, and the constants of atmosphere.rs.
 ghost use mathlib.Core.Path.{_≡_};
 ghost use mathlib.Core.Bool.{true, cond};
+ghost use lib.ListN.{length};
 ghost use Rattle.numbers.specs.Literals.{0·0};
 ghost use Rattle.numbers.specs.Tests.{absOf, finiteOf};
 
@@ -64,4 +65,16 @@ pub fn same(x: f64, y: f64) -> bool
         return false;
     }
     f64::to_bits(x) == f64::to_bits(y)
+}
+
+// Eleven numbers into a lent row of eleven.
+pub fn put_row(out: &mut [f64], row: [f64; 11])
+    requires { ⌜ length (now out) ≡ 11 ⌝ }
+    ensures { λ _. ⌜ now (out .exit) ≡ row ⌝ }
+{
+    let mut i: usize = 0;
+    while i < 11 {
+        out[i] = row[i];
+        i += 1;
+    }
 }

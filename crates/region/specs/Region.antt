@@ -6,8 +6,8 @@ use Rattle.numbers.specs.Literals.{72·5}
 use Rattle.elementary.specs.Exp.{expOf}
 use Rattle.elementary.specs.Root.{sqrtOf}
 use Rattle.parameters.specs.declared.Parameters.{Parameters}
-use Rattle.mixing.specs.Limits.{mixedAt, someMixed}
-use Rattle.mixing.specs.declared.limits.Mixed.{Mixed}
+use Rattle.mixing_limits.specs.Limits.{mixedAt, someMixed}
+use Rattle.mixing_limits.specs.declared.Mixed.{Mixed}
 use Rattle.places.specs.Place.{underOf}
 use Rattle.places.specs.declared.place.Spine.{Spine}
 use Rattle.places.specs.declared.place.Place.{Place}

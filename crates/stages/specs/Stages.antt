@@ -8,8 +8,8 @@ use Rattle.elementary.specs.Pow.{powOf}
 use Rattle.elementary.specs.Root.{sqrtOf}
 use Rattle.profile.specs.Profile.{tn1Of, tgn1Of}
 use Rattle.profile.specs.declared.unchecked.Shape.{Shape}
-use Rattle.mixing.specs.Limits.{mixedAt}
-use Rattle.mixing.specs.declared.limits.Mixed.{Mixed}
+use Rattle.mixing_limits.specs.Limits.{mixedAt}
+use Rattle.mixing_limits.specs.declared.Mixed.{Mixed}
 use Rattle.species.specs.declared.Blend.{Blend}
 use Rattle.species.specs.declared.Mixture.{Mixture}
 use Rattle.species.specs.Species.{nodes, heliumOf, oxygenOf, o2Of, argonOf, hydrogenOf, nitrogenOf, anomalousOxygenOf, n2Of}

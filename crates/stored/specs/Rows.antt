@@ -20,9 +20,9 @@ use Rattle.elementary.specs.Log.{logOf}
 use Rattle.elementary.specs.Root.{sqrtOf}
 use Rattle.parameters.specs.Parameters.{presentOf}
 use Rattle.parameters.specs.declared.Parameters.{Parameters}
-use Rattle.mixing.specs.Limits.{mixedAt, someMixed}
-use Rattle.mixing.specs.declared.limits.Mixed.{Mixed}
-use Rattle.mixing.proofs.Some.{o-there, o2-there, ar-there, n-there, four-some, he-some, n2-some, h-some}
+use Rattle.mixing_limits.specs.Limits.{mixedAt, someMixed}
+use Rattle.mixing_limits.specs.declared.Mixed.{Mixed}
+use Rattle.mixing_limits.proofs.Some.{o-there, o2-there, ar-there, n-there, four-some, he-some, n2-some, h-some}
 use Rattle.layers.specs.Layers.{firstFive, spanOf, blankOf}
 use Rattle.places.specs.Place.{spineOf, under-place}
 use Rattle.places.specs.Thinning.{place-temperature}

@@ -1,7 +1,7 @@
 -- The turbopauses that gts7's species read, each a place where its species is mixed.
 use Rattle.numbers.specs.Arithmetic.{_‼_}
-use Rattle.mixing.specs.Limits.{oxygensMixed}
-use Rattle.mixing.specs.declared.limits.Mixed.{Mixed}
+use Rattle.mixing_limits.specs.Limits.{oxygensMixed}
+use Rattle.mixing_limits.specs.declared.Mixed.{Mixed}
 use Rattle.profile.specs.declared.unchecked.Shape.{Shape}
 use Rattle.species.specs.Places.{Turbopause}
 use Rattle.tables.specs.Tables.{pdmT0, pdmT1, pdmT5}

@@ -1,7 +1,7 @@
 // gts7: its stages in order, proved against its plan.
 ghost use mathlib.Core.Path.{_≡_};
 ghost use Rattle.plan.specs.Plan.{told, answerTo};
-ghost use Rattle.mixing.specs.Limits.{someMixed};
+ghost use Rattle.mixing_limits.specs.Limits.{someMixed};
 ghost use Rattle.species.specs.Places.{spineAt, placeAt, Mixes};
 ghost use Rattle.thermosphere.specs.Turbopauses.{Apart};
 ghost use Rattle.stages.specs.Stages.{nodesPlan, shapePlan, speciesPlan, gts7Plan};
@@ -16,10 +16,10 @@ use gts7_arithmetic::gather;
 use gts7_arithmetic::mean;
 use gts7_arithmetic::shape_of;
 use gts7_arithmetic::varied;
-use mixing::limits::Mixed;
-use mixing::limits::mixed_at;
-use mixing::limits::oxygens_mixed;
-use mixing::limits::some_mixed;
+use mixing_limits::Mixed;
+use mixing_limits::mixed_at;
+use mixing_limits::oxygens_mixed;
+use mixing_limits::some_mixed;
 use places::place::Place;
 use places::place::Spine;
 use places::thinning::Thinning;

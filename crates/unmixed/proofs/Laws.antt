@@ -7,9 +7,9 @@ use Rattle.numbers.specs.Arithmetic.{_⊗_, _‼_}
 use Rattle.numbers.specs.Literals.{0·0, 28·0}
 use Rattle.elementary.specs.Exp.{expOf}
 use Rattle.elementary.specs.Root.{sqrtOf}
-use Rattle.mixing.specs.Limits.{mixedAt, someMixed}
-use Rattle.mixing.specs.declared.limits.Mixed.{Mixed}
-use Rattle.mixing.proofs.Some.{o2-there, ar-there, n-there, four-some, he-some, n2-some, h-some}
+use Rattle.mixing_limits.specs.Limits.{mixedAt, someMixed}
+use Rattle.mixing_limits.specs.declared.Mixed.{Mixed}
+use Rattle.mixing_limits.proofs.Some.{o2-there, ar-there, n-there, four-some, he-some, n2-some, h-some}
 use Rattle.places.specs.declared.place.Place.{Place}
 use Rattle.places.specs.declared.thinning.Thinning.{Thinning}
 use Rattle.plan.specs.declared.ExpansionValues.{ExpansionValues}

@@ -1,4 +1,4 @@
--- `array_outside` meets its contract.
+-- `array_outside` meets its contract: what each test gives, put into the next.
 use Rattle.acceptance.specs.Acceptance.{arrayOutsideOf}
 use borrow.Author.Needs.{needs}
 use Rattle.acceptance.proofs.array_outside.Statement.{statement}
@@ -6,52 +6,39 @@ use Rattle.acceptance.proofs.array_outside.Tie as tie
 
 returns : tie.Need-returns
 unfolding arrayOutsideOf
-returns c = simp (← c .before .within .ensures) (simp (c .if1 .taken))
-
-returns-2 : tie.Need-returns-2
-unfolding arrayOutsideOf
-returns-2 c = simp (← c .before .within2 .ensures, ← c .before .before .before .within .ensures) (simp (c .if2 .taken, c .before .before .if1 .left))
-
-returns-3 : tie.Need-returns-3
-unfolding arrayOutsideOf
-returns-3 c = simp (← c .before .within3 .ensures, ← c .before .before .before .within2 .ensures, ← c .before .before .before .before .before .within .ensures) (simp (c .if3 .taken, c .before .before .if2 .left, c .before .before .before .before .if1 .left))
-
-returns-4 : tie.Need-returns-4
-unfolding arrayOutsideOf
-returns-4 c = simp (← c .before .within4 .ensures, ← c .before .before .before .within3 .ensures, ← c .before .before .before .before .before .within2 .ensures, ← c .before .before .before .before .before .before .before .within .ensures) (simp (c .if4 .taken, c .before .before .if3 .left, c .before .before .before .before .if2 .left, c .before .before .before .before .before .before .if1 .left))
-
-returns-5 : tie.Need-returns-5
-unfolding arrayOutsideOf
-returns-5 c = simp (← c .before .within5 .ensures, ← c .before .before .before .within4 .ensures, ← c .before .before .before .before .before .within3 .ensures, ← c .before .before .before .before .before .before .before .within2 .ensures, ← c .before .before .before .before .before .before .before .before .before .within .ensures) (simp (c .if5 .taken, c .before .before .if4 .left, c .before .before .before .before .if3 .left, c .before .before .before .before .before .before .if2 .left, c .before .before .before .before .before .before .before .before .if1 .left))
-
-returns-6 : tie.Need-returns-6
-unfolding arrayOutsideOf
-returns-6 c = simp (← c .before .within6 .ensures, ← c .before .before .before .within5 .ensures, ← c .before .before .before .before .before .within4 .ensures, ← c .before .before .before .before .before .before .before .within3 .ensures, ← c .before .before .before .before .before .before .before .before .before .within2 .ensures, ← c .before .before .before .before .before .before .before .before .before .before .before .within .ensures) (simp (c .if6 .taken, c .before .before .if5 .left, c .before .before .before .before .if4 .left, c .before .before .before .before .before .before .if3 .left, c .before .before .before .before .before .before .before .before .if2 .left, c .before .before .before .before .before .before .before .before .before .before .if1 .left))
-
-returns-7 : tie.Need-returns-7
-unfolding arrayOutsideOf
-returns-7 c = simp (← c .before .within7 .ensures, ← c .before .before .before .within6 .ensures, ← c .before .before .before .before .before .within5 .ensures, ← c .before .before .before .before .before .before .before .within4 .ensures, ← c .before .before .before .before .before .before .before .before .before .within3 .ensures, ← c .before .before .before .before .before .before .before .before .before .before .before .within2 .ensures, ← c .before .before .before .before .before .before .before .before .before .before .before .before .before .within .ensures) (simp (c .if7 .taken, c .before .before .if6 .left, c .before .before .before .before .if5 .left, c .before .before .before .before .before .before .if4 .left, c .before .before .before .before .before .before .before .before .if3 .left, c .before .before .before .before .before .before .before .before .before .before .if2 .left, c .before .before .before .before .before .before .before .before .before .before .before .before .if1 .left))
-
-returns-8 : tie.Need-returns-8
-unfolding arrayOutsideOf
-returns-8 c = simp (← c .before .within7 .ensures, ← c .before .before .before .within6 .ensures, ← c .before .before .before .before .before .within5 .ensures, ← c .before .before .before .before .before .before .before .within4 .ensures, ← c .before .before .before .before .before .before .before .before .before .within3 .ensures, ← c .before .before .before .before .before .before .before .before .before .before .before .within2 .ensures, ← c .before .before .before .before .before .before .before .before .before .before .before .before .before .within .ensures) (simp (c .if7 .left, c .before .before .if6 .left, c .before .before .before .before .if5 .left, c .before .before .before .before .before .before .if4 .left, c .before .before .before .before .before .before .before .before .if3 .left, c .before .before .before .before .before .before .before .before .before .before .if2 .left, c .before .before .before .before .before .before .before .before .before .before .before .before .if1 .left))
+returns c =
+    let at6 = c .before .before in
+    let at5 = at6 .before .before in
+    let at4 = at5 .before .before in
+    let at3 = at4 .before .before in
+    let at2 = at3 .before .before in
+    let at1 = at2 .before .before in
+    rw (
+      c .failed-at7 .ensures,
+      c .before .within7 .ensures,
+      at6 .failed-at6 .ensures,
+      at6 .before .within6 .ensures,
+      at5 .failed-at5 .ensures,
+      at5 .before .within5 .ensures,
+      at4 .failed-at4 .ensures,
+      at4 .before .within4 .ensures,
+      at3 .failed-at3 .ensures,
+      at3 .before .within3 .ensures,
+      at2 .failed-at2 .ensures,
+      at2 .before .within2 .ensures,
+      at1 .failed-at .ensures,
+      at1 .before .within .ensures,
+    )
 
 pub array-outside-spec : {M : Type 1} → statement M
 array-outside-spec =
     tie.close
     (tie.spec
-    (λ c. search needs) (λ c κs. search needs)
-    returns
-    (λ c. search needs) (λ c κs. search needs)
-    returns-2
-    (λ c. search needs) (λ c κs. search needs)
-    returns-3
-    (λ c. search needs) (λ c κs. search needs)
-    returns-4
-    (λ c. search needs) (λ c κs. search needs)
-    returns-5
-    (λ c. search needs) (λ c κs. search needs)
-    returns-6
-    (λ c. search needs) (λ c κs. search needs)
-    returns-7
-    returns-8)
+    (λ c. search needs) (λ c κs. search needs) (λ c κs. search needs)
+    (λ c. search needs) (λ c κs. search needs) (λ c κs. search needs)
+    (λ c. search needs) (λ c κs. search needs) (λ c κs. search needs)
+    (λ c. search needs) (λ c κs. search needs) (λ c κs. search needs)
+    (λ c. search needs) (λ c κs. search needs) (λ c κs. search needs)
+    (λ c. search needs) (λ c κs. search needs) (λ c κs. search needs)
+    (λ c. search needs) (λ c κs. search needs) (λ c κs. search needs)
+    returns)

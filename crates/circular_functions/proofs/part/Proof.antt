@@ -20,23 +20,24 @@ clash : true ≡ false → ⊥
 clash e = subst T e tt
 
 -- both entries are at most 1
-sine-one : (c : tie.After-sine-at) → c .sine-at .result ≤ 2 ^ 58
-sine-one c = subst (λ (n : ℕ). n ≤ 2 ^ 58) (sym (c .sine-at .ensures)) (sines-le (c .before .args .r / 2 ^ 50))
+sine-one : (c : tie.After-sine-cosine-at) → c .sine-cosine-at .result .0 ≤ 2 ^ 58
+sine-one c = subst (λ (n : ℕ). n ≤ 2 ^ 58) (sym (c .sine-cosine-at .ensures .0)) (sines-le (c .before .args .r / 2 ^ 50))
 
-cosine-one : (c : tie.After-cosine-at) → c .cosine-at .result ≤ 2 ^ 58
-cosine-one c = subst (λ (n : ℕ). n ≤ 2 ^ 58) (sym (c .cosine-at .ensures)) (cosines-le (c .before .before .args .r / 2 ^ 50))
+cosine-one : (c : tie.After-sine-cosine-at) → c .sine-cosine-at .result .1 ≤ 2 ^ 58
+cosine-one c = subst (λ (n : ℕ). n ≤ 2 ^ 58) (sym (c .sine-cosine-at .ensures .1)) (cosines-le (c .before .args .r / 2 ^ 50))
 
 u-le : (c : tie.After-choose) → c .choose .result ≤ 2 ^ 58
-u-le c = subst (λ (n : ℕ). n ≤ 2 ^ 58) (sym (c .choose .ensures)) (either-le (eqb (c .before .before .before .args .h) 0) (sine-one (c .before .before)) (cosine-one (c .before)))
+u-le c = subst (λ (n : ℕ). n ≤ 2 ^ 58) (sym (c .choose .ensures)) (either-le (eqb (c .before .before .args .h) 0) (sine-one (c .before)) (cosine-one (c .before)))
 
 w-le : (c : tie.After-choose2) → c .choose2 .result ≤ 2 ^ 58
-w-le c = subst (λ (n : ℕ). n ≤ 2 ^ 58) (sym (c .choose2 .ensures)) (either-le (eqb (c .before .before .before .before .args .h) 0) (cosine-one (c .before .before)) (sine-one (c .before .before .before)))
+w-le c = subst (λ (n : ℕ). n ≤ 2 ^ 58) (sym (c .choose2 .ensures)) (either-le (eqb (c .before .before .before .args .h) 0) (cosine-one (c .before .before)) (sine-one (c .before .before)))
 
 -- for an odd parity the first value is a cosine
-u-ge : (c : tie.After-choose) → (c .before .before .before .args .h ≡ 0 → ⊥) → 2 ^ 57 ≤ c .choose .result
+u-ge : (c : tie.After-choose) → (c .before .before .args .h ≡ 0 → ⊥) → 2 ^ 57 ≤ c .choose .result
 u-ge c h =
-    let s = c .before .before .before in
-    subst (λ (n : ℕ). 2 ^ 57 ≤ n) (sym (c .choose .ensures ∙ ap (λ (b : Bool). cond b (c .before .before .sine-at .result) (c .before .cosine-at .result)) (ne-eqb (s .args .h) 0 h) ∙ c .before .cosine-at .ensures))
+    let both = c .before .sine-cosine-at in
+    let s = c .before .before in
+    subst (λ (n : ℕ). 2 ^ 57 ≤ n) (sym (c .choose .ensures ∙ ap (λ (b : Bool). cond b (both .result .0) (both .result .1)) (ne-eqb (s .args .h) 0 h) ∙ both .ensures .1))
     (cosines-ge (s .args .r / 2 ^ 50) (entry (s .args .r) (s .pre)))
   where
     entry : (r : ℕ) → r ≤ 2 ^ 58 → r / 2 ^ 50 < 257
@@ -57,7 +58,7 @@ sub-result : tie.Need-sub-result
 sub-result c =
     let m = c .before .before in
     let u = m .before .before .before .before in
-    let s = u .before .before .before in
+    let s = u .before .before in
     let h = s .args .h in
     subst (λ (n : ℕ). c .decrement .result ≤ n) (sym (m .offset .ensures))
     (part-some (eqb h 0) (u .choose .result) (m .before .scaling .result) (c .decrement .result) (c .decrement .ensures .1) (c .decrement .ensures .2) (m .before .scaling .ensures .1) (λ e. u-ge u (λ z. clash (sym (eq-eqb h 0 z) ∙ e))))
@@ -67,7 +68,7 @@ returns c =
     let m = c .before .before in
     let w = m .before .before .before in
     let u = w .before in
-    let s = u .before .before .before in
+    let s = u .before .before in
     let b = eqb (s .args .h) 0 in
     let r = s .args .r in
     let S = getD sines (r / 2 ^ 50) 0 in
@@ -88,7 +89,7 @@ pub part-spec : {M : Type 1} → statement M
 part-spec =
     tie.close
     (tie.spec
-    (λ c κs. search needs) (λ c κs. search needs) (λ c κs. search needs) (λ c κs. search needs) (λ c κs. search needs)
+    (λ c κs. search needs) (λ c κs. search needs) (λ c κs. search needs) (λ c κs. search needs)
     scaling-requires
     offset-requires
     (λ c κs. search needs)

@@ -1,7 +1,7 @@
 -- `put_glob7s_set` meets its contract.
 use mathlib.Core.Path.{_∙_}
 use native.Mathlib.Omega.{arith}
-use Rattle.fixed_point.proofs.Rest.{rest-above}
+use Rattle.fixed_point.proofs.Arms.{rest-above}
 use Rattle.expansion_values.specs.Sets.{glob7sSets}
 use Rattle.expansion_values.proofs.Laws.{glob7s-last}
 use borrow.Author.Needs.{needs}

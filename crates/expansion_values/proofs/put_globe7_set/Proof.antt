@@ -1,7 +1,7 @@
 -- `put_globe7_set` meets its contract.
 use mathlib.Core.Path.{_∙_}
 use native.Mathlib.Omega.{arith}
-use Rattle.fixed_point.proofs.Rest.{rest-above}
+use Rattle.fixed_point.proofs.Arms.{rest-above}
 use Rattle.expansion_values.specs.Sets.{globe7Sets}
 use Rattle.expansion_values.proofs.Laws.{globe7-last}
 use borrow.Author.Needs.{needs}

@@ -4,7 +4,7 @@ use mathlib.Core.List.{List}
 use lib.Ieee.{Float}
 use Rattle.numbers.specs.Arithmetic.{_⊗_, _‼_}
 use Rattle.numbers.specs.Literals.{72·5}
-use Rattle.mixing.proofs.Some.{n2-some}
+use Rattle.mixing_limits.proofs.Some.{n2-some}
 use Rattle.species.specs.Places.{placeAt}
 use Rattle.species.proofs.Laws.{logged-at}
 use Rattle.footing.proofs.Laws.{footing-law}

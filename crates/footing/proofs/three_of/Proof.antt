@@ -2,8 +2,8 @@
 use mathlib.Core.Path.{_∙_}
 use Rattle.numbers.specs.Arithmetic.{_‼_}
 use Rattle.numbers.specs.Literals.{72·5}
-use Rattle.mixing.specs.Limits.{oxygensMixed, someMixed}
-use Rattle.mixing.proofs.Some.{o2-there, ar-there, four-some, he-some}
+use Rattle.mixing_limits.specs.Limits.{oxygensMixed, someMixed}
+use Rattle.mixing_limits.proofs.Some.{o2-there, ar-there, four-some, he-some}
 use Rattle.tables.specs.Tables.{pdmT0, pdmT1, pdmT3, pdmT4}
 use Rattle.thermosphere.proofs.Laws.{stage-ready, o2-too, argon-too}
 use Rattle.footing.proofs.Laws.{third, three-law}

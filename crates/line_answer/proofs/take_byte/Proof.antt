@@ -2,7 +2,7 @@
 use mathlib.Core.Path.{refl, sym}
 use native.Mathlib.Omega.{arith}
 use lib.Seq.{length-take-le}
-use Rattle.line_answer.proofs.Cut.{line-ended, line-longer, line-full, begun-anew, one-more, no-more, behind-written}
+use Rattle.line_answer.proofs.Cut.{line-ended, line-kept, begun-anew, one-kept, behind-written}
 use borrow.Author.Needs.{needs}
 use Rattle.line_answer.proofs.take_byte.Statement.{statement}
 use Rattle.line_answer.proofs.take_byte.Tie as tie
@@ -16,7 +16,7 @@ returns c =
     let test = call .before .before .before in
     let anew = begun-anew _ _ _ (test .if1 .taken) in (
       (
-        line-ended _ _ _ _ _ _ _ (test .if1 .taken) (search needs) (call .answer .ensures .0) (c .after .ensures),
+        line-ended _ _ _ _ _ _ _ (test .if1 .taken) (search needs) (call .answer .ensures .0) (c .next-number .ensures),
         search needs,
         omega (arith, call .answer .ensures .0 .1),
         omega (arith, call .answer .ensures .0 .1, call .answer .ensures .1),
@@ -26,23 +26,12 @@ returns c =
 
 returns-2 : tie.Need-returns-2
 returns-2 c =
-    let start = c .before .before .before .before .args in
-    let more = one-more (start .line .now) (start .p .len) (start .b) (c .before .if1 .left) (c .if2 .taken) in (
-      (
-        line-longer (start .line .now) (start .out .now) (start .p) (start .b) (c .before .if1 .left) (search needs) (c .if2 .taken) (search needs),
-        search needs,
-        search needs,
-        search needs,
-      ),
-      (more .0, more .1, refl),
-    )
-
-returns-3 : tie.Need-returns-3
-returns-3 c =
-    let start = c .before .before .before .before .args in
-    let full = no-more (start .line .now) (start .p .len) (start .b) (c .before .if1 .left) (c .if2 .left) in (
-      (line-full (start .line .now) (start .out .now) (start .p) (start .b) (c .before .if1 .left) (search needs) (c .if2 .left), search needs, search needs, search needs),
-      (full .0, full .1, refl),
+    let call = c .keep in
+    let test = c .before in
+    let start = test .before .before .before .args in
+    let kept = one-kept (start .line .now) (start .p .len) (start .b) _ _ (test .if1 .left) (call .ensures .0) (call .ensures .1) in (
+      (line-kept (start .line .now) (start .out .now) (start .p) (start .b) _ _ (test .if1 .left) (call .ensures .2 .1), call .ensures .2 .0, search needs, search needs),
+      (kept .0, kept .1, refl),
     )
 
 pub take-byte-spec : {M : Type 1} → statement M
@@ -53,6 +42,5 @@ take-byte-spec =
     slice-aggregate-answer
     (λ c κs. search needs) (λ c κs. search needs) (λ c. search needs) (λ c. search needs)
     returns
-    (λ c. search needs) (λ c. search needs) (λ c. search needs)
-    returns-2
-    returns-3)
+    (λ c κs. search needs)
+    returns-2)

@@ -3,7 +3,7 @@ use mathlib.Core.Path.{ap, _∙_}
 use mathlib.Core.List.{List}
 use lib.Ieee.{Float}
 use Rattle.numbers.specs.Arithmetic.{_⊗_, _‼_}
-use Rattle.mixing.proofs.Some.{n2-some}
+use Rattle.mixing_limits.proofs.Some.{n2-some}
 use Rattle.species.specs.Places.{placeAt}
 use Rattle.species.proofs.Laws.{logged-at}
 use Rattle.model_state.proofs.Laws.{gts7-steps}

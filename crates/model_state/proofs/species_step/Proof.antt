@@ -1,8 +1,8 @@
 -- `species_step` meets its contract.
 use mathlib.Core.Path.{refl}
 use Rattle.numbers.specs.Arithmetic.{_‼_}
-use Rattle.mixing.specs.Limits.{oxygensMixed, someMixed}
-use Rattle.mixing.proofs.Some.{o-there, o2-there, ar-there, n-there, four-some, he-some, h-some}
+use Rattle.mixing_limits.specs.Limits.{oxygensMixed, someMixed}
+use Rattle.mixing_limits.proofs.Some.{o-there, o2-there, ar-there, n-there, four-some, he-some, h-some}
 use Rattle.tables.specs.Tables.{pdmT0, pdmT1, pdmT3, pdmT4, pdmT5, pdmT6}
 use Rattle.thermosphere.proofs.Laws.{stage-ready, o2-too, argon-too, nitrogen-too}
 use Rattle.model_state.proofs.Laws.{species-steps}

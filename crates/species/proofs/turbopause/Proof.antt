@@ -1,5 +1,5 @@
 -- `turbopause` meets its contract.
-use Rattle.mixing.proofs.Some.{never}
+use Rattle.mixing_limits.proofs.Some.{never}
 use borrow.Author.Needs.{needs}
 use Rattle.species.proofs.turbopause.Statement.{statement}
 use Rattle.species.proofs.turbopause.Tie as tie

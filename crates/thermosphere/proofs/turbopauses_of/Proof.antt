@@ -1,6 +1,6 @@
 -- `turbopauses_of` meets its contract.
 use mathlib.Core.Path.{_∙_}
-use Rattle.mixing.specs.Limits.{oxygensMixed}
+use Rattle.mixing_limits.specs.Limits.{oxygensMixed}
 use Rattle.tables.specs.Tables.{pdmT0, pdmT1, pdmT5}
 use Rattle.thermosphere.proofs.Laws.{in-row}
 use borrow.Author.Needs.{needs}

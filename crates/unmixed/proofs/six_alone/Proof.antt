@@ -1,7 +1,7 @@
 -- `six_alone` meets its contract.
 use Rattle.numbers.specs.Arithmetic.{_‼_}
-use Rattle.mixing.specs.Limits.{someMixed}
-use Rattle.mixing.proofs.Some.{o-there, o2-there, ar-there, n-there, four-some, he-some, h-some}
+use Rattle.mixing_limits.specs.Limits.{someMixed}
+use Rattle.mixing_limits.proofs.Some.{o-there, o2-there, ar-there, n-there, four-some, he-some, h-some}
 use Rattle.tables.specs.Tables.{pdmT0, pdmT1, pdmT3, pdmT4, pdmT5, pdmT6}
 use Rattle.unmixed.proofs.Laws.{idle, six-law}
 use borrow.Author.Needs.{needs}
