@@ -1,6 +1,6 @@
 #!/usr/bin/env python3
-"""Sets the line numbers in docs/READING.md: behind `NAME`, FILE:LINE stands the line of FILE that declares NAME. Fails where none does,
-and where docs/MAP.md does not name each crate of crates.txt once in its lists of crates."""
+"""Sets the line numbers in docs/READING.md: behind `NAME`, FILE:LINE stands the line of FILE that declares NAME. Fails where none does, where an edit that
+it names is not there, and where docs/MAP.md does not name each crate of crates.txt once in its lists of crates."""
 import pathlib
 import re
 import sys
@@ -20,6 +20,10 @@ def line_of(name, file):
 text = page.read_text()
 text = re.sub(r"`([^`]+)`, (crates/[\w/.]+):\d+", lambda m: f"`{m[1]}`, {m[2]}:{line_of(m[1], m[2])}", text)
 page.write_text(text)
+
+for edit in re.findall(r"\w+/must-fail/\w+", text):
+    if not (root / "crates" / f"{edit}.edit").exists():
+        sys.exit(f"docs/READING.md: {edit} is not there")
 
 crates = [line.split(":")[0] for line in (root / "crates.txt").read_text().splitlines() if not line.startswith("#")]
 lists = (root / "docs" / "MAP.md").read_text().split("\n## Product", 1)[1]
