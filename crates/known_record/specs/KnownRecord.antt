@@ -2,7 +2,7 @@
 use mathlib.Core.Path.{_≡_}
 use Prim.Native.Nat.{ℕ, zero, suc, _/_, _%_, _^_, _<_}
 use mathlib.Core.Bool.{Bool, true, false, cond, not, _&&_}
-use mathlib.Core.List.{List, [], _∷_}
+use mathlib.Core.List.{List, [], _∷_, map}
 use lib.Dec.{eqb}
 use lib.IntN.{ℤ, pos}
 use lib.ListN.{getD}
@@ -88,3 +88,11 @@ filledAnswer counts known w filled =
     cond (foundOf (unfitOf filled)) (Refused 2 (unfitOf filled))
     (cond (foundOf (lackingField counts known (lacksHistoryOf w filled))) (Refused 1 (lackingField counts known (lacksHistoryOf w filled)))
     (recordAnswer w filled))
+
+-- a mark as a number, for a host
+abbrev pub markOf : Bool → ℤ
+markOf b = cond b (pos 1) (pos 0)
+
+-- 17 marks as numbers
+unfoldable pub marksOf : List Bool → List ℤ
+marksOf marks = map markOf marks

@@ -1,7 +1,9 @@
-// A record of which only some fields are known: with 0 in the others, the lowest field that is lacking, and the answer.
+// A record of which only some fields are known: with 0 in the others, the lowest field that is lacking, and the answer; marks as numbers.
 ghost use mathlib.Core.Path.{_≡_};
 ghost use Prim.Native.Nat.{_<_};
-ghost use Rattle.known_record.specs.KnownRecord.{knownAt, wholeKnown, floatKnown, onlyKnown, lackingField, filledAnswer};
+ghost use lib.IntN.{pos};
+ghost use lib.ListN.{length, getD};
+ghost use Rattle.known_record.specs.KnownRecord.{knownAt, wholeKnown, floatKnown, onlyKnown, lackingField, filledAnswer, marksOf};
 use acceptance::Answer;
 use acceptance::found;
 use acceptance::record_answer;
@@ -90,4 +92,27 @@ pub fn filled_answer(counts: [bool; 17], known: u32, w: [i32; 24], filled: Input
         return Answer::Refused(1, lacking);
     }
     record_answer(w, filled)
+}
+
+// Mark i as a number.
+pub fn mark_at(marks: [bool; 17], i: usize) -> i32
+    requires { ⌜ i < 17 ⌝ }
+    ensures { λ r. ⌜ r ≡ getD (marksOf marks) i (pos 0) ⌝ }
+{
+    if marks[i] {
+        return 1;
+    }
+    0
+}
+
+// 17 marks as numbers, 1 for one that is set and 0 for one that is not.
+pub fn put_marks(marks: [bool; 17], out: &mut [i32])
+    requires { ⌜ length (now out) ≡ 17 ⌝ }
+    ensures { λ _. ⌜ now (out .exit) ≡ marksOf marks ⌝ }
+{
+    let mut i: usize = 0;
+    while i < 17 {
+        out[i] = mark_at(marks, i);
+        i += 1;
+    }
 }
