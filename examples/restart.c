@@ -1,5 +1,5 @@
-/* Just after a restart: neither longitude nor clock nor local time nor magnetic index is known. NaN stands in those fields, since what is not known is not looked
-   at. The answer 1 at a field says which input the switch row still asks for; each is shut off in turn, until nothing is lacking. */
+/* Just after a restart: neither longitude nor clock nor local time nor magnetic index is known. NaN stands in those fields, since what is not known is not
+   looked at. The answer 1 at a field says which input the switch row still asks for; each is shut off in turn, until nothing is lacking. */
 #include <inttypes.h>
 #include <math.h>
 #include <stdio.h>

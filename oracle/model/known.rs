@@ -168,7 +168,8 @@ pub fn known(g: &mut Random, count: u64) -> u64 {
     bad
 }
 
-// Pairs that agree in the known fields, the history in both or in neither: one answer, one memory. An accepted row is also the one-altitude call's on a record that agrees in them.
+// Pairs that agree in the known fields, the history in both or in neither: one answer, one memory. An accepted row is also the one-altitude call's on a
+// record that agrees in them.
 pub fn pairs(g: &mut Random, count: u64) -> u64 {
     let (mut accepted, mut in_truth, mut bad) = (0u64, 0u64, 0u64);
     for i in 0..count {
