@@ -68,9 +68,9 @@ row-written known w n xs e = ap (λ (a : Answer). cond (acceptedOf a) (elevenOf 
 
 -- ---- the row is that of every accepted record that agrees in the known fields
 
-not-not : (b : Bool) → T (not (not b)) → b ≡ true
-not-not true t = refl
-not-not false t = absurd t
+not-twice : (b : Bool) → T (not (not b)) → b ≡ true
+not-twice true t = refl
+not-twice false t = absurd t
 
 all-alike : (many k : ℕ) (b : Bool) → T (not (getD (replicate many b) k true)) → T (not b)
 all-alike zero k b t = absurd t
@@ -80,7 +80,7 @@ all-alike (suc many) (suc k) b t = all-alike many k b t
 -- of the fields from 10 on none counts but the history's, where switch 9 is -1
 behind-ten : (w : List ℤ) (k : ℕ) → T (not (getD (true ∷ replicate 6 (not (nineIsMinusOne w))) k true)) → nineIsMinusOne w ≡ true
 behind-ten w zero t = absurd t
-behind-ten w (suc k) t = not-not (nineIsMinusOne w) (all-alike 6 k (not (nineIsMinusOne w)) t)
+behind-ten w (suc k) t = not-twice (nineIsMinusOne w) (all-alike 6 k (not (nineIsMinusOne w)) t)
 
 history-counts : (w : List ℤ) (k : ℕ) → 10 ≤ k → T (not (getD (shut w) k true)) → nineIsMinusOne w ≡ true
 history-counts w k h t =

@@ -66,9 +66,9 @@ not-lacking counts known no-history e k h t =
     omega (arith, low, none)
 
 -- a field that counts and is not known is lacking
-both : (c : Bool) → T c → T (c && true)
-both true t = tt
-both false t = absurd t
+and-true : (c : Bool) → T c → T (c && true)
+and-true true t = tt
+and-true false t = absurd t
 
 -- a field that counts is known
 pub counts-known : (counts : List Bool) (known : ℕ) (no-history : Bool) → foundOf (lackingField counts known no-history) ≡ false
@@ -77,7 +77,7 @@ counts-known counts known no-history e k h t = go (knownAt known k) refl
   where
     go : (b : Bool) → knownAt known k ≡ b → b ≡ true
     go true f = refl
-    go false f = absurd (not-lacking counts known no-history e k (omega arith) (simp (ne-eqb k 10 (λ q. omega (arith, h)), f) (both (getD counts k false) t)))
+    go false f = absurd (not-lacking counts known no-history e k (omega arith) (simp (ne-eqb k 10 (λ q. omega (arith, h)), f) (and-true (getD counts k false) t)))
 
 -- the history is there where the row asks for it
 pub history-there : (counts : List Bool) (known : ℕ) (no-history : Bool) → foundOf (lackingField counts known no-history) ≡ false → no-history ≡ false
@@ -100,7 +100,8 @@ three-left : (u h o x : Bool) (p q : ℕ) → u ≡ false → h ≡ false
 three-left u h true x p q e f = rw (e, f)
 three-left u h false x p q e f = rw (e, f)
 
--- Where doy and alt count, as they do under every row, the answer by way of the record with 0 in the fields that are not known is that over the known fields alone.
+-- Where doy and alt count, as they do under every row, the answer by way of the record with 0 in the fields that are not known is that over the known
+-- fields alone.
 pub answer-is : (counts : List Bool) (known : ℕ) (w : List ℤ) (n : Input) → T (getD counts 1 false) → T (getD counts 3 false)
     → filledAnswer counts known w (onlyKnown known n) ≡ knownRefusal counts known w n
 unfolding filledAnswer knownRefusal lacksHistoryOf onlyKnown recordAnswer judgedOf
@@ -163,20 +164,20 @@ all-known counts known no-history all =
     (λ j a b. let h : j < 10 = omega (arith, b) in simp (ne-eqb j 10 (λ q. omega (arith, h))) (never-lacking (getD counts j false) (knownAt known j) (all j h)))
 
 -- the one-altitude call's answer comes first, since it begins with 2 and then with the history
-call's-first : (u h : Bool) (p : ℕ) (a b : Answer)
+call-first : (u h : Bool) (p : ℕ) (a b : Answer)
     → let judged = cond u (Refused 2 p) (cond h (Refused 1 10) a) in
     cond u (Refused 2 p) (cond (foundOf (cond h 10 17)) (Refused 1 (cond h 10 17)) (cond (not (acceptedOf judged)) judged b)) ≡ cond (not (acceptedOf judged)) judged b
 unfolding foundOf
-call's-first true h p a b = refl
-call's-first false true p a b = refl
-call's-first false false p a b = refl
+call-first true h p a b = refl
+call-first false true p a b = refl
+call-first false false p a b = refl
 
 -- With every field known the answer is the one-altitude call's.
 pub filled-all : (counts : List Bool) (known : ℕ) (w : List ℤ) (n : Input) → AllKnown known → filledAnswer counts known w n ≡ recordAnswer w n
 unfolding filledAnswer recordAnswer judgedOf
 filled-all counts known w n all =
     rw (all-known counts known (lacksHistoryOf w n) all)
-    (call's-first (foundOf (unfitOf n)) (lacksHistoryOf w n) (unfitOf n) _ _)
+    (call-first (foundOf (unfitOf n)) (lacksHistoryOf w n) (unfitOf n) _ _)
 
 pub all-kept : (known : ℕ) (n : Input) → AllKnown known → onlyKnown known n ≡ n
 unfolding onlyKnown
