@@ -3,6 +3,7 @@
 import copy
 import ctypes
 import dataclasses
+import itertools
 import math
 import os
 import pathlib
@@ -163,6 +164,12 @@ class KnownInPart(unittest.TestCase):
                 self.assertLessEqual(set(lacking.split(" where ")[0].split(", ")), set(shut.split(", ")))
                 known = [name for name in self.ALL if marks[name]]
                 potirehu.gtd7(FIRST, row, known=known, ap_array=[4] * 7)
+        # where several are lacking, the zeros of all their rows shut all of them off
+        zeros = {lacking: [entry for entry, word in enumerate(switches.strip("`").split()) if word == "0"] for lacking, switches, _ in rows[:5]}
+        for several in itertools.chain.from_iterable(itertools.combinations(zeros, count) for count in range(1, 6)):
+            with self.subTest(several=several):
+                row = row_with(**{f"e{entry}": 0 for lacking in several for entry in zeros[lacking]})
+                potirehu.gtd7(FIRST, row, known=set(self.ALL) - {name for lacking in several for name in lacking.split(", ")})
 
 
 class Columns(unittest.TestCase):
