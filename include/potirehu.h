@@ -1,9 +1,9 @@
-/* What libhost.a offers: NRLMSISE-00 at one altitude, also for drag and with constants of the caller's, at a column of altitudes, where its density passes a level and where it is first thin enough, in bands of
+/* What libhost.a offers: NRLMSISE-00 at one altitude, also for drag, with constants of the caller's and for a record known in part, at a column of altitudes, where its density passes a level and where it is first thin enough, in bands of
    switch rows, from a prepared station and orbit by orbit in a descent, two boards' logs held against each other, and the elementary functions it is built on. Nothing is kept between calls; only memcpy and memset are needed from
    outside. docs/RULES.md has every rule.
 
    An answer of 2^32 or more is a refusal: its number times 2^32 plus a place, which is cut to its lower 32 bits (only 18, of more than 2^32 settings, has a
-   place that this changes). The numbers: 1 a history that switch 9 asks for is absent; 2 a field is NaN or
+   place that this changes). The numbers: 1 a history that switch 9 asks for is absent, or a field that counts is not known; 2 a field is NaN or
    infinite; 3 a field is out of range; 4 a slice has not the length needed; 5 too many altitudes, or a node count out of range; 6 a coefficient set of the wrong
    length; 7 a line that is no form of the line program; 8 altitudes that do not rise; 9 a buffer shorter than its list; 10 below 72.5 km N2 is not mixed; 11, 12, 13
    a line of a table of bands that is no band, overlaps, or leaves a gap; 14 a board's log too long or uneven; 15 a board's seconds that do not rise; 16 one of nine
@@ -85,6 +85,25 @@ uint64_t potirehu_gtd7d(int32_t year, int32_t doy, const double *fields, size_t 
 #define POTIREHU_NINE 9
 uint64_t potirehu_gtd7_with(const double *nine, size_t n_nine, int32_t year, int32_t doy, const double *fields, size_t n_fields,
                             const double *ap_array, size_t n_ap, const int32_t *switches, size_t n_switches, double *row, size_t n_row);
+
+/* Which fields count under a switch row: fields, 17 numbers, gets 1 where the field of that number counts and 0 where the row shuts it off (0 year, 1 doy,
+   2 sec, 3 alt, 4 g_lat, 5 g_long, 6 lst, 7 f107a, 8 f107, 9 ap, 10 to 16 the history, of which 10 never counts). Two accepted records that agree in
+   the fields marked 1 give the same row. Answers 0; or leaves fields as it was and answers 4 at 17 for fields, then 4 at 24 for switches of another
+   length. */
+#define POTIREHU_COUNTS 17
+uint64_t potirehu_counts(const int32_t *switches, uint64_t n_switches, int32_t *fields, uint64_t n_fields);
+
+/* potirehu_gtd7 for a record of which only some fields are known, as after a restart: bit k of known says that field k is known, k from 0, year, to 9,
+   ap; higher bits are not looked at, and the history is known where it is there. A field that is not known is not looked at: anything may stand in
+   it, a NaN too, whether in year, doy or fields. Answers 0 and writes the row of the record with 0 in the fields that are not known, which is the row
+   of every accepted record that agrees in the known ones; or leaves row as it was and answers, after the lengths as potirehu_gtd7:
+     2 at the lowest known field that is NaN or infinite;
+     1 at the lowest field that counts under the row (potirehu_counts) and is not known, or at 10 as potirehu_gtd7;
+     3 at the lowest known field that is out of range;
+     10 at 3, as potirehu_gtd7.
+   doy, alt and g_lat always count. With bits 0 to 9 all set it is potirehu_gtd7. */
+uint64_t potirehu_gtd7_known(uint32_t known, int32_t year, int32_t doy, const double *fields, uint64_t n_fields, const double *ap_array, uint64_t n_ap,
+                             const int32_t *switches, uint64_t n_switches, double *row, uint64_t n_row);
 
 /* A prepared station is a record and a switch row with the values stored that do not depend on the altitude: two arrays of the caller's, of these
    lengths. What they hold is the library's own; they may be copied and moved, and need not be given back. An altitude asked of it works out no

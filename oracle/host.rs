@@ -47,6 +47,7 @@ of_a_record! {
     potirehu_first_below(altitudes: *const f64, n: usize, level: f64, row: *mut f64, n_row: usize);
     potirehu_descent(start: i64, settings: *const i32, n_settings: usize, losses: *mut i64, n_losses: usize, end: *mut i64, n_end: usize);
     potirehu_gtd7_with([nine: *const f64, n_nine: usize], row: *mut f64, n_row: usize);
+    potirehu_gtd7_known([known: u32], row: *mut f64, n_row: usize);
 }
 
 // Such a call, with the record's slices as they are handed over, so that they may have any length.
@@ -65,6 +66,8 @@ extern "C" {
     fn potirehu_station_g_long(whole: *const i32, n_whole: usize, numbers: *mut f64, n_numbers: usize, g_long: f64) -> u64;
     #[allow(dead_code)]
     fn potirehu_station_switches(whole: *mut i32, n_whole: usize, numbers: *mut f64, n_numbers: usize, switches: *const i32, n_switches: usize) -> u64;
+    #[allow(dead_code)]
+    fn potirehu_counts(switches: *const i32, n_switches: usize, fields: *mut i32, n_fields: usize) -> u64;
     fn potirehu_station_fluxes(whole: *const i32, n_whole: usize, numbers: *mut f64, n_numbers: usize, f107a: f64, f107: f64) -> u64;
 }
 
@@ -142,6 +145,18 @@ pub fn descent(year: i32, doy: i32, fields: &[f64], ap: &[f64], w: &[i32], start
 #[allow(dead_code)]
 pub fn gtd7_with(nine: &[f64], year: i32, doy: i32, fields: &[f64], ap: &[f64], w: &[i32], row: &mut [f64]) -> (u64, u64) {
     call!(potirehu_gtd7_with([nine.as_ptr(), nine.len()], year, doy, fields, ap, w, row.as_mut_ptr(), row.len()))
+}
+
+// The one-altitude call for a record known in part.
+#[allow(dead_code)]
+pub fn gtd7_known(known: u32, year: i32, doy: i32, fields: &[f64], ap: &[f64], w: &[i32], row: &mut [f64]) -> (u64, u64) {
+    call!(potirehu_gtd7_known([known], year, doy, fields, ap, w, row.as_mut_ptr(), row.len()))
+}
+
+// Which fields count under a switch row.
+#[allow(dead_code)]
+pub fn counts(w: &[i32], fields: &mut [i32]) -> (u64, u64) {
+    parted(unsafe { potirehu_counts(w.as_ptr(), w.len(), fields.as_mut_ptr(), fields.len()) })
 }
 
 // Prepares a station.

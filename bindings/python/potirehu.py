@@ -24,7 +24,7 @@ from typing import NamedTuple, Optional, Sequence
 
 __all__ = [
     "ON", "PRESENT", "Bands", "Descent", "Ending", "Finding", "Parameters", "Record", "Refusal", "Row", "Station",
-    "column", "compare_logs", "crossings", "descent", "first_below", "gtd7", "gtd7d", "gtd7_with",
+    "column", "compare_logs", "counts", "crossings", "descent", "first_below", "gtd7", "gtd7d", "gtd7_with",
 ]
 
 ON = (1,) * 24
@@ -159,7 +159,7 @@ def _board(place):
 
 
 _WORDS = {
-    1: lambda p: "switch 9 is -1, and ap_array, the magnetic history, is absent",
+    1: lambda p: "switch 9 is -1, and ap_array, the magnetic history, is absent" if p == 10 else f"{_field(p)} counts under the switch row, and is not known",
     2: lambda p: f"{_field(p)} is NaN or infinite",
     3: lambda p: f"{_field(p)} is out of range ({_range(p)})",
     4: lambda p: f"{_SLICES.get(p, 'a sequence')} has not the length needed, {p}",
@@ -201,7 +201,7 @@ class Refusal(ValueError):
 # ---- the library
 
 _CALLS = (
-    "gtd7", "gtd7d", "gtd7_with", "gtd7_column", "crossings", "first_below", "station", "station_gtd7", "station_gtd7d", "station_sec", "station_lst", "station_g_long",
+    "gtd7", "gtd7d", "gtd7_with", "gtd7_known", "counts", "gtd7_column", "crossings", "first_below", "station", "station_gtd7", "station_gtd7d", "station_sec", "station_lst", "station_g_long",
     "station_fluxes", "station_switches", "bands", "bands_gtd7", "descent", "logs",
 )
 _NOWHERE = 2**32 - 1
@@ -287,6 +287,15 @@ def _record(record, fields, alt_looked_at=True):
     return ctypes.c_int32(_nearest(record.year, 32)), ctypes.c_int32(_nearest(record.doy, 32)), _floats(eight), _floats(history)
 
 
+def _known(names, fields):
+    # the number whose bits name the known fields, and the fields with 0 for the others, which are not looked at
+    names = set(names)
+    if not names <= set(_FIELDS):
+        raise ValueError(f"known takes the names of fields from year to ap, and {sorted(names - set(_FIELDS))[0]!r} is none")
+    number = sum(1 << place for place, name in enumerate(_FIELDS) if name in names)
+    return ctypes.c_uint32(number), {**fields, **{name: 0 for name in _FIELDS if name not in names}}
+
+
 def _out(values, like, *shape):
     # a list; an array where like is one, and then numpy is loaded already
     numpy = sys.modules.get("numpy")
@@ -297,11 +306,23 @@ def _out(values, like, *shape):
 
 # ---- the calls
 
-def gtd7(record=None, switches=ON, **fields):
-    """The Row of a record under a switch row."""
+def gtd7(record=None, switches=ON, known=None, **fields):
+    """The Row of a record under a switch row. known names the fields that are known, where not all are: the others are not looked at and may be left out, and one that
+    counts all the same is refused with 1; ap_array is known where it is there."""
     row = _room(11)
-    _call("gtd7", *_record(record, fields), _switches(switches), row)
+    if known is None:
+        _call("gtd7", *_record(record, fields), _switches(switches), row)
+    else:
+        number, fields = _known(known, fields)
+        _call("gtd7_known", number, *_record(record, fields), _switches(switches), row)
     return Row(*row)
+
+
+def counts(switches=ON):
+    """For each field by its name, whether it counts under a switch row: two accepted records that agree in those fields give the same Row."""
+    marks = _room(17, ctypes.c_int32)
+    _call("counts", _switches(switches), marks)
+    return {_field(place): mark == 1 for place, mark in enumerate(marks)}
 
 
 def gtd7d(record=None, switches=ON, **fields):

@@ -3,6 +3,7 @@
 import copy
 import ctypes
 import dataclasses
+import itertools
 import math
 import os
 import pathlib
@@ -101,6 +102,74 @@ class Densities(unittest.TestCase):
         storm = potirehu.gtd7(FIRST, history, sec=0, g_long=0, lst=0, ap_array=[200] * 7)
         self.assertEqual(bits(storm), bits(potirehu.gtd7(FIRST, history, sec=1, g_long=9, lst=23, ap=0, ap_array=[200] * 7)))
         self.assertNotEqual(storm.density, potirehu.gtd7(FIRST, history, sec=0, g_long=0, lst=0, ap_array=[4] * 7).density)
+
+
+class KnownInPart(unittest.TestCase):
+    ALL = ("year", "doy", "sec", "alt", "g_lat", "g_long", "lst", "f107a", "f107", "ap")
+
+    def test_counts_is_the_list(self):
+        marks = potirehu.counts()
+        self.assertEqual(list(marks), [*self.ALL, *(f"ap_array[{i}]" for i in range(7))])
+        self.assertEqual([name for name, mark in marks.items() if not mark], ["year", *(f"ap_array[{i}]" for i in range(7))])
+        history = potirehu.counts(row_with(e9=-1))
+        self.assertEqual([name for name, mark in history.items() if not mark], ["year", "ap", "ap_array[0]"])
+        self.assertEqual([name for name, mark in potirehu.counts(row_with(e1=0, e7=0, e8=0, e9=0, e10=0, e14=0)).items() if mark], ["doy", "alt", "g_lat"])
+        with self.assertRaises(Refusal) as caught:
+            potirehu.counts([1] * 23)
+        self.assertEqual((caught.exception.number, caught.exception.place), (4, 24))
+
+    def test_all_known_is_gtd7(self):
+        self.assertEqual(bits(potirehu.gtd7(FIRST, known=self.ALL)), bits(potirehu.gtd7(FIRST)))
+
+    def test_what_is_not_known_is_not_looked_at(self):
+        row = row_with(e7=0, e8=0, e9=0, e10=0, e14=0)
+        known = ("doy", "alt", "g_lat", "f107a", "f107")
+        zeros = potirehu.gtd7(FIRST, row, sec=0, g_long=0, lst=0, ap=0)
+        for other in (math.nan, math.inf, -1e300, "not a number", None):
+            spoiled = dataclasses.replace(FIRST, sec=other, g_long=other, lst=other, ap=other, year=other)
+            self.assertEqual(bits(potirehu.gtd7(spoiled, row, known=known)), bits(zeros))
+        self.assertEqual(bits(potirehu.gtd7(switches=row, known=known, doy=172, alt=400, g_lat=60, f107a=150, f107=150)), bits(zeros))
+
+    def test_1_at_the_lowest_field_that_counts_and_is_not_known(self):
+        marks = potirehu.counts()
+        for place, name in enumerate(self.ALL):
+            known = [other for other in self.ALL if other != name]
+            if not marks[name]:
+                self.assertEqual(bits(potirehu.gtd7(FIRST, known=known)), bits(potirehu.gtd7(FIRST)))
+                continue
+            with self.assertRaises(Refusal) as caught:
+                potirehu.gtd7(FIRST, known=known)
+            self.assertEqual((caught.exception.number, caught.exception.place), (1, place))
+            self.assertIn(f"{name} counts under the switch row", str(caught.exception))
+
+    def test_2_before_1_and_1_before_3(self):
+        for fields, refusal in (({"lst": math.nan}, (2, 6)), ({"lst": 49}, (1, 5)), ({"lst": 49, "switches": row_with(e10=0)}, (3, 6))):
+            with self.assertRaises(Refusal) as caught:
+                potirehu.gtd7(FIRST, known=set(self.ALL) - {"g_long", "sec" if "switches" in fields else "g_long"}, **fields)
+            self.assertEqual((caught.exception.number, caught.exception.place), refusal)
+
+    def test_a_name_of_no_field(self):
+        with self.assertRaisesRegex(ValueError, "'long' is none"):
+            potirehu.gtd7(FIRST, known=("doy", "long"))
+
+    def test_rows_of_the_page_on_changing_over(self):
+        page = (HERE.parents[1] / "docs/CHANGING-OVER.md").read_text(encoding="utf-8").split("**After a restart.**")[1].split("**What to plan for**")[0]
+        rows = [[cell.strip() for cell in line.strip("|").split("|")] for line in page.splitlines() if line.startswith("|") and "`" in line]
+        self.assertEqual(len(rows), 9)
+        for lacking, switches, shut in rows:
+            with self.subTest(lacking=lacking):
+                row = [int(word) for word in switches.strip("`").split()]
+                marks = potirehu.counts(row)
+                self.assertEqual([name for name in self.ALL if not marks[name]], shut.split(", "))
+                self.assertLessEqual(set(lacking.split(" where ")[0].split(", ")), set(shut.split(", ")))
+                known = [name for name in self.ALL if marks[name]]
+                potirehu.gtd7(FIRST, row, known=known, ap_array=[4] * 7)
+        # where several are lacking, the zeros of all their rows shut all of them off
+        zeros = {lacking: [entry for entry, word in enumerate(switches.strip("`").split()) if word == "0"] for lacking, switches, _ in rows[:5]}
+        for several in itertools.chain.from_iterable(itertools.combinations(zeros, count) for count in range(1, 6)):
+            with self.subTest(several=several):
+                row = row_with(**{f"e{entry}": 0 for lacking in several for entry in zeros[lacking]})
+                potirehu.gtd7(FIRST, row, known=set(self.ALL) - {name for lacking in several for name in lacking.split(", ")})
 
 
 class Columns(unittest.TestCase):

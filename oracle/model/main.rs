@@ -1,6 +1,6 @@
 // Our one-altitude calls, gtd7 and gtd7d, against the Rust: the eleven numbers to the bit, the refusals, pairs under the shut-off list, the 1E-6 rule,
 // the published samples, calls of each elementary function, and time per call. Bands of switch rows, the crossings, the first altitude thin enough,
-// descents, the expansions, the line program, the call with nine constants, prepared stations and the boards' logs stand in files of their own.
+// descents, the expansions, the line program, the call with nine constants, records known in part, prepared stations and the boards' logs stand in files of their own.
 mod bands;
 mod crossings;
 mod descent;
@@ -8,6 +8,7 @@ mod expansions;
 mod first_below;
 #[path = "../host.rs"]
 mod host;
+mod known;
 mod lines;
 mod logs;
 mod parameters;
@@ -15,6 +16,7 @@ mod parameters;
 mod random;
 mod stations;
 use host::{numbers, one_altitude, ours, ours_column, potirehu_gtd7, potirehu_gtd7d, OneAltitude};
+use known::shut_off;
 use random::Random;
 use std::time::Instant;
 
@@ -447,23 +449,23 @@ fn pairs(call: &Call, rows: Rows, g: &mut Random, count: u64) -> u64 {
         let mut b = a;
         let other = record(g);
         b.year = other.year;
-        if w[10] != 1 || (w[12] != 1 && w[13] != 1) {
+        if shut_off(&w, 2) {
             b.sec = other.sec;
         }
-        if w[10] != 1 || (w[11] != 1 && w[12] != 1 && w[13] != 1) {
+        if shut_off(&w, 5) {
             b.g_long = other.g_long;
         }
-        if w[8] != 1 && w[14] != 1 && (w[7] <= 0 || (w[9] == 0 && w[7] != 1)) {
+        if shut_off(&w, 6) {
             b.lst = other.lst;
         }
-        if w[1] <= 0 {
+        if shut_off(&w, 7) {
             b.f107a = other.f107a;
             b.f107 = other.f107;
         }
-        if w[9] == -1 || (w[9] == 0 && (w[10] != 1 || w[13] != 1)) {
+        if shut_off(&w, 9) {
             b.ap = other.ap;
         }
-        if w[9] != -1 {
+        if shut_off(&w, 11) {
             b.ap_array = other.ap_array;
         } else if let (Some(x), Some(y)) = (b.ap_array.as_mut(), other.ap_array) {
             x[0] = y[0];
@@ -771,6 +773,9 @@ fn main() {
         Some("logs") => logs::logs(&mut g, count),
         Some("parameters") => parameters::parameters(&mut g, count),
         Some("parameters-present") => parameters::present(&mut g, count),
+        Some("known") => known::known(&mut g, count),
+        Some("pairs-known") => known::pairs(&mut g, count),
+        Some("fields-that-count") => known::counts(&mut g, count),
         Some("near") => near(&GTD7, &mut g, count, false),
         Some("near-d") => near(&GTD7D, &mut g, count, false),
         Some("near-any") => near(&GTD7, &mut g, count, true),
@@ -790,6 +795,7 @@ fn main() {
             first_below::time();
             descent::time();
             stations::time();
+            known::time();
             0
         }
         Some("forms") => {
@@ -797,7 +803,7 @@ fn main() {
             0
         }
         _ => {
-            eprintln!("model differential|gtd7d|lengths|pairs|pairs-fluxes|pairs-lst|pairs-d|states|expansions|raised|columns|crossings|first-below|descents|stations|hostile-stations|bands|banded|logs|parameters|parameters-present|near|near-d|near-any [SEED] [COUNT], lines|hostile SEED COUNT PROGRAM, forms SEED COUNT INPUT OUTPUT, samples FILE, arguments FOLDER, counts, time");
+            eprintln!("model differential|gtd7d|lengths|pairs|pairs-fluxes|pairs-lst|pairs-d|states|expansions|raised|columns|crossings|first-below|descents|stations|hostile-stations|bands|banded|logs|parameters|parameters-present|known|pairs-known|fields-that-count|near|near-d|near-any [SEED] [COUNT], lines|hostile SEED COUNT PROGRAM, forms SEED COUNT INPUT OUTPUT, samples FILE, arguments FOLDER, counts, time");
             std::process::exit(2);
         }
     };

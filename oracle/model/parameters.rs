@@ -8,9 +8,9 @@ use varied::varied::{set, PRESENT};
 const SPECIES: [f64; 7] = [1.0, 4.0, 14.0, 16.0, 28.0, 32.0, 40.0];
 
 // Numbers that stand before and behind the lent row.
-const GUARD: usize = 3;
+pub const GUARD: usize = 3;
 
-fn one<T: Copy>(g: &mut Random, all: &[T]) -> T {
+pub fn one<T: Copy>(g: &mut Random, all: &[T]) -> T {
     all[g.below(all.len() as u64) as usize]
 }
 
@@ -95,7 +95,7 @@ fn drawn(g: &mut Random, i: u64) -> (Input, [i32; 24], [usize; 5]) {
 }
 
 // A list with something behind it, so that a longer slice can be handed over.
-fn longer<T: Copy, const N: usize>(x: &[T], behind: T) -> [T; N] {
+pub fn longer<T: Copy, const N: usize>(x: &[T], behind: T) -> [T; N] {
     std::array::from_fn(|k| *x.get(k).unwrap_or(&behind))
 }
 
@@ -107,12 +107,12 @@ fn called(nine: &[f64; 9], r: &Input, w: &[i32; 24], lengths: [usize; 5], memory
     ours(&nine[..n_nine], r.year, r.doy, &fields[..n_fields], &ap[..n_ap], &w[..n_switches], &mut memory[GUARD..GUARD + n_row])
 }
 
-fn random_memory(g: &mut Random, n_row: usize) -> Vec<f64> {
+pub fn random_memory(g: &mut Random, n_row: usize) -> Vec<f64> {
     (0..n_row + 2 * GUARD).map(|_| f64::from_bits(g.next())).collect()
 }
 
 // An accepted row is compared by its numbers, all else by its bits.
-fn equal(have: &[f64], want: &[f64], accepted: bool) -> bool {
+pub fn equal(have: &[f64], want: &[f64], accepted: bool) -> bool {
     let row = GUARD..GUARD + 11;
     (0..want.len()).all(|k| have[k].to_bits() == want[k].to_bits() || (accepted && row.contains(&k) && same(have[k], want[k])))
 }

@@ -8,6 +8,7 @@ pub const WHOLE: usize = 27;
 pub const NUMBERS: usize = 259;
 pub const BANDS: usize = 1601;
 pub const NINE: usize = 9;
+pub const COUNTS: usize = 17;
 pub const NOWHERE: u64 = 4294967295;
 
 /// A one-altitude call.
@@ -46,6 +47,10 @@ extern "C" {
     pub fn potirehu_gtd7_with(
         nine: *const f64, n_nine: usize, year: i32, doy: i32, fields: *const f64, n_fields: usize, ap_array: *const f64, n_ap: usize,
         switches: *const i32, n_switches: usize, row: *mut f64, n_row: usize) -> u64;
+    pub fn potirehu_counts(switches: *const i32, n_switches: u64, fields: *mut i32, n_fields: u64) -> u64;
+    pub fn potirehu_gtd7_known(
+        known: u32, year: i32, doy: i32, fields: *const f64, n_fields: u64, ap_array: *const f64, n_ap: u64, switches: *const i32,
+        n_switches: u64, row: *mut f64, n_row: u64) -> u64;
     pub fn potirehu_station(
         year: i32, doy: i32, fields: *const f64, n_fields: usize, ap_array: *const f64, n_ap: usize, switches: *const i32,
         n_switches: usize, whole: *mut i32, n_whole: usize, numbers: *mut f64, n_numbers: usize) -> u64;

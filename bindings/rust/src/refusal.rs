@@ -6,7 +6,7 @@ use Kind::*;
 #[derive(Debug, Clone, Copy, PartialEq, Eq, Hash)]
 #[non_exhaustive]
 pub enum Kind {
-    /// 1: switch 9 is -1 and there is no `ap_array`.
+    /// 1: switch 9 is -1 and there is no `ap_array`, place 10; of [`gtd7_known`](crate::gtd7_known) also a field that counts and is not known.
     MissingApArray = 1,
     /// 2: a field is NaN or infinite.
     NonFiniteInput = 2,
@@ -141,6 +141,7 @@ impl fmt::Display for Refusal {
         let place = self.place;
         let (field, range) = self.named_field();
         match self.kind {
+            MissingApArray if place < 10 => write!(f, "{field} counts under the switch row, and is not known"),
             MissingApArray => write!(f, "switch 9 is -1, but there is no ap_array"),
             NonFiniteInput => write!(f, "{field} is NaN or infinite"),
             OutOfDomain => write!(f, "{field} is out of range, {range}"),

@@ -18,6 +18,7 @@ fn rust_type(c: &str) -> &'static str {
     match c {
         "int32_t" => "i32",
         "int64_t" => "i64",
+        "uint32_t" => "u32",
         "uint64_t" => "u64",
         "double" => "f64",
         "size_t" => "usize",
@@ -62,6 +63,7 @@ fn every_length_is_the_headers() {
         ("POTIREHU_STATION_NUMBERS", "NUMBERS: usize"),
         ("POTIREHU_BANDS", "BANDS: usize"),
         ("POTIREHU_NINE", "NINE: usize"),
+        ("POTIREHU_COUNTS", "COUNTS: usize"),
         ("POTIREHU_NOWHERE", "NOWHERE: u64"),
     ] {
         let header = header();

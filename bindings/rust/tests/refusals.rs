@@ -69,6 +69,29 @@ fn number_1_no_history() {
     assert_eq!((refusal.kind, refusal.field()), (Kind::MissingApArray, Some("ap_array")));
 }
 
+// A record known in part: 1 at each field that counts and is not known, by the reading of `counts`; 2 and 3 of known fields alone.
+#[test]
+fn number_1_not_known() {
+    let marks = counts(&on());
+    for place in 0..10 {
+        let known = known::ALL & !(1 << place);
+        if marks[place] {
+            let words = format!("{} counts under the switch row, and is not known", NAMES[place]);
+            refused(gtd7_known(known, &SAMPLE, &on()), 1, place as u32, &words);
+        } else {
+            assert_eq!(bits(&gtd7_known(known, &SAMPLE, &on()).unwrap()), bits(&gtd7(&SAMPLE, &on()).unwrap()));
+        }
+    }
+    refused(gtd7_known(known::ALL, &SAMPLE, &with(9, -1)), 1, 10, "switch 9 is -1, but there is no ap_array");
+    let no_longitude = NrlmsiseInput { g_long: f64::NAN, sec: -1.0, ..SAMPLE };
+    let known = known::ALL & !(known::G_LONG | known::SEC);
+    let zeros = NrlmsiseInput { g_long: 0.0, sec: 0.0, ..SAMPLE };
+    assert_eq!(bits(&gtd7_known(known, &no_longitude, &with(10, 0)).unwrap()), bits(&gtd7(&zeros, &with(10, 0)).unwrap()));
+    refused(gtd7_known(known, &NrlmsiseInput { lst: f64::NAN, ..no_longitude }, &on()), 2, 6, "lst is NaN or infinite");
+    refused(gtd7_known(known, &NrlmsiseInput { lst: 49.0, ..no_longitude }, &with(10, 0)), 3, 6, "lst is out of range, -24 to 48");
+    assert_eq!(bits(&gtd7_known(!0, &SAMPLE, &on()).unwrap()), bits(&gtd7(&SAMPLE, &on()).unwrap()));
+}
+
 #[test]
 fn number_2_each_field() {
     for place in 2..=16 {

@@ -36,13 +36,15 @@ arrayUnfitOf there a =
     (there && not (finiteOf (a ‼ 3))) ∷ (there && not (finiteOf (a ‼ 4))) ∷ (there && not (finiteOf (a ‼ 5))) ∷
     (there && not (finiteOf (a ‼ 6))) ∷ []) 17
 
+-- for each field from 2 to 9, whether it is NaN or infinite
+abbrev pub unfitTests : Input → List Bool
+unfitTests n =
+    not (finiteOf (n .sec)) ∷ not (finiteOf (n .alt)) ∷ not (finiteOf (n .«g_lat»)) ∷ not (finiteOf (n .«g_long»)) ∷
+    not (finiteOf (n .lst)) ∷ not (finiteOf (n .f107a)) ∷ not (finiteOf (n .f107)) ∷ not (finiteOf (n .ap)) ∷ []
+
 -- the lowest field that is NaN or infinite
 unfoldable pub unfitOf : Input → ℕ
-unfitOf n =
-    lowest 2
-    (not (finiteOf (n .sec)) ∷ not (finiteOf (n .alt)) ∷ not (finiteOf (n .«g_lat»)) ∷ not (finiteOf (n .«g_long»)) ∷
-    not (finiteOf (n .lst)) ∷ not (finiteOf (n .f107a)) ∷ not (finiteOf (n .f107)) ∷ not (finiteOf (n .ap)) ∷ [])
-    (arrayUnfitOf (not (absentOf (n .history))) (n .«ap_array»))
+unfitOf n = lowest 2 (unfitTests n) (arrayUnfitOf (not (absentOf (n .history))) (n .«ap_array»))
 
 unfoldable pub arrayOutsideOf : Bool → List Float → ℕ
 arrayOutsideOf there a =
@@ -52,11 +54,10 @@ arrayOutsideOf there a =
     (there && not (withinOf 0·0 400·0 (a ‼ 4))) ∷ (there && not (withinOf 0·0 400·0 (a ‼ 5))) ∷
     (there && not (withinOf 0·0 400·0 (a ‼ 6))) ∷ []) 17
 
--- the lowest field out of range: doy, sec, alt, g_lat, g_long, lst, f107a, f107, ap, then the array
-unfoldable pub outsideOf : Input → ℕ
-outsideOf n =
-    lowest 1
-    (not (dayWithin (n .doy)) ∷
+-- for each field from 1 to 9, doy, sec, alt, g_lat, g_long, lst, f107a, f107, ap, whether it is out of range
+abbrev pub outsideTests : Input → List Bool
+outsideTests n =
+    not (dayWithin (n .doy)) ∷
     not (withinOf 0·0 86400·0 (n .sec)) ∷
     not (withinOf 0·0 2500·0 (n .alt)) ∷
     not (withinOf (neg 90·0) 90·0 (n .«g_lat»)) ∷
@@ -64,8 +65,11 @@ outsideOf n =
     not (withinOf (neg 24·0) 48·0 (n .lst)) ∷
     not (withinOf 0·0 1000·0 (n .f107a)) ∷
     not (withinOf 0·0 1000·0 (n .f107)) ∷
-    not (withinOf 0·0 400·0 (n .ap)) ∷ [])
-    (arrayOutsideOf (not (absentOf (n .history))) (n .«ap_array»))
+    not (withinOf 0·0 400·0 (n .ap)) ∷ []
+
+-- the lowest field out of range, the array's among them
+unfoldable pub outsideOf : Input → ℕ
+outsideOf n = lowest 1 (outsideTests n) (arrayOutsideOf (not (absentOf (n .history))) (n .«ap_array»))
 
 -- a place is one of the fields 0 to 16
 unfoldable pub foundOf : ℕ → Bool

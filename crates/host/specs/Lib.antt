@@ -8,3 +8,4 @@ pub mod Constants
 pub mod Descents
 pub mod DescentTheorems
 pub mod FirstBelow
+pub mod KnownInPart

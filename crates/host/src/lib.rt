@@ -1,9 +1,10 @@
-// What the host links: the elementary functions, the one-altitude call, also for drag, in bands of switch rows and with nine constants, the column, where its density passes a
-// level, its first altitude thin enough, the station, a descent and the boards' logs, on numbers and slices.
+// What the host links: the elementary functions, the one-altitude call, also for drag, in bands of switch rows, with nine constants and for a record known in part, which fields count,
+// the column, where its density passes a level, its first altitude thin enough, the station, a descent and the boards' logs, on numbers and slices.
 pub mod banded;
 pub mod boards;
 pub mod constants;
 pub mod descents;
+pub mod known_in_part;
 pub mod listing;
 pub mod stations;
 pub mod thin;
