@@ -3,7 +3,13 @@
    outside. docs/RULES.md has every rule.
 
    An answer of 2^32 or more is a refusal: its number times 2^32 plus a place, which is cut to its lower 32 bits (only 18, of more than 2^32 settings, has a
-   place that this changes). potirehu_struct.h has each call once more, over structs with named members. */
+   place that this changes). potirehu_struct.h has each call once more, over structs with named members.
+
+   Slices lent to one call must not overlap, where the call writes one of them; two that are only read may be the same.
+   The library is reentrant and keeps no data: calls may interrupt each other and run side by side, as long as none writes what another reads; so a station
+   that is being changed may not be read.
+   The floating-point unit must round to nearest and trap nothing. Where it flushes numbers below 2^-1022 to zero, species as rare as that, and arguments and
+   results of the elementary functions as small, count as 0. Nothing else of it matters. */
 #ifndef POTIREHU_H
 #define POTIREHU_H
 
@@ -123,10 +129,12 @@ enum potirehu_switch {
      doy       day of the year, 1 to 366
      fields    8: sec (UT, 0 to 86400), alt (km, 0 to 2500), g_lat (degrees, -90 to 90), g_long (degrees east, -1000 to 1000),
                lst (hours, -24 to 48; sec / 3600 + g_long / 15 where nothing else is known), f107a (81-day mean) and f107 (day before),
-               0 to 1000, ap (daily, 0 to 400)
+               0 to 1000, ap (daily, 0 to 400); fluxes of 0 are in range and do not mean 'not known': at 400 km they
+               give at most some 0.02 of the density that 150 gives
      ap_array  0 values, or the magnetic history of 7 (daily ap; 3-hour ap now, 3, 6, 9 hours before; means of 12 to 33 and 36 to 57 hours
                before), 0 to 400 each; NULL will do for 0 values
-     switches  24: 1 on, 0 off, 2 main effect off and cross effect on; entry 0: m and kg; entry 9: 1 daily ap, -1 history, 0 neither
+     switches  24: 1 on, 0 off, 2 main effect off and cross effect on; entry 0: m and kg; entry 9: 1 daily ap, -1 history, 0 neither.
+               Any other value is taken too: above 0 as 2, below 0 as 0; but in entry 9 as a factor of every magnetic term
      row       11: He, O, N2, O2, Ar, mass density, H, N, anomalous O, exospheric temperature, temperature
    Answers 0 and writes the row, or answers a refusal's number times 2^32 plus its place and leaves row as it was:
      4 at the length needed, a row, fields, ap_array or switches of another length, in this order;
@@ -142,16 +150,17 @@ uint64_t potirehu_gtd7(int32_t year, int32_t doy, const double *fields, size_t n
                        const int32_t *switches, size_t n_switches, double *row, size_t n_row);
 
 /* The same at n altitudes (km), 0 to 512 of them, the record's own altitude not looked at: each altitude's eleven numbers go into their own
-   part of rows, and what lies behind them stays. After the lengths of fields, ap_array and switches: 5 at 512 for more than 512 altitudes;
-   4 at 11 n for a shorter buffer; the record as above; each altitude 2, else 3, at 17 plus its index; once all have passed those, 10 at 17 plus the
-   lowest index below 72.5 km where switch 15 is not 1. */
+   part of rows, and what lies behind them stays. Altitudes that lie inside rows give wrong rows. After the lengths of fields, ap_array and switches:
+   5 at 512 for more than 512 altitudes; 4 at 11 n for a shorter buffer; the record as above; each altitude 2, else 3, at 17 plus its index; once all
+   have passed those, 10 at 17 plus the lowest index below 72.5 km where switch 15 is not 1. */
 POTIREHU_CHECKED
 uint64_t potirehu_gtd7_column(int32_t year, int32_t doy, const double *fields, size_t n_fields, const double *ap_array, size_t n_ap,
                               const int32_t *switches, size_t n_switches, const double *altitudes, size_t n, double *rows, size_t n_rows);
 
-/* Where the mass density of a column passes a level: at or above it at one altitude and below it at the next, or the other way round. The n
-   altitudes (km), 0 to 512 of them, must rise strictly; the record's own altitude is not looked at. The index of the lower altitude of each such
-   pair goes to the start of list, lowest first, and what lies behind stays; a NaN at either altitude or as level makes no pair. Answers how long
+/* Where the mass density of a column passes a level: at or above it at one altitude and below it at the next, or the other way round. The level is in
+   kg/m^3 where switch 0 is 1, else in g/cm^3. The n altitudes (km), 0 to 512 of them, must rise strictly; the record's own
+   altitude is not looked at. The index of the lower altitude of each such pair goes to the start of list, lowest first, and what lies behind stays; a
+   NaN at either altitude or as level makes no pair. Answers how long
    the list is, at most 511; or a refusal, and leaves list as it was. After the lengths of fields, ap_array and switches: 5 at 512 for more than
    512 altitudes; the record as above; each altitude 2, else 3, at 17 plus its index; once all have passed those, 10 at 17 plus the lowest index below
    72.5 km where switch 15 is not 1; 8 at the lowest index whose altitude is not above the one
@@ -162,7 +171,8 @@ uint64_t potirehu_crossings(int32_t year, int32_t doy, const double *fields, siz
                             size_t n_list);
 
 /* The first of n altitudes (km), 0 to 512 of them, whose mass density is below a level, for a caller who has no time for the rest: all are checked,
-   then none behind the first is worked out. They need not rise; the record's own altitude is not looked at. Answers its index, at most 511, and writes
+   then none behind the first is worked out. They need not rise; the record's own altitude is not looked at; the level is in kg/m^3 where switch 0 is 1,
+   else in g/cm^3. Answers its index, at most 511, and writes
    row, 11 numbers, as potirehu_gtd7_column has them there; or POTIREHU_NOWHERE, 2^32 - 1, where no density is below the level, as a NaN never is and
    nothing is below a NaN, and leaves row as it was; or a refusal, which is 2^32 or more, and leaves row as it was. After the lengths of row, fields,
    ap_array and switches: 5 at 512 for more than 512 altitudes; the record as above; each altitude 2, else 3, at 17 plus its index; once all have passed
@@ -245,7 +255,8 @@ uint64_t potirehu_station_switches(int32_t *whole, size_t n_whole, double *numbe
    in end the ending, the last altitude in millimetres and how many losses were taken: start minus that altitude is their sum. Or leaves both as they
    were and answers 4 at the length needed, for end of another length than 3, for fields, ap_array or switches, in this order; what potirehu_gtd7 refuses of
    the record; 17 at 0 for a start outside 200,000,000 to 1,000,000,000; 18 at the first orbit, counted from 1, with a setting outside 1 to 4; 19 at 10,000
-   for more settings than that, else at the length needed for losses shorter than settings. */
+   for more settings than that, else at the length needed for losses shorter than settings. All settings are read before 19 can be answered, however many
+   there are; losses that lie over settings or over end give wrong losses. */
 POTIREHU_CHECKED
 uint64_t potirehu_descent(int32_t year, int32_t doy, const double *fields, size_t n_fields, const double *ap_array, size_t n_ap,
                           const int32_t *switches, size_t n_switches, int64_t start, const int32_t *settings, size_t n_settings, int64_t *losses,
@@ -259,7 +270,8 @@ uint64_t potirehu_descent(int32_t year, int32_t doy, const double *fields, size_
    numbers with an optional minus and 1 to 9 digits, no leading zero, no -0; the bands, in line order, cover 0 to 2,500,000 with no gap or overlap, the last TO being
    2,500,001, in at most 64 lines; the last may lack its newline. Answers 0; or leaves table as it was and answers 4 at the length needed; 11 at the
    first line that is not a band, has FROM not below TO, ends past 2,500,001, or is the 65th; then, line by line, 12 at an overlap, FROM below the
-   last TO, 13 at a gap, FROM above it; 13 at one past the last line where the table ends short. Lines are counted from 1. */
+   last TO, 13 at a gap, FROM above it; 13 at one past the last line where the table ends short. Lines are counted from 1. n_text counts the text's bytes:
+   with a C string's closing NUL it is one too many, and its last line no band. */
 POTIREHU_CHECKED
 uint64_t potirehu_bands(const uint8_t *text, size_t n_text, int32_t *table, size_t n_table);
 
