@@ -204,7 +204,8 @@ uint64_t potirehu_gtd7_with(const double *nine, size_t n_nine, int32_t year, int
 
 /* A prepared station is a record and a switch row with the values stored that do not depend on the altitude: two arrays of the caller's, of these
    lengths. What they hold is the library's own; they may be copied and moved, and need not be given back. An altitude asked of it works out no
-   expansion. What is said here of a station holds for one that these calls gave. */
+   expansion. What is said here of a station holds for one that these calls gave. It has no guard against bits that flip in its arrays: they give wrong
+   rows and no refusal. Where that can happen keep a copy and compare it before use, or prepare anew from the record now and then. */
 #define POTIREHU_STATION_WHOLE 27
 #define POTIREHU_STATION_NUMBERS 259
 
@@ -216,8 +217,8 @@ uint64_t potirehu_station(int32_t year, int32_t doy, const double *fields, size_
                           const int32_t *switches, size_t n_switches, int32_t *whole, size_t n_whole, double *numbers, size_t n_numbers);
 
 /* The station's air at one altitude (km): the row that potirehu_gtd7 gives on record and row as the station now has them, with this altitude. Answers 0
-   and writes the row; or 4 at the length needed, for row, whole or numbers of another length, in this order, then 2, 3 or 10 at 3 for the
-   altitude, and leaves row as it was. */
+   and writes the row; or 4 at the length needed, for row, whole or numbers of another length, in this order, then 2 at 3 for the altitude, 3 at 1 where the
+   station's doy is outside 1 to 366, as in arrays of zeros that were never prepared, 3 or 10 at 3 for the altitude, and leaves row as it was. */
 POTIREHU_CHECKED
 uint64_t potirehu_station_gtd7(const int32_t *whole, size_t n_whole, const double *numbers, size_t n_numbers, double alt, double *row, size_t n_row);
 

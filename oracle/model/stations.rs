@@ -194,9 +194,12 @@ fn judged_anywhere(r: &Input, w: &[i32; 24]) -> (u64, u64) {
     judged(&Input { alt: 0.0, ..*r }, w)
 }
 
-fn judged_altitude(alt: f64, w: &[i32; 24]) -> (u64, u64) {
+// How an altitude is judged of a station that holds this doy, any number where its calls did not give it.
+fn judged_altitude(alt: f64, doy: i32, w: &[i32; 24]) -> (u64, u64) {
     if !alt.is_finite() {
         (2, 3)
+    } else if !(1..=366).contains(&doy) {
+        (3, 1)
     } else if !(0.0..=2500.0).contains(&alt) {
         (3, 3)
     } else if unmixed(alt, w) {
@@ -313,7 +316,7 @@ impl History {
         let misfit = n.altitude_refused();
         f.misfits += misfit.is_some() as u64;
         f.altitudes += 1;
-        let want = misfit.unwrap_or(judged_altitude(alt, &self.row));
+        let want = misfit.unwrap_or(judged_altitude(alt, self.record.doy, &self.row));
         f.ten += (want.0 == 10) as u64;
         let r = Input { alt, ..self.record };
         let good = if want == (0, 0) {
@@ -416,11 +419,18 @@ fn content(g: &mut Random) -> f64 {
     }
 }
 
-// Any bits; numbers of any kind with small whole numbers; a station in which some numbers, all floats or all whole numbers were replaced.
+// Any bits; zeros, never prepared; numbers of any kind with small whole numbers; a station in which some numbers, all floats, all whole numbers or the doy
+// were replaced.
 fn contents(g: &mut Random) -> Memory {
     let mut m = Memory::any(g);
-    if g.below(4) == 0 {
-        return m;
+    match g.below(8) {
+        0 | 1 => return m,
+        2 => {
+            m.whole[GUARD..GUARD + WHOLE].fill(0);
+            m.numbers[GUARD..GUARD + NUMBERS].fill(0.0);
+            return m;
+        }
+        _ => {}
     }
     let kind = g.below(6);
     if kind > 0 {
@@ -442,23 +452,23 @@ fn contents(g: &mut Random) -> Memory {
                 let small = g.below(600) as i32 - 200;
                 m.whole[GUARD + g.below(WHOLE as u64) as usize] = if g.below(2) == 0 { g.next() as i32 } else { small };
             }
+            if g.below(4) == 0 {
+                m.whole[GUARD + 1] = [0, 1, 366, 367, -1, i32::MIN, i32::MAX][g.below(7) as usize];
+            }
         }
     }
     m
 }
 
-// A refusal that an altitude, or a change or new row, knows once the lengths fit, with a place of its own kind.
-fn known(asked: bool, answer: (u64, u64)) -> bool {
-    if asked {
-        matches!(answer, (2 | 3 | 10, 3))
-    } else {
-        matches!(answer, (1, 10) | (2, 2..=16) | (3, 1..=16))
-    }
+// A refusal that a change or new row knows once the lengths fit, with a place of its own kind.
+fn known(answer: (u64, u64)) -> bool {
+    matches!(answer, (1, 10) | (2, 2..=16) | (3, 1..=16))
 }
 
-// Stations of any contents: each call comes back with an answer that it may give, writes only what it lends out, and nothing where it refuses.
+// Stations of any contents: an altitude comes back with the answer that its doy and row ask for, any other call with one that it may give; each writes only
+// what it lends out, and nothing where it refuses.
 pub fn hostile(g: &mut Random, count: u64) -> u64 {
-    let (mut done, mut altitudes, mut rows, mut changes, mut switches, mut switched, mut bad) = (0u64, 0u64, 0u64, 0u64, 0u64, 0u64, 0u64);
+    let (mut done, mut altitudes, mut rows, mut no_day, mut changes, mut switches, mut switched, mut bad) = (0u64, 0u64, 0u64, 0u64, 0u64, 0u64, 0u64, 0u64);
     while done < count {
         let mut m = contents(g);
         for _ in 0..(1 + g.below(8)).min(count - done) {
@@ -467,10 +477,14 @@ pub fn hostile(g: &mut Random, count: u64) -> u64 {
             let before = m.clone();
             let asked = g.below(2) == 0;
             let switch = !asked && g.below(2) == 0;
+            let old = std::array::from_fn(|i| m.whole[GUARD + 3 + i]);
+            // what an altitude is answered; None where only its kind is known
+            let mut want = None;
             let (have, misfit) = if asked {
-                (m.ask(&n, any_altitude(g), g.below(3) == 0), n.altitude_refused())
+                let alt = any_altitude(g);
+                want = Some(judged_altitude(alt, m.whole[GUARD + 1], &old));
+                (m.ask(&n, alt, g.below(3) == 0), n.altitude_refused())
             } else if switch {
-                let old = std::array::from_fn(|i| m.whole[GUARD + 3 + i]);
                 let (w, n_switches) = (new_row(g, &old), length(g, 24));
                 (m.switch(&n, &[&w[..], &[1; GUARD]].concat()[..n_switches]), n.switch_refused(n_switches))
             } else {
@@ -479,10 +493,11 @@ pub fn hostile(g: &mut Random, count: u64) -> u64 {
             let accepted = have == (0, 0) && misfit.is_none();
             altitudes += asked as u64;
             rows += (asked && accepted) as u64;
+            no_day += (asked && have == (3, 1)) as u64;
             switches += switch as u64;
             switched += (switch && accepted) as u64;
             changes += (!asked && !switch && accepted) as u64;
-            let answered = misfit.map_or(accepted || known(asked, have), |refusal| have == refusal);
+            let answered = misfit.or(want).map_or(accepted || known(have), |answer| have == answer);
             let kept = match (asked, accepted) {
                 (true, true) => m.station_kept(&before) && m.row_guards_kept(&before),
                 (false, true) => m.station_guards_kept(&before) && m.row_kept(&before),
@@ -496,7 +511,7 @@ pub fn hostile(g: &mut Random, count: u64) -> u64 {
             }
         }
     }
-    println!("hostile stations: {done} calls, {altitudes} altitudes ({rows} accepted), {} changes ({changes} accepted), {switches} new rows ({switched} accepted), {bad} differences", done - altitudes - switches);
+    println!("hostile stations: {done} calls, {altitudes} altitudes ({rows} accepted, {no_day} refused with 3 at 1), {} changes ({changes} accepted), {switches} new rows ({switched} accepted), {bad} differences", done - altitudes - switches);
     bad
 }
 

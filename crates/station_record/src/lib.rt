@@ -3,7 +3,7 @@ ghost use mathlib.Core.Path.{_≡_};
 ghost use Prim.Native.Nat.{_<_};
 ghost use lib.IntN.{pos};
 ghost use lib.ListN.{length, drop, getD};
-ghost use Rattle.acceptance.specs.Acceptance.{judgedOf};
+ghost use Rattle.acceptance.specs.Acceptance.{dayWithin, judgedOf};
 ghost use Rattle.setting.specs.Switches.{isOne, onOff};
 ghost use Rattle.station_record.specs.Record.{markOf, historyIn, stationWhole, recordNumbers, recordIn, unitsIn, mixingIn, withSecOf, withLstOf, withLongOf, withFluxesOf, toSec, toLst, toLong, toFluxes, changeOf, stationAnswer, altitudeAnswer, rowTaken};
 use acceptance::Answer;
@@ -288,7 +288,22 @@ pub fn one_in(whole: &[i32], i: usize) -> bool
     false
 }
 
-// The answer to an altitude: the lengths of the row, the whole numbers and the numbers; 2, then 3, then 10.
+// Whether the doy of the whole numbers is a day of the year: in slices that were never prepared it is likely none.
+pub fn day_in(whole: &[i32]) -> bool
+    requires { ⌜ length (now whole) ≡ 27 ⌝ }
+    ensures { λ r. ⌜ r ≡ dayWithin (getD (now (whole .entry)) 1 (pos 0)) ⌝ }
+{
+    let d = whole[1];
+    if d < 1 {
+        return false;
+    }
+    if d > 366 {
+        return false;
+    }
+    true
+}
+
+// The answer to an altitude: the lengths of the row, the whole numbers and the numbers; 2, then 3 for the doy and for the altitude, then 10.
 pub fn altitude_answer(len: usize, whole: &[i32], count: usize, alt: f64) -> Answer
     ensures { λ r. ⌜ r ≡ altitudeAnswer len (now (whole .entry)) count alt ⌝ }
 {
@@ -304,6 +319,9 @@ pub fn altitude_answer(len: usize, whole: &[i32], count: usize, alt: f64) -> Ans
     }
     if !finite(alt) {
         return Answer::Refused(2, 3);
+    }
+    if !day_in(whole) {
+        return Answer::Refused(3, 1);
     }
     if !within(0.0, 2500.0, alt) {
         return Answer::Refused(3, 3);
