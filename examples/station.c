@@ -1,4 +1,4 @@
-/* A controller over one place: prepares a station once, asks it for altitude after altitude, moves sec and lst on between the orbits, and then
+/* A controller over one place: prepares a station once, asks it for altitude after altitude, moves it on between the orbits, and then
    takes another switch row. A change or a row that is refused leaves the station as it was. The last line is the density that a drag model takes.
    All switches are on but where said, densities in kg/m^3. */
 #include <math.h>
@@ -38,8 +38,7 @@ int main(void) {
     for (int orbit = 0; orbit < 16; orbit++) {
         char name[32];
         double seconds = 5400.0 * orbit, hours = seconds / 3600.0 + 1.0;
-        if ((answer = potirehu_struct_station_sec(&station, seconds)).number) return refused(answer);
-        if ((answer = potirehu_struct_station_lst(&station, hours)).number) return refused(answer);
+        if ((answer = potirehu_struct_station_move(&station, seconds, hours, record.g_long)).number) return refused(answer);
         snprintf(name, sizeof name, "%.1f", hours);
         if ((answer = profile(name)).number) return refused(answer);
     }

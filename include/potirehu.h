@@ -243,6 +243,11 @@ uint64_t potirehu_station_g_long(const int32_t *whole, size_t n_whole, double *n
 POTIREHU_CHECKED
 uint64_t potirehu_station_fluxes(const int32_t *whole, size_t n_whole, double *numbers, size_t n_numbers, double f107a, double f107);
 
+/* Moves the station: sec, lst and g_long in one change, in the same way, so that it is never of two times or places at once; refused, all three stay. What
+   has no change, doy, g_lat, ap and the history, is prepared anew; that takes as long as a change. */
+POTIREHU_CHECKED
+uint64_t potirehu_station_move(const int32_t *whole, uint64_t n_whole, double *numbers, uint64_t n_numbers, double sec, double lst, double g_long);
+
 /* Gives the station a new switch row: from then on every altitude and change gives what a station newly prepared with the same record and this row
    gives. Where the two rows mean the same in entries 1 to 14, no expansion is worked out again. Answers 0; or 4 at the length needed, for whole,
    numbers or switches, in this order, then 1 at 10 where the row asks for a history that the record has not, and leaves the station as it was. */

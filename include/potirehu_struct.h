@@ -234,6 +234,11 @@ static inline struct potirehu_answer potirehu_struct_station_fluxes(struct potir
 }
 
 POTIREHU_CHECKED
+static inline struct potirehu_answer potirehu_struct_station_move(struct potirehu_prepared *station, double sec, double lst, double g_long) {
+    return potirehu_answer_of(potirehu_station_move(POTIREHU_STATION_OF(station), sec, lst, g_long));
+}
+
+POTIREHU_CHECKED
 static inline struct potirehu_answer potirehu_struct_station_switches(struct potirehu_prepared *station, const struct potirehu_switches *switches) {
     return potirehu_answer_of(potirehu_station_switches(POTIREHU_STATION_OF(station), switches->entry, 24));
 }

@@ -160,6 +160,9 @@ static void station(const struct both *b, const struct both *next) {
     bare = potirehu_station_fluxes(STATION, next->record.f107a, next->record.f107);
     answer = potirehu_struct_station_fluxes(&prepared, next->record.f107a, next->record.f107);
     HELD("station_fluxes");
+    bare = potirehu_station_move(STATION, b->record.sec, next->record.lst, b->record.g_long);
+    answer = potirehu_struct_station_move(&prepared, b->record.sec, next->record.lst, b->record.g_long);
+    HELD("station_move");
     bare = potirehu_station_switches(STATION, ROW(next));
     answer = potirehu_struct_station_switches(&prepared, &next->switches);
     HELD("station_switches");

@@ -202,7 +202,7 @@ class Refusal(ValueError):
 
 _CALLS = (
     "gtd7", "gtd7d", "gtd7_with", "gtd7_column", "crossings", "first_below", "station", "station_gtd7", "station_gtd7d", "station_sec", "station_lst", "station_g_long",
-    "station_fluxes", "station_switches", "bands", "bands_gtd7", "descent", "logs",
+    "station_fluxes", "station_move", "station_switches", "bands", "bands_gtd7", "descent", "logs",
 )
 _NOWHERE = 2**32 - 1
 
@@ -411,6 +411,10 @@ class Station:
     def set_fluxes(self, f107a, f107):
         """Changes both fluxes."""
         self._ask("station_fluxes", ctypes.c_double(f107a), ctypes.c_double(f107))
+
+    def set_position(self, sec, lst, g_long):
+        """Moves it: seconds of the day, local time and longitude in one change; refused, all three stay."""
+        self._ask("station_move", ctypes.c_double(sec), ctypes.c_double(lst), ctypes.c_double(g_long))
 
     def set_switches(self, switches):
         """Gives it a new switch row."""

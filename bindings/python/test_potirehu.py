@@ -173,9 +173,14 @@ class Stations(unittest.TestCase):
         station.set_fluxes(100, 120)
         record = dataclasses.replace(FIRST, sec=1000, lst=3.5, g_long=20, f107a=100, f107=120)
         agree()
+        station.set_position(5400, 4.5, 33)
+        record = dataclasses.replace(record, sec=5400, lst=4.5, g_long=33)
+        agree()
         switches = row_with(e7=0, e16=2)
         station.set_switches(switches)
         agree()
+        for moved in ((math.nan, 1, 1), (1, 49, 1), (1, 1, 1001)):
+            self.assertRaises(Refusal, station.set_position, *moved)
         for refused in (lambda: station.set_lst(math.nan), lambda: station.set_sec(86401), lambda: station.set_switches(row_with(e9=-1))):
             self.assertRaises(Refusal, refused)
         agree()

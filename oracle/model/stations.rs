@@ -4,7 +4,7 @@ use super::host::{station, station_change, station_gtd7, station_gtd7d, station_
 use super::{altitude, judged, numbers, ours_column, record, row_of, same, sample, spoiled, timed, unmixed, Input, Random, GTD7, GTD7D};
 use std::hint::black_box;
 use std::time::Instant;
-use Change::{Fluxes, Long, Lst, Sec};
+use Change::{Fluxes, Long, Lst, Move, Sec};
 
 // ---- memory to lend
 
@@ -153,10 +153,11 @@ fn value(g: &mut Random, lo: f64, hi: f64) -> f64 {
 }
 
 fn any_change(g: &mut Random) -> Change {
-    match g.below(4) {
+    match g.below(6) {
         0 => Sec(value(g, 0.0, 86400.0)),
         1 => Lst(value(g, -24.0, 48.0)),
         2 => Long(value(g, -1000.0, 1000.0)),
+        3 | 4 => Move(value(g, 0.0, 86400.0), value(g, -24.0, 48.0), value(g, -1000.0, 1000.0)),
         _ => Fluxes(value(g, 0.0, 1000.0), value(g, 0.0, 1000.0)),
     }
 }
@@ -167,6 +168,7 @@ fn changed(r: &Input, change: Change) -> Input {
         Lst(lst) => Input { lst, ..*r },
         Long(g_long) => Input { g_long, ..*r },
         Fluxes(f107a, f107) => Input { f107a, f107, ..*r },
+        Move(sec, lst, g_long) => Input { sec, lst, g_long, ..*r },
     }
 }
 
@@ -240,7 +242,9 @@ struct Figures {
     nan: u64,
     ten: u64,
     changes: u64,
+    moves: u64,
     changes_refused: u64,
+    moves_refused: u64,
     switched: u64,
     outer: u64,
     not_switched: u64,
@@ -342,10 +346,12 @@ impl History {
         let want = misfit.unwrap_or(judged_anywhere(&r, &self.row));
         let good = if want == (0, 0) {
             f.changes += 1;
+            f.moves += matches!(change, Move(..)) as u64;
             self.record = r;
             self.memory.station_guards_kept(&before) && self.as_prepared(g)
         } else {
             f.changes_refused += 1;
+            f.moves_refused += matches!(change, Move(..)) as u64;
             self.memory.station_kept(&before)
         };
         f.note(have == want && good && self.memory.row_kept(&before), &format!("{change:?}"), have, want, &r, &self.row);
@@ -397,10 +403,10 @@ pub fn stations(g: &mut Random, count: u64) -> u64 {
             }
         }
     }
-    let Figures { histories, prepared, not_prepared, altitudes, rows, drag, nan, ten, changes, changes_refused, switched, outer, not_switched, misfits, bad } = f;
+    let Figures { histories, prepared, not_prepared, altitudes, rows, drag, nan, ten, changes, moves, changes_refused, moves_refused, switched, outer, not_switched, misfits, bad } = f;
     println!(
         "stations: {histories} histories, {prepared} prepared, {not_prepared} refused; {altitudes} altitudes, {rows} accepted ({drag} of gtd7d, {nan} with a NaN), {} refused ({ten} with 10); \
-         {changes} changes accepted, {changes_refused} refused; {switched} new rows accepted ({outer} other in entries 0 and 15 to 23 at most), {not_switched} refused with 1; {misfits} refusals for a slice's length; {bad} differences",
+         {changes} changes accepted ({moves} moves), {changes_refused} refused ({moves_refused} moves); {switched} new rows accepted ({outer} other in entries 0 and 15 to 23 at most), {not_switched} refused with 1; {misfits} refusals for a slice's length; {bad} differences",
         altitudes - rows
     );
     bad
@@ -592,11 +598,12 @@ fn time_changes(nine: i32) {
     println!("ns of a station's other calls, switch 9 at {nine} (ours, ratio to preparing):");
     let [preparing] = best(15, records.len(), [&mut || stations.iter_mut().zip(&records).map(|(s, r)| prepare(s, r, &w)).sum()]);
     println!("  preparing: {preparing:8.0}  1.00");
-    let changes: [(&str, fn(&mut Random) -> Change); 4] = [
+    let changes: [(&str, fn(&mut Random) -> Change); 5] = [
         ("sec", |g| Sec(g.between(0.0, 86400.0))),
         ("lst", |g| Lst(g.between(0.0, 24.0))),
         ("g_long", |g| Long(g.between(-180.0, 180.0))),
         ("fluxes", |g| Fluxes(g.between(70.0, 250.0), g.between(70.0, 250.0))),
+        ("move", |g| Move(g.between(0.0, 86400.0), g.between(0.0, 24.0), g.between(-180.0, 180.0))),
     ];
     for (name, any) in changes {
         let mut g = Random(8);

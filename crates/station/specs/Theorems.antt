@@ -32,7 +32,7 @@ use Rattle.stored_parts.specs.Held.{all-hold}
 use Rattle.stored.specs.Eleven.{stored-eleven}
 use Rattle.shutoff.specs.Shut.{Alike}
 use Rattle.shutoff.specs.Theorems.{judged-first, known, row-written, alike-at, eleven≡}
-use Rattle.station_record.specs.Record.{markOf, historyIn, stationWhole, recordNumbers, recordIn, stationAnswer, altitudeAnswer, withSecOf, withLstOf, withLongOf, withFluxesOf, Change, toSec, toLst, toLong, toFluxes, changeOf, changeAnswer, switchesAnswer}
+use Rattle.station_record.specs.Record.{markOf, historyIn, stationWhole, recordNumbers, recordIn, stationAnswer, altitudeAnswer, withSecOf, withLstOf, withLongOf, withFluxesOf, Change, toSec, toLst, toLong, toFluxes, toMove, changeOf, changeAnswer, switchesAnswer}
 use Rattle.station_values.specs.StationValues.{siteUnder}
 use Rattle.station.specs.Station.{heldOf, stationNumbers, wholeAfter, stationNumbersAfter, altitudeRow, changedNumbers, switchedWhole, switchedNumbers}
 use Rattle.station.specs.Renewed.{record-fourteen, numbers-long, numbers-front, renewed-told}
@@ -114,6 +114,7 @@ whole-kept w n (toSec y) = refl
 whole-kept w n (toLst y) = refl
 whole-kept w n (toLong y) = refl
 whole-kept w n (toFluxes a f) = refl
+whole-kept w n (toMove s l g) = refl
 
 array-kept : (n : Input) (c : Change) → (changeOf c n) .«ap_array» ≡ n .«ap_array»
 unfolding withSecOf withLstOf withLongOf withFluxesOf
@@ -121,6 +122,7 @@ array-kept n (toSec y) = refl
 array-kept n (toLst y) = refl
 array-kept n (toLong y) = refl
 array-kept n (toFluxes a f) = refl
+array-kept n (toMove s l g) = refl
 
 zero-kept : (n : Input) (c : Change) → withAltOf (changeOf c n) 0·0 ≡ changeOf c (withAltOf n 0·0)
 unfolding withAltOf withSecOf withLstOf withLongOf withFluxesOf
@@ -128,6 +130,7 @@ zero-kept n (toSec y) = refl
 zero-kept n (toLst y) = refl
 zero-kept n (toLong y) = refl
 zero-kept n (toFluxes a f) = refl
+zero-kept n (toMove s l g) = refl
 
 accepted-is : (a : Answer) → acceptedOf a ≡ true → a ≡ Accepted
 accepted-is Accepted e = refl

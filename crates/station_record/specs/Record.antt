@@ -83,7 +83,7 @@ altitudeAnswer len whole count alt =
     (cond (not (withinOf 0·0 2500·0 alt)) (Refused 3 3)
     (cond (unmixedOf (isOne (getD whole 18 (pos 0))) alt) (Refused 10 3) Accepted))))))
 
--- ---- changes of sec, of lst, of g_long, of the fluxes
+-- ---- changes of sec, of lst, of g_long, of the fluxes, and the move, of sec, lst and g_long together
 
 unfoldable pub withSecOf : Input → Float → Input
 withSecOf n y = record { year = n .year; doy = n .doy; sec = y; alt = n .alt; «g_lat» = n .«g_lat»; «g_long» = n .«g_long»; lst = n .lst; f107a = n .f107a; f107 = n .f107; ap = n .ap; history = n .history; «ap_array» = n .«ap_array» }
@@ -102,12 +102,14 @@ pub data Change : Type 0 where
   toLst : Float → Change
   toLong : Float → Change
   toFluxes : Float → Float → Change
+  toMove : Float → Float → Float → Change
 
 abbrev pub changeOf : Change → Input → Input
 changeOf (toSec y) n = withSecOf n y
 changeOf (toLst y) n = withLstOf n y
 changeOf (toLong y) n = withLongOf n y
 changeOf (toFluxes a f) n = withFluxesOf n a f
+changeOf (toMove s l g) n = withLongOf (withLstOf (withSecOf n s) l) g
 
 -- 4 for the slices, then what the changed record meets
 unfoldable pub changeAnswer : Change → List ℤ → List Float → Answer

@@ -5,7 +5,7 @@ ghost use lib.IntN.{pos};
 ghost use lib.ListN.{length, drop, getD};
 ghost use Rattle.acceptance.specs.Acceptance.{dayWithin, judgedOf};
 ghost use Rattle.setting.specs.Switches.{isOne, onOff};
-ghost use Rattle.station_record.specs.Record.{markOf, historyIn, stationWhole, recordNumbers, recordIn, unitsIn, mixingIn, withSecOf, withLstOf, withLongOf, withFluxesOf, toSec, toLst, toLong, toFluxes, changeOf, stationAnswer, altitudeAnswer, rowTaken};
+ghost use Rattle.station_record.specs.Record.{markOf, historyIn, stationWhole, recordNumbers, recordIn, unitsIn, mixingIn, withSecOf, withLstOf, withLongOf, withFluxesOf, toSec, toLst, toLong, toFluxes, toMove, changeOf, stationAnswer, altitudeAnswer, rowTaken};
 use acceptance::Answer;
 use acceptance::accepted;
 use acceptance::judge;
@@ -258,6 +258,16 @@ pub fn to_fluxes(whole: &[i32], numbers: &[f64], f107a: f64, f107: f64) -> Input
 {
     let n = record_in(whole, numbers);
     with_fluxes(n, f107a, f107)
+}
+
+pub fn to_move(whole: &[i32], numbers: &[f64], sec: f64, lst: f64, g_long: f64) -> Input
+    requires { ⌜ (length (now whole) ≡ 27) × (length (now numbers) ≡ 259) ⌝ }
+    ensures { λ r. ⌜ r ≡ changeOf (toMove sec lst «g_long») (recordIn (now (whole .entry)) (now (numbers .entry))) ⌝ }
+{
+    let n = record_in(whole, numbers);
+    let timed = with_sec(n, sec);
+    let local = with_lst(timed, lst);
+    with_g_long(local, g_long)
 }
 
 // ---- what the calls meet
