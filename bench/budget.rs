@@ -111,11 +111,12 @@ enum Turn {
 }
 use Turn::{Entry, Field};
 
-const TURNS: [(&str, Turn); 6] = [
+const TURNS: [(&str, Turn); 7] = [
     ("sec", Field(Change::Sec(12345.0))),
     ("lst", Field(Change::Lst(3.5))),
     ("g_long", Field(Change::Long(-12.5))),
     ("fluxes", Field(Change::Fluxes(120.0, 130.0))),
+    ("move", Field(Change::Move(12345.0, 3.5, -12.5))),
     ("row, entry 16", Entry(16)),
     ("row, entry 14", Entry(14)),
 ];
@@ -268,7 +269,7 @@ fn median_and_largest(mut xs: Vec<u64>) -> (u64, u64) {
 }
 
 // A station's calls but its altitude.
-const NAMES: [&str; 7] = ["preparing", TURNS[0].0, TURNS[1].0, TURNS[2].0, TURNS[3].0, TURNS[4].0, TURNS[5].0];
+const NAMES: [&str; 8] = ["preparing", TURNS[0].0, TURNS[1].0, TURNS[2].0, TURNS[3].0, TURNS[4].0, TURNS[5].0, TURNS[6].0];
 
 fn table(records: usize, path: &str) {
     let nothing = written(path, 1).instructions;
@@ -419,8 +420,8 @@ hold!(hold_turn, h, c, let _ = h.station.turn(c, h.turn));
 fn stack(records: usize) {
     println!("Bytes of stack that a call reaches, the most over all these records, with the frame of the function that makes the call:\n");
     println!("| call | bytes |\n|---|---|");
-    let [sec, lst, g_long, fluxes, outer, inner] = TURNS.map(|(_, turn)| turn);
-    let calls: [(&str, extern "C" fn(*mut u8), Turn); 12] = [
+    let [sec, lst, g_long, fluxes, moved, outer, inner] = TURNS.map(|(_, turn)| turn);
+    let calls: [(&str, extern "C" fn(*mut u8), Turn); 13] = [
         ("ours, one altitude", hold_ours, sec),
         ("ours, column", hold_column, sec),
         ("ours, crossings", hold_crossings, sec),
@@ -430,6 +431,7 @@ fn stack(records: usize) {
         ("a station's lst", hold_turn, lst),
         ("a station's g_long", hold_turn, g_long),
         ("a station's fluxes", hold_turn, fluxes),
+        ("a station's move", hold_turn, moved),
         ("a station's row, entry 16", hold_turn, outer),
         ("a station's row, entry 14", hold_turn, inner),
         ("untouched Rust, one altitude", hold_rust, sec),

@@ -1,8 +1,7 @@
 /* Draws a descent with its flap settings: altitude down, orbits to the right, each mark the setting flown there. All switches are on. */
-#include <inttypes.h>
 #include <stdio.h>
 
-#include "potirehu.h"
+#include "potirehu_struct.h"
 
 #define ORBITS 10000
 #define WIDE 100
@@ -27,27 +26,26 @@ static void draw(int64_t start, int64_t taken) {
 }
 
 int main(void) {
-    /* sec, alt (not looked at), g_lat, g_long, lst, f107a, f107, ap */
-    const double fields[8] = {29000.0, 0.0, 60.0, -70.0, 16.0, 150.0, 150.0, 4.0};
+    const struct potirehu_record record = {
+        .doy = 172, .sec = 29000.0, .g_lat = 60.0, .g_long = -70.0, .lst = 16.0, .f107a = 150.0, .f107 = 150.0, .ap = 4.0};
     const char *const endings[] = {"", "no density", "reached", "spent"};
-    int32_t switches[24];
-    for (int i = 0; i < 24; i++) switches[i] = 1;
-    int64_t end[3];
+    const struct potirehu_switches switches = potirehu_all_on();
+    struct potirehu_end end;
 
     /* flaps in, half out, in again, and out for good */
     for (int i = 0; i < ORBITS; i++) settings[i] = i < 1500 ? 1 : i < 2500 ? 3 : i < 4000 ? 1 : 4;
     const int64_t start = 300000000;
-    uint64_t code = potirehu_descent(2026, 172, fields, 8, NULL, 0, switches, 24, start, settings, ORBITS, losses, ORBITS, end, 3);
-    if (code) {
-        printf("refused %" PRIu64 " %" PRIu64 "\n", code >> 32, code & 0xffffffff);
+    struct potirehu_answer answer = potirehu_struct_descent(&record, &switches, start, settings, ORBITS, losses, ORBITS, &end);
+    if (answer.number) {
+        printf("refused %lu %lu\n", answer.number, answer.place);
         return 1;
     }
-    draw(start, end[2]);
-    printf("%s after %" PRId64 " orbits at %.3f km\n", endings[end[0]], end[2], (double)end[1] / 1e6);
+    draw(start, end.taken);
+    printf("%s after %ld orbits at %.3f km\n", endings[end.ending], (long)end.taken, (double)end.altitude / 1e6);
 
     /* a setting that no flap has */
     settings[2] = 5;
-    code = potirehu_descent(2026, 172, fields, 8, NULL, 0, switches, 24, start, settings, ORBITS, losses, ORBITS, end, 3);
-    printf("setting 5 on the third orbit: refused %" PRIu64 " %" PRIu64 "\n", code >> 32, code & 0xffffffff);
+    answer = potirehu_struct_descent(&record, &switches, start, settings, ORBITS, losses, ORBITS, &end);
+    printf("setting 5 on the third orbit: refused %lu %lu\n", answer.number, answer.place);
     return 0;
 }

@@ -1,37 +1,39 @@
 /* Two boards' logs held against each other: board 2 starts a second later, skips one entry and has one density of its own. Each board logs its second
    count and the bits of the mass density of the first published sample, one altitude after another. */
-#include <inttypes.h>
 #include <stdio.h>
 #include <string.h>
 
-#include "potirehu.h"
+#include "potirehu_struct.h"
 
 int main(void) {
     static const char *words[] = {"", "pair, same bits", "pair, other bits", "single of board 1", "single of board 2"};
-    int32_t switches[24];
-    for (int i = 0; i < 24; i++) switches[i] = 1;
-    uint64_t seconds[2][8], bits[2][8], n[2] = {0, 0};
-    for (int i = 0; i < 6; i++) {
-        /* sec, alt, g_lat, g_long, lst, f107a, f107, ap */
-        double fields[8] = {29000.0, 400.0 - i, 60.0, -70.0, 16.0, 150.0, 150.0, 4.0}, row[11];
-        uint64_t code = potirehu_gtd7(2026, 172, fields, 8, NULL, 0, switches, 24, row, 11);
-        if (code) {
-            printf("refused %" PRIu64 " %" PRIu64 "\n", code >> 32, code & 0xffffffff);
+    struct potirehu_record record = {
+        .doy = 172, .sec = 29000.0, .g_lat = 60.0, .g_long = -70.0, .lst = 16.0, .f107a = 150.0, .f107 = 150.0, .ap = 4.0};
+    const struct potirehu_switches switches = potirehu_all_on();
+    uint64_t seconds[2][8], bits[2][8];
+    size_t n[2] = {0, 0};
+    for (unsigned i = 0; i < 6; i++) {
+        struct potirehu_row row;
+        record.alt = 400.0 - i;
+        struct potirehu_answer answer = potirehu_struct_gtd7(&record, &switches, &row);
+        if (answer.number) {
+            printf("refused %lu %lu\n", answer.number, answer.place);
             return 1;
         }
-        for (int board = 0; board < 2; board++) {
+        for (unsigned board = 0; board < 2; board++) {
             if (board == 1 && i == 2) continue; /* skipped */
-            if (board == 1 && i == 4) row[5] *= 1.5;
+            if (board == 1 && i == 4) row.density *= 1.5;
             seconds[board][n[board]] = 1000 + 60 * i + board;
-            memcpy(&bits[board][n[board]++], &row[5], 8);
+            memcpy(&bits[board][n[board]++], &row.density, sizeof row.density);
         }
     }
-    uint32_t report[512];
-    uint64_t count = potirehu_logs(seconds[0], n[0], bits[0], n[0], seconds[1], n[1], bits[1], n[1], 2, report, 512);
-    if (count >> 32) {
-        printf("refused %" PRIu64 " %" PRIu64 "\n", count >> 32, count & 0xffffffff);
+    const struct potirehu_log board_1 = {seconds[0], bits[0], n[0]}, board_2 = {seconds[1], bits[1], n[1]};
+    struct potirehu_report report;
+    struct potirehu_count_answer held = potirehu_struct_logs(&board_1, &board_2, 2, &report);
+    if (held.number) {
+        printf("refused %lu %lu\n", held.number, held.place);
         return 1;
     }
-    for (uint64_t i = 0; i < count; i++) printf("%" PRIu64 " %s\n", i + 1, words[report[i]]);
+    for (size_t i = 0; i < held.count; i++) printf("%u %s\n", (unsigned)i + 1, words[report.finding[i]]);
     return 0;
 }

@@ -65,6 +65,7 @@ extern "C" {
     fn potirehu_station_lst(whole: *const i32, n_whole: usize, numbers: *mut f64, n_numbers: usize, lst: f64) -> u64;
     fn potirehu_station_g_long(whole: *const i32, n_whole: usize, numbers: *mut f64, n_numbers: usize, g_long: f64) -> u64;
     #[allow(dead_code)]
+    fn potirehu_station_move(whole: *const i32, n_whole: u64, numbers: *mut f64, n_numbers: u64, sec: f64, lst: f64, g_long: f64) -> u64;
     fn potirehu_station_switches(whole: *mut i32, n_whole: usize, numbers: *mut f64, n_numbers: usize, switches: *const i32, n_switches: usize) -> u64;
     #[allow(dead_code)]
     fn potirehu_counts(switches: *const i32, n_switches: usize, fields: *mut i32, n_fields: usize) -> u64;
@@ -180,6 +181,7 @@ pub enum Change {
     Lst(f64),
     Long(f64),
     Fluxes(f64, f64),
+    Move(f64, f64, f64),
 }
 
 pub fn station_change(whole: &[i32], numbers: &mut [f64], change: Change) -> (u64, u64) {
@@ -190,6 +192,7 @@ pub fn station_change(whole: &[i32], numbers: &mut [f64], change: Change) -> (u6
             Change::Lst(x) => potirehu_station_lst(w, n_w, n, n_n, x),
             Change::Long(x) => potirehu_station_g_long(w, n_w, n, n_n, x),
             Change::Fluxes(a, b) => potirehu_station_fluxes(w, n_w, n, n_n, a, b),
+            Change::Move(sec, lst, long) => potirehu_station_move(w, n_w as u64, n, n_n as u64, sec, lst, long),
         }
     })
 }

@@ -202,7 +202,7 @@ class Refusal(ValueError):
 
 _CALLS = (
     "gtd7", "gtd7d", "gtd7_with", "gtd7_known", "counts", "gtd7_column", "crossings", "first_below", "station", "station_gtd7", "station_gtd7d", "station_sec", "station_lst", "station_g_long",
-    "station_fluxes", "station_switches", "bands", "bands_gtd7", "descent", "logs",
+    "station_fluxes", "station_move", "station_switches", "bands", "bands_gtd7", "descent", "logs",
 )
 _NOWHERE = 2**32 - 1
 
@@ -237,8 +237,15 @@ def _call(name, *arguments):
 
 # ---- numbers and sequences to C and back
 
-def _floats(values):
-    values = [float(v) for v in values]
+def _float(value, what):
+    # float would read a text; the calls that hand a number to ctypes do not, and neither does this
+    if isinstance(value, (str, bytes, bytearray)):
+        raise TypeError(f"{what} must be a number, not {type(value).__name__}")
+    return float(value)
+
+
+def _floats(values, what):
+    values = [_float(v, f"{what}[{i}]") for i, v in enumerate(values)]
     return (ctypes.c_double * len(values))(*values)
 
 
@@ -272,7 +279,9 @@ def _counts(values, what):
 
 def _bits(values, what):
     # a whole number is the bits themselves
-    return _counts([v if hasattr(v, "__index__") else struct.unpack("=Q", struct.pack("=d", v))[0] for v in values], what)
+    return _counts(
+        [v if hasattr(v, "__index__") else struct.unpack("=Q", struct.pack("=d", _float(v, f"{what}[{i}]")))[0] for i, v in enumerate(values)], what
+    )
 
 
 def _record(record, fields, alt_looked_at=True):
@@ -282,9 +291,9 @@ def _record(record, fields, alt_looked_at=True):
         record = Record(**fields)
     elif fields:
         record = dataclasses.replace(record, **fields)
-    eight = (record.sec, record.alt, record.g_lat, record.g_long, record.lst, record.f107a, record.f107, record.ap)
+    eight = (ctypes.c_double * 8)(*(_float(getattr(record, name), name) for name in _FIELDS[2:]))
     history = () if record.ap_array is None else record.ap_array
-    return ctypes.c_int32(_nearest(record.year, 32)), ctypes.c_int32(_nearest(record.doy, 32)), _floats(eight), _floats(history)
+    return ctypes.c_int32(_nearest(record.year, 32)), ctypes.c_int32(_nearest(record.doy, 32)), eight, _floats(history, "ap_array")
 
 
 def _known(names, fields):
@@ -335,13 +344,13 @@ def gtd7d(record=None, switches=ON, **fields):
 def gtd7_with(nine, record=None, switches=ON, **fields):
     """gtd7 with nine constants of the caller's, as PRESENT._replace(rgas=840.0) or any nine numbers in that order."""
     row = _room(11)
-    _call("gtd7_with", _floats(nine), *_record(record, fields), _switches(switches), row)
+    _call("gtd7_with", _floats(nine, "nine"), *_record(record, fields), _switches(switches), row)
     return Row(*row)
 
 
 def column(altitudes, record=None, switches=ON, **fields):
     """A Row for each of up to 512 altitudes (km); the record's own altitude is not looked at. From a numpy array an array of n times 11."""
-    kilometres = _floats(altitudes)
+    kilometres = _floats(altitudes, "altitudes")
     rows = _room(11 * len(kilometres))
     _call("gtd7_column", *_record(record, fields, False), _switches(switches), kilometres, rows)
     return _out([Row(*rows[i : i + 11]) for i in range(0, len(rows), 11)], altitudes, 11)
@@ -349,7 +358,7 @@ def column(altitudes, record=None, switches=ON, **fields):
 
 def crossings(altitudes, level, record=None, switches=ON, **fields):
     """Where the mass density passes a level: the index of the lower altitude of each such pair of neighbours. The altitudes (km), up to 512, must rise."""
-    kilometres = _floats(altitudes)
+    kilometres = _floats(altitudes, "altitudes")
     found = _room(len(kilometres), ctypes.c_uint64)
     count = _call("crossings", *_record(record, fields, False), _switches(switches), kilometres, ctypes.c_double(level), found)
     return _out(list(found[:count]), altitudes)
@@ -358,7 +367,7 @@ def crossings(altitudes, level, record=None, switches=ON, **fields):
 def first_below(altitudes, level, record=None, switches=ON, **fields):
     """The first of up to 512 altitudes (km) whose mass density is below a level, as index and Row; None where there is none. None behind it is worked out."""
     row = _room(11)
-    index = _call("first_below", *_record(record, fields, False), _switches(switches), _floats(altitudes), ctypes.c_double(level), row)
+    index = _call("first_below", *_record(record, fields, False), _switches(switches), _floats(altitudes, "altitudes"), ctypes.c_double(level), row)
     return None if index == _NOWHERE else (index, Row(*row))
 
 
@@ -424,6 +433,10 @@ class Station:
         """Changes both fluxes."""
         self._ask("station_fluxes", ctypes.c_double(f107a), ctypes.c_double(f107))
 
+    def set_position(self, sec, lst, g_long):
+        """Moves it: seconds of the day, local time and longitude in one change; refused, all three stay."""
+        self._ask("station_move", ctypes.c_double(sec), ctypes.c_double(lst), ctypes.c_double(g_long))
+
     def set_switches(self, switches):
         """Gives it a new switch row."""
         self._ask("station_switches", _switches(switches))
@@ -439,7 +452,8 @@ class Bands:
     """A table of switch rows by height, read from a text of lines (band FROM TO (switches ..)) in whole metres, as examples/bands.txt."""
 
     def __init__(self, text):
-        text = text.encode("utf-8", "replace") if isinstance(text, str) else bytes(text)
+        # bytes(5) would be five NULs: only a text, or what lies in memory as bytes, is one
+        text = text.encode("utf-8", "replace") if isinstance(text, str) else bytes(memoryview(text))
         self._table = _room(1601, ctypes.c_int32)
         _call("bands", (ctypes.c_uint8 * len(text)).from_buffer_copy(text), self._table)
 

@@ -242,9 +242,14 @@ class Stations(unittest.TestCase):
         station.set_fluxes(100, 120)
         record = dataclasses.replace(FIRST, sec=1000, lst=3.5, g_long=20, f107a=100, f107=120)
         agree()
+        station.set_position(5400, 4.5, 33)
+        record = dataclasses.replace(record, sec=5400, lst=4.5, g_long=33)
+        agree()
         switches = row_with(e7=0, e16=2)
         station.set_switches(switches)
         agree()
+        for moved in ((math.nan, 1, 1), (1, 49, 1), (1, 1, 1001)):
+            self.assertRaises(Refusal, station.set_position, *moved)
         for refused in (lambda: station.set_lst(math.nan), lambda: station.set_sec(86401), lambda: station.set_switches(row_with(e9=-1))):
             self.assertRaises(Refusal, refused)
         agree()
@@ -337,7 +342,7 @@ class Refusals(unittest.TestCase):
 
     def test_9_no_room(self):
         # crossings lends as much room as any list needs, so the call itself is made
-        arguments = (*potirehu._record(FIRST, {}), potirehu._switches(ON), potirehu._floats([100, 400]), ctypes.c_double(1e-10))
+        arguments = (*potirehu._record(FIRST, {}), potirehu._switches(ON), potirehu._floats([100, 400], "altitudes"), ctypes.c_double(1e-10))
         self.refused(9, 1, "1 entries", potirehu._call, "crossings", *arguments, potirehu._room(0, ctypes.c_uint64))
 
     def test_10_not_mixed(self):
@@ -377,6 +382,41 @@ class Refusals(unittest.TestCase):
         self.assertRaises(OverflowError, potirehu.gtd7, FIRST, row_with(e9=2**32 + 1))
         self.assertRaises(OverflowError, potirehu.compare_logs, [-1], [0.0], [], [], 0)
         self.assertRaises(OverflowError, potirehu.compare_logs, [], [], [], [], 2**64)
+
+    def test_a_text_is_no_number(self):
+        for field in ("sec", "alt", "g_lat", "g_long", "lst", "f107a", "f107", "ap"):
+            for text in ("4", b"4", ""):
+                with self.assertRaisesRegex(TypeError, f"^{field} must be a number, not "):
+                    potirehu.gtd7(FIRST, **{field: text})
+        station, bands = Station(FIRST), Bands("(band 0 2500001 (switches" + " 1" * 24 + "))")
+        for call in (
+            lambda: potirehu.gtd7(FIRST, doy="172"),
+            lambda: potirehu.gtd7(FIRST, ap_array="1234567"),
+            lambda: potirehu.gtd7(FIRST, "1" * 24),
+            lambda: potirehu.gtd7_with("831428952", FIRST),
+            lambda: potirehu.column("400", FIRST),
+            lambda: potirehu.column(["400"], FIRST),
+            lambda: potirehu.crossings([100, 200], "1e-10", FIRST),
+            lambda: potirehu.first_below(["100"], 1e-10, FIRST),
+            lambda: potirehu.descent("300000000", [1], FIRST),
+            lambda: potirehu.descent(300000000, "1", FIRST),
+            lambda: potirehu.compare_logs([1], "x", [], [], 0),
+            lambda: potirehu.compare_logs([1], ["1.0"], [], [], 0),
+            lambda: potirehu.compare_logs(["1"], [1.0], [], [], 0),
+            lambda: potirehu.compare_logs([], [], [], [], "0"),
+            lambda: station.gtd7("400"),
+            lambda: station.set_sec("5"),
+            lambda: station.set_fluxes("150", 150),
+            lambda: bands.gtd7("400000", FIRST),
+        ):
+            self.assertRaises(TypeError, call)
+
+    def test_a_number_is_no_text_of_bands(self):
+        for number in (0, 5, 2**62, 1.5, None, [40, 41]):
+            self.assertRaises(TypeError, Bands, number)
+        text = ("(band 0 2500001 (switches" + " 1" * 24 + "))").encode()
+        for same in (bytearray(text), memoryview(text)):
+            self.assertEqual(Bands(same).gtd7(400000, FIRST), Bands(text).gtd7(400000, FIRST))
 
     def test_a_refusal_can_be_stored(self):
         stored = pickle.loads(pickle.dumps(Refusal(3, 3)))

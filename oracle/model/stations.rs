@@ -4,7 +4,7 @@ use super::host::{station, station_change, station_gtd7, station_gtd7d, station_
 use super::{altitude, judged, numbers, ours_column, record, row_of, same, sample, spoiled, timed, unmixed, Input, Random, GTD7, GTD7D};
 use std::hint::black_box;
 use std::time::Instant;
-use Change::{Fluxes, Long, Lst, Sec};
+use Change::{Fluxes, Long, Lst, Move, Sec};
 
 // ---- memory to lend
 
@@ -153,10 +153,11 @@ fn value(g: &mut Random, lo: f64, hi: f64) -> f64 {
 }
 
 fn any_change(g: &mut Random) -> Change {
-    match g.below(4) {
+    match g.below(6) {
         0 => Sec(value(g, 0.0, 86400.0)),
         1 => Lst(value(g, -24.0, 48.0)),
         2 => Long(value(g, -1000.0, 1000.0)),
+        3 | 4 => Move(value(g, 0.0, 86400.0), value(g, -24.0, 48.0), value(g, -1000.0, 1000.0)),
         _ => Fluxes(value(g, 0.0, 1000.0), value(g, 0.0, 1000.0)),
     }
 }
@@ -167,6 +168,7 @@ fn changed(r: &Input, change: Change) -> Input {
         Lst(lst) => Input { lst, ..*r },
         Long(g_long) => Input { g_long, ..*r },
         Fluxes(f107a, f107) => Input { f107a, f107, ..*r },
+        Move(sec, lst, g_long) => Input { sec, lst, g_long, ..*r },
     }
 }
 
@@ -194,9 +196,12 @@ fn judged_anywhere(r: &Input, w: &[i32; 24]) -> (u64, u64) {
     judged(&Input { alt: 0.0, ..*r }, w)
 }
 
-fn judged_altitude(alt: f64, w: &[i32; 24]) -> (u64, u64) {
+// How an altitude is judged of a station that holds this doy, any number where its calls did not give it.
+fn judged_altitude(alt: f64, doy: i32, w: &[i32; 24]) -> (u64, u64) {
     if !alt.is_finite() {
         (2, 3)
+    } else if !(1..=366).contains(&doy) {
+        (3, 1)
     } else if !(0.0..=2500.0).contains(&alt) {
         (3, 3)
     } else if unmixed(alt, w) {
@@ -237,7 +242,9 @@ struct Figures {
     nan: u64,
     ten: u64,
     changes: u64,
+    moves: u64,
     changes_refused: u64,
+    moves_refused: u64,
     switched: u64,
     outer: u64,
     not_switched: u64,
@@ -313,7 +320,7 @@ impl History {
         let misfit = n.altitude_refused();
         f.misfits += misfit.is_some() as u64;
         f.altitudes += 1;
-        let want = misfit.unwrap_or(judged_altitude(alt, &self.row));
+        let want = misfit.unwrap_or(judged_altitude(alt, self.record.doy, &self.row));
         f.ten += (want.0 == 10) as u64;
         let r = Input { alt, ..self.record };
         let good = if want == (0, 0) {
@@ -339,10 +346,12 @@ impl History {
         let want = misfit.unwrap_or(judged_anywhere(&r, &self.row));
         let good = if want == (0, 0) {
             f.changes += 1;
+            f.moves += matches!(change, Move(..)) as u64;
             self.record = r;
             self.memory.station_guards_kept(&before) && self.as_prepared(g)
         } else {
             f.changes_refused += 1;
+            f.moves_refused += matches!(change, Move(..)) as u64;
             self.memory.station_kept(&before)
         };
         f.note(have == want && good && self.memory.row_kept(&before), &format!("{change:?}"), have, want, &r, &self.row);
@@ -394,10 +403,10 @@ pub fn stations(g: &mut Random, count: u64) -> u64 {
             }
         }
     }
-    let Figures { histories, prepared, not_prepared, altitudes, rows, drag, nan, ten, changes, changes_refused, switched, outer, not_switched, misfits, bad } = f;
+    let Figures { histories, prepared, not_prepared, altitudes, rows, drag, nan, ten, changes, moves, changes_refused, moves_refused, switched, outer, not_switched, misfits, bad } = f;
     println!(
         "stations: {histories} histories, {prepared} prepared, {not_prepared} refused; {altitudes} altitudes, {rows} accepted ({drag} of gtd7d, {nan} with a NaN), {} refused ({ten} with 10); \
-         {changes} changes accepted, {changes_refused} refused; {switched} new rows accepted ({outer} other in entries 0 and 15 to 23 at most), {not_switched} refused with 1; {misfits} refusals for a slice's length; {bad} differences",
+         {changes} changes accepted ({moves} moves), {changes_refused} refused ({moves_refused} moves); {switched} new rows accepted ({outer} other in entries 0 and 15 to 23 at most), {not_switched} refused with 1; {misfits} refusals for a slice's length; {bad} differences",
         altitudes - rows
     );
     bad
@@ -416,11 +425,18 @@ fn content(g: &mut Random) -> f64 {
     }
 }
 
-// Any bits; numbers of any kind with small whole numbers; a station in which some numbers, all floats or all whole numbers were replaced.
+// Any bits; zeros, never prepared; numbers of any kind with small whole numbers; a station in which some numbers, all floats, all whole numbers or the doy
+// were replaced.
 fn contents(g: &mut Random) -> Memory {
     let mut m = Memory::any(g);
-    if g.below(4) == 0 {
-        return m;
+    match g.below(8) {
+        0 | 1 => return m,
+        2 => {
+            m.whole[GUARD..GUARD + WHOLE].fill(0);
+            m.numbers[GUARD..GUARD + NUMBERS].fill(0.0);
+            return m;
+        }
+        _ => {}
     }
     let kind = g.below(6);
     if kind > 0 {
@@ -442,23 +458,23 @@ fn contents(g: &mut Random) -> Memory {
                 let small = g.below(600) as i32 - 200;
                 m.whole[GUARD + g.below(WHOLE as u64) as usize] = if g.below(2) == 0 { g.next() as i32 } else { small };
             }
+            if g.below(4) == 0 {
+                m.whole[GUARD + 1] = [0, 1, 366, 367, -1, i32::MIN, i32::MAX][g.below(7) as usize];
+            }
         }
     }
     m
 }
 
-// A refusal that an altitude, or a change or new row, knows once the lengths fit, with a place of its own kind.
-fn known(asked: bool, answer: (u64, u64)) -> bool {
-    if asked {
-        matches!(answer, (2 | 3 | 10, 3))
-    } else {
-        matches!(answer, (1, 10) | (2, 2..=16) | (3, 1..=16))
-    }
+// A refusal that a change or new row knows once the lengths fit, with a place of its own kind.
+fn known(answer: (u64, u64)) -> bool {
+    matches!(answer, (1, 10) | (2, 2..=16) | (3, 1..=16))
 }
 
-// Stations of any contents: each call comes back with an answer that it may give, writes only what it lends out, and nothing where it refuses.
+// Stations of any contents: an altitude comes back with the answer that its doy and row ask for, any other call with one that it may give; each writes only
+// what it lends out, and nothing where it refuses.
 pub fn hostile(g: &mut Random, count: u64) -> u64 {
-    let (mut done, mut altitudes, mut rows, mut changes, mut switches, mut switched, mut bad) = (0u64, 0u64, 0u64, 0u64, 0u64, 0u64, 0u64);
+    let (mut done, mut altitudes, mut rows, mut no_day, mut changes, mut switches, mut switched, mut bad) = (0u64, 0u64, 0u64, 0u64, 0u64, 0u64, 0u64, 0u64);
     while done < count {
         let mut m = contents(g);
         for _ in 0..(1 + g.below(8)).min(count - done) {
@@ -467,10 +483,14 @@ pub fn hostile(g: &mut Random, count: u64) -> u64 {
             let before = m.clone();
             let asked = g.below(2) == 0;
             let switch = !asked && g.below(2) == 0;
+            let old = std::array::from_fn(|i| m.whole[GUARD + 3 + i]);
+            // what an altitude is answered; None where only its kind is known
+            let mut want = None;
             let (have, misfit) = if asked {
-                (m.ask(&n, any_altitude(g), g.below(3) == 0), n.altitude_refused())
+                let alt = any_altitude(g);
+                want = Some(judged_altitude(alt, m.whole[GUARD + 1], &old));
+                (m.ask(&n, alt, g.below(3) == 0), n.altitude_refused())
             } else if switch {
-                let old = std::array::from_fn(|i| m.whole[GUARD + 3 + i]);
                 let (w, n_switches) = (new_row(g, &old), length(g, 24));
                 (m.switch(&n, &[&w[..], &[1; GUARD]].concat()[..n_switches]), n.switch_refused(n_switches))
             } else {
@@ -479,10 +499,11 @@ pub fn hostile(g: &mut Random, count: u64) -> u64 {
             let accepted = have == (0, 0) && misfit.is_none();
             altitudes += asked as u64;
             rows += (asked && accepted) as u64;
+            no_day += (asked && have == (3, 1)) as u64;
             switches += switch as u64;
             switched += (switch && accepted) as u64;
             changes += (!asked && !switch && accepted) as u64;
-            let answered = misfit.map_or(accepted || known(asked, have), |refusal| have == refusal);
+            let answered = misfit.or(want).map_or(accepted || known(have), |answer| have == answer);
             let kept = match (asked, accepted) {
                 (true, true) => m.station_kept(&before) && m.row_guards_kept(&before),
                 (false, true) => m.station_guards_kept(&before) && m.row_kept(&before),
@@ -496,7 +517,7 @@ pub fn hostile(g: &mut Random, count: u64) -> u64 {
             }
         }
     }
-    println!("hostile stations: {done} calls, {altitudes} altitudes ({rows} accepted), {} changes ({changes} accepted), {switches} new rows ({switched} accepted), {bad} differences", done - altitudes - switches);
+    println!("hostile stations: {done} calls, {altitudes} altitudes ({rows} accepted, {no_day} refused with 3 at 1), {} changes ({changes} accepted), {switches} new rows ({switched} accepted), {bad} differences", done - altitudes - switches);
     bad
 }
 
@@ -577,11 +598,12 @@ fn time_changes(nine: i32) {
     println!("ns of a station's other calls, switch 9 at {nine} (ours, ratio to preparing):");
     let [preparing] = best(15, records.len(), [&mut || stations.iter_mut().zip(&records).map(|(s, r)| prepare(s, r, &w)).sum()]);
     println!("  preparing: {preparing:8.0}  1.00");
-    let changes: [(&str, fn(&mut Random) -> Change); 4] = [
+    let changes: [(&str, fn(&mut Random) -> Change); 5] = [
         ("sec", |g| Sec(g.between(0.0, 86400.0))),
         ("lst", |g| Lst(g.between(0.0, 24.0))),
         ("g_long", |g| Long(g.between(-180.0, 180.0))),
         ("fluxes", |g| Fluxes(g.between(70.0, 250.0), g.between(70.0, 250.0))),
+        ("move", |g| Move(g.between(0.0, 86400.0), g.between(0.0, 24.0), g.between(-180.0, 180.0))),
     ];
     for (name, any) in changes {
         let mut g = Random(8);

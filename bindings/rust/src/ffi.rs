@@ -63,6 +63,8 @@ extern "C" {
     pub fn potirehu_station_g_long(whole: *const i32, n_whole: usize, numbers: *mut f64, n_numbers: usize, g_long: f64) -> u64;
     pub fn potirehu_station_fluxes(
         whole: *const i32, n_whole: usize, numbers: *mut f64, n_numbers: usize, f107a: f64, f107: f64) -> u64;
+    pub fn potirehu_station_move(
+        whole: *const i32, n_whole: u64, numbers: *mut f64, n_numbers: u64, sec: f64, lst: f64, g_long: f64) -> u64;
     pub fn potirehu_station_switches(
         whole: *mut i32, n_whole: usize, numbers: *mut f64, n_numbers: usize, switches: *const i32, n_switches: usize) -> u64;
     pub fn potirehu_descent(

@@ -13,12 +13,11 @@ use crate::refusal::{accepted, Refusal};
 /// let mut station = Station::prepare(&input, &Flags::metric())?;
 /// assert_eq!(station.gtd7(400.0)?, gtd7(&input, &Flags::metric())?);
 ///
-/// station.set_sec(34400.0)?;
-/// station.set_lst(17.5)?;
+/// station.set_position(34400.0, 17.5, -70.0)?;
 /// let later = NrlmsiseInput { sec: 34400.0, lst: 17.5, ..input };
 /// assert_eq!(station.gtd7(400.0)?, gtd7(&later, &Flags::metric())?);
 ///
-/// let refusal = station.set_lst(f64::NAN).unwrap_err();
+/// let refusal = station.set_position(34400.0, f64::NAN, -70.0).unwrap_err();
 /// assert_eq!(refusal.to_string(), "lst is NaN or infinite (refusal 2 at 6)");
 /// # Ok::<(), potirehu::Refusal>(())
 /// ```
@@ -86,6 +85,15 @@ impl Station {
         // SAFETY: each pointer goes with the length of the array it is of; numbers is lent to us alone.
         let answer =
             unsafe { ffi::potirehu_station_fluxes(whole.as_ptr(), whole.len(), numbers.as_mut_ptr(), numbers.len(), f107a, f107) };
+        accepted(answer).map(|_| ())
+    }
+
+    /// Moves the station: sec, lst and g_long in one change; refused, all three stay. Each of the three changes above takes as long as this one.
+    pub fn set_position(&mut self, sec: f64, lst: f64, g_long: f64) -> Result<(), Refusal> {
+        let (whole, numbers) = (&self.whole, &mut self.numbers);
+        let (n_whole, n_numbers) = (whole.len() as u64, numbers.len() as u64);
+        // SAFETY: each pointer goes with the length of the array it is of; numbers is lent to us alone.
+        let answer = unsafe { ffi::potirehu_station_move(whole.as_ptr(), n_whole, numbers.as_mut_ptr(), n_numbers, sec, lst, g_long) };
         accepted(answer).map(|_| ())
     }
 

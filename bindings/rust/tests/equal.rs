@@ -40,6 +40,9 @@ fn changed_station_is_gtd7_on_the_changed_record() {
     (now.f107a, now.f107) = (90.0, 210.0);
     station.set_fluxes(now.f107a, now.f107).unwrap();
     same(&station, &now, &metric);
+    (now.sec, now.lst, now.g_long) = (5400.0, 2.5, 33.0);
+    station.set_position(now.sec, now.lst, now.g_long).unwrap();
+    same(&station, &now, &metric);
     station.set_switches(&history).unwrap();
     same(&station, &now, &history);
     station.set_switches(&restart).unwrap();

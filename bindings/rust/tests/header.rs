@@ -56,6 +56,27 @@ fn every_call_is_declared_as_the_header_has_it() {
     assert_eq!(count, ffi.matches("pub fn potirehu_").count());
 }
 
+// Each refusal has one name: `NoBand` is POTIREHU_NO_BAND, with the same number.
+#[test]
+fn every_kind_has_its_name_and_number_in_the_header() {
+    let header = header();
+    let (_, rest) = header.split_once("enum potirehu_number {").unwrap();
+    let (enumerators, _) = rest.split_once("};").unwrap();
+    let kinds = include_str!("../src/refusal.rs").split_once("pub enum Kind {").unwrap().1.split_once('}').unwrap().0;
+    let kinds: Vec<(&str, &str)> = kinds.lines().filter_map(|line| line.trim().strip_suffix(',')?.split_once(" = ")).collect();
+    for (name, number) in &kinds {
+        let mut upper = String::new();
+        for letter in name.chars() {
+            if letter.is_uppercase() {
+                upper.push('_');
+            }
+            upper.push(letter.to_ascii_uppercase());
+        }
+        assert!(enumerators.contains(&format!(" POTIREHU{upper} = {number}")), "the header lacks POTIREHU{upper} = {number}");
+    }
+    assert_eq!((kinds.len(), enumerators.matches(" POTIREHU_").count()), (19, 19));
+}
+
 #[test]
 fn every_length_is_the_headers() {
     for (macro_name, name) in [

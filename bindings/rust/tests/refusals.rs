@@ -284,6 +284,9 @@ fn refused_changes_leave_the_station() {
     refused(station.set_g_long(-1001.0), 3, 5, "g_long is out of range, -1000 to 1000");
     refused(station.set_fluxes(100.0, f64::INFINITY), 2, 8, "f107 is NaN or infinite");
     refused(station.set_fluxes(-1.0, 100.0), 3, 7, "f107a is out of range, 0 to 1000");
+    refused(station.set_position(86401.0, 49.0, 0.0), 3, 2, "sec is out of range, 0 to 86400");
+    refused(station.set_position(0.0, 49.0, 1001.0), 3, 5, "g_long is out of range, -1000 to 1000");
+    refused(station.set_position(0.0, f64::NAN, 0.0), 2, 6, "lst is NaN or infinite");
     refused(station.set_switches(&with(9, -1)), 1, 10, "switch 9 is -1, but there is no ap_array");
     refused(station.gtd7(2501.0), 3, 3, "alt is out of range, 0 to 2500 km");
     refused(station.gtd7d(f64::NAN), 2, 3, "alt is NaN or infinite");

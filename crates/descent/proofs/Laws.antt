@@ -5,20 +5,20 @@ use mathlib.Core.Bool.{Bool, true, false, not}
 use mathlib.Core.List.{List}
 use native.Mathlib.Omega.{arith}
 use borrow.Author.Tests.{eq-eqb}
-use lib.IntN.{ℤ}
-use lib.ListN.{length, replicate}
+use lib.IntN.{ℤ, pos}
+use lib.ListN.{length, replicate, getD}
 use lib.Ieee.{Float}
 use Rattle.numbers.specs.Arithmetic.{_‼_}
 use Rattle.numbers.specs.Literals.{0·0}
 use Rattle.setting.specs.declared.Input.{Input}
 use Rattle.acceptance.specs.declared.Answer.{Answer}
 use Rattle.acceptance.specs.declared.Answer.the-variants.{Accepted, Refused}
-use Rattle.acceptance.specs.Acceptance.{judgedOf, acceptedOf, withAltOf}
+use Rattle.acceptance.specs.Acceptance.{dayWithin, judgedOf, acceptedOf, withAltOf}
 use Rattle.atmosphere.specs.Atmosphere.{elevenOf}
 use Rattle.shutoff.specs.Theorems.{row-written}
 use Rattle.station_record.specs.Record.{stationWhole, stationAnswer, altitudeAnswer}
 use Rattle.station.specs.Station.{stationNumbers, wholeAfter, stationNumbersAfter, altitudeRow}
-use Rattle.station.specs.Theorems.{altitude-told, prepared-held}
+use Rattle.station.specs.Theorems.{altitude-told, prepared-held, day-held}
 use Rattle.descent_orbits.specs.declared.Orbit.{Orbit}
 use Rattle.descent_orbits.specs.declared.Ending.{Ending}
 use Rattle.descent_orbits.specs.declared.Descended.{Descended}
@@ -56,10 +56,10 @@ pub orbit-told : (d : ℕ → Float) (a : ℕ) (o : Orbit) (x : Float) (s z : �
 orbit-told d a o x s z e f g = e ∙ rw (f, g)
 
 -- an altitude of a descent is accepted
-taken : (whole : List ℤ) (xs : List Float) (a : ℕ) → length whole ≡ 27 → length xs ≡ 259 → lowestAltitude ≤ a → a ≤ highestAltitude
+taken : (whole : List ℤ) (xs : List Float) (a : ℕ) → length whole ≡ 27 → length xs ≡ 259 → dayWithin (getD whole 1 (pos 0)) ≡ true → lowestAltitude ≤ a → a ≤ highestAltitude
     → altitudeAnswer 11 whole (length xs) (kilometresOfMillimetres a) ≡ Accepted
 unfolding altitudeAnswer
-taken whole xs a e f l h = rw (eq-eqb _ _ e, eq-eqb _ _ f, km-finite a l h, km-within a l h, km-mixed a l h _)
+taken whole xs a e f d l h = rw (eq-eqb _ _ e, eq-eqb _ _ f, d, km-finite a l h, km-within a l h, km-mixed a l h _)
 
 module _ (w : List ℤ) (n : Input) (len : length w ≡ 24) (seven : length (n .«ap_array») ≡ 7) (acc : judgedOf w (withAltOf n 0·0) ≡ Accepted) where
   accepted-station : stationAnswer w n 27 259 ≡ Accepted
@@ -76,8 +76,10 @@ module _ (w : List ℤ) (n : Input) (len : length w ≡ 24) (seven : length (n .
   unfolding stationDensity densityAt
   station-density whole xs e f g h a l u =
       let m = withAltOf n 0·0 in
-      let t = altitude-told w m (kilometresOfMillimetres a) (replicate 11 0·0) (prepared-held w n len seven accepted-station) in
-      let k : altitudeAnswer 11 (stationWhole w m) (length (stationNumbers w m)) (kilometresOfMillimetres a) ≡ Accepted = rw (← e, ← f) (taken whole xs a g h l u) in
+      let held = prepared-held w n len seven accepted-station in
+      let t = altitude-told w m (kilometresOfMillimetres a) (replicate 11 0·0) held in
+      let d : dayWithin (getD whole 1 (pos 0)) ≡ true = rw e (day-held w m held) in
+      let k : altitudeAnswer 11 (stationWhole w m) (length (stationNumbers w m)) (kilometresOfMillimetres a) ≡ Accepted = rw (← e, ← f) (taken whole xs a g h d l u) in
       let r : altitudeRow (stationWhole w m) (stationNumbers w m) (kilometresOfMillimetres a) (replicate 11 0·0) ≡ elevenOf w (withAltOf n (kilometresOfMillimetres a)) =
       t .1 ∙ (row-written w (withAltOf m (kilometresOfMillimetres a)) (replicate 11 0·0) (sym (t .0) ∙ k) ∙ ap (elevenOf w) (again (kilometresOfMillimetres a))) in
       rw (e, f, r)

@@ -28,7 +28,7 @@ use Rattle.host.specs.Host.{hostStation, hostWhole, hostNumbers, hostSwi
 
 -- ---- calls on a station, in any order
 
--- potirehu_station_sec, _lst, _g_long, _fluxes; potirehu_station_switches with a row of any length
+-- potirehu_station_sec, _lst, _g_long, _fluxes, _move; potirehu_station_switches with a row of any length
 pub data HostCall : Type 0 where
   change : Change → HostCall
   switches : List ℤ → HostCall

@@ -1,7 +1,7 @@
 // A prepared station on the host: 27 whole numbers and 259 numbers that the caller keeps.
 ghost use mathlib.Core.Path.{_≡_};
 ghost use lib.ListN.{length};
-ghost use Rattle.station_record.specs.Record.{toSec, toLst, toLong, toFluxes, altitudeAnswer, changeAnswer};
+ghost use Rattle.station_record.specs.Record.{toSec, toLst, toLong, toFluxes, toMove, altitudeAnswer, changeAnswer};
 ghost use Rattle.station.specs.Station.{altitudeRow, altitudeDrag, changedNumbers};
 ghost use Rattle.host_record.specs.Record.{codeOf};
 ghost use Rattle.host.specs.Host.{hostStation, hostWhole, hostNumbers, hostSwitches, hostSwitchedWhole, hostSwitchedNumbers};
@@ -14,6 +14,7 @@ use host_record::switch_row;
 use station::change_fluxes;
 use station::change_g_long;
 use station::change_lst;
+use station::change_move;
 use station::change_sec;
 use station::change_switches;
 use station::gtd7;
@@ -116,6 +117,21 @@ pub extern "C" fn potirehu_station_fluxes(
     ensures { λ r. ⌜ (r ≡ codeOf (changeAnswer (toFluxes f107a f107) (now (whole .entry)) (now (numbers .entry)))) × (now (numbers .exit) ≡ changedNumbers (toFluxes f107a f107) (now (whole .entry)) (now (numbers .entry))) ⌝ }
 {
     let a = change_fluxes(whole, numbers, f107a, f107);
+    code(a)
+}
+
+// A move: sec, lst and g_long in one change.
+#[no_mangle]
+pub extern "C" fn potirehu_station_move(
+    whole: &[i32],
+    numbers: &mut [f64],
+    sec: f64,
+    lst: f64,
+    g_long: f64,
+) -> u64
+    ensures { λ r. ⌜ (r ≡ codeOf (changeAnswer (toMove sec lst «g_long») (now (whole .entry)) (now (numbers .entry)))) × (now (numbers .exit) ≡ changedNumbers (toMove sec lst «g_long») (now (whole .entry)) (now (numbers .entry))) ⌝ }
+{
+    let a = change_move(whole, numbers, sec, lst, g_long);
     code(a)
 }
 

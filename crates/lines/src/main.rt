@@ -1,4 +1,5 @@
-// The line program: answers each line of standard input on standard output.
+// The line program: answers each line of standard input on standard output. A program has no exit status here: where it cannot read or write it says so on standard
+// error, and answers no further line.
 ghost use Prim.Native.Nat.{_<_, _≤_};
 ghost use mathlib.Core.Path.{_≡_};
 ghost use lib.ListN.{length};
@@ -6,10 +7,23 @@ use line_answer::feed;
 use line_answer::finish;
 use line_answer::start;
 
-fn print(out: &[u8], used: usize)
+fn say_unread() {
+    io::write_all(2, b"lines: the input cannot be read\n");
+}
+
+fn say_unwritten() {
+    io::write_all(2, b"lines: the answers cannot be written\n");
+}
+
+// Whether the answers were written.
+fn print(out: &[u8], used: usize) -> bool
     requires { ⌜ used ≤ length (now out) ⌝ }
 {
-    io::write_all(1, &out[..used]);
+    if io::write_all(1, &out[..used]) {
+        return true;
+    }
+    say_unwritten();
+    false
 }
 
 // An empty chunk is the end of the input. A proved loop has to end, and nothing says that the input does: the turns are counted down from a
@@ -31,9 +45,15 @@ fn read_all(chunk: &mut [u8], line: &mut [u8], out: &mut [u8])
     let mut turns = u64::MAX;
     while 0 < turns {
         let got = libc::read(0, chunk);
+        if got < 0 {
+            say_unread();
+            return;
+        }
         let n = io::count(got, chunk);
         p = feed(&chunk[..n], line, out, p);
-        print(out, p.used);
+        if !print(out, p.used) {
+            return;
+        }
         turns = turns_left(turns, n);
     }
     let used = finish(line, out, p);

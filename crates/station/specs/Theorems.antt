@@ -8,7 +8,7 @@ use native.Mathlib.Omega.{arith}
 use borrow.Author.Tests.{eq-eqb}
 use lib.Dec.{eqb}
 use lib.IntN.{ℤ, pos}
-use lib.ListN.{length, take, drop, getD}
+use lib.ListN.{length, replicate, take, drop, getD}
 use lib.Seq.{drop-cons, drop-length}
 use lib.Ieee.{Float, nan, neg, le}
 use Rattle.numbers.specs.Arithmetic.{_‼_}
@@ -32,7 +32,7 @@ use Rattle.stored_parts.specs.Held.{all-hold}
 use Rattle.stored.specs.Eleven.{stored-eleven}
 use Rattle.shutoff.specs.Shut.{Alike}
 use Rattle.shutoff.specs.Theorems.{judged-first, known, row-written, alike-at, eleven≡}
-use Rattle.station_record.specs.Record.{markOf, historyIn, stationWhole, recordNumbers, recordIn, stationAnswer, altitudeAnswer, withSecOf, withLstOf, withLongOf, withFluxesOf, Change, toSec, toLst, toLong, toFluxes, changeOf, changeAnswer, switchesAnswer}
+use Rattle.station_record.specs.Record.{markOf, historyIn, stationWhole, recordNumbers, recordIn, stationAnswer, altitudeAnswer, withSecOf, withLstOf, withLongOf, withFluxesOf, Change, toSec, toLst, toLong, toFluxes, toMove, changeOf, changeAnswer, switchesAnswer}
 use Rattle.station_values.specs.StationValues.{siteUnder}
 use Rattle.station.specs.Station.{heldOf, stationNumbers, wholeAfter, stationNumbersAfter, altitudeRow, changedNumbers, switchedWhole, switchedNumbers}
 use Rattle.station.specs.Renewed.{record-fourteen, numbers-long, numbers-front, renewed-told}
@@ -114,6 +114,7 @@ whole-kept w n (toSec y) = refl
 whole-kept w n (toLst y) = refl
 whole-kept w n (toLong y) = refl
 whole-kept w n (toFluxes a f) = refl
+whole-kept w n (toMove s l g) = refl
 
 array-kept : (n : Input) (c : Change) → (changeOf c n) .«ap_array» ≡ n .«ap_array»
 unfolding withSecOf withLstOf withLongOf withFluxesOf
@@ -121,6 +122,7 @@ array-kept n (toSec y) = refl
 array-kept n (toLst y) = refl
 array-kept n (toLong y) = refl
 array-kept n (toFluxes a f) = refl
+array-kept n (toMove s l g) = refl
 
 zero-kept : (n : Input) (c : Change) → withAltOf (changeOf c n) 0·0 ≡ changeOf c (withAltOf n 0·0)
 unfolding withAltOf withSecOf withLstOf withLongOf withFluxesOf
@@ -128,6 +130,7 @@ zero-kept n (toSec y) = refl
 zero-kept n (toLst y) = refl
 zero-kept n (toLong y) = refl
 zero-kept n (toFluxes a f) = refl
+zero-kept n (toMove s l g) = refl
 
 accepted-is : (a : Answer) → acceptedOf a ≡ true → a ≡ Accepted
 accepted-is Accepted e = refl
@@ -326,7 +329,8 @@ in-range len whole count z h =
     let b = passed (eqb (length whole) 27) 4 27 _ (a .1) in
     let c = passed (eqb count 259) 4 259 _ (b .1) in
     let d = passed (finiteOf z) 2 3 _ (c .1) in
-    (passed (withinOf 0·0 2500·0 z) 3 3 _ (d .1)) .0
+    let g = passed (dayWithin (getD whole 1 (pos 0))) 3 1 _ (d .1) in
+    (passed (withinOf 0·0 2500·0 z) 3 3 _ (g .1)) .0
 
 same-row : (b : Bool) (x y r : List Float) → (b ≡ true → x ≡ y) → cond b x r ≡ cond b y r
 same-row true x y r e = e refl
@@ -348,11 +352,36 @@ own-altitude : (n : Input) (z : Float) → (withAltOf n z) .alt ≡ z
 unfolding withAltOf
 own-altitude n z = refl
 
+day-passed : (n : Input) (b : Bool) → dayWithin (n .doy) ≡ b → foundOf (outsideOf n) ≡ false → b ≡ true
+unfolding outsideOf foundOf
+day-passed n true e h = refl
+day-passed n false e h = absurd (false≢true (sym (rw e at h)))
+
+-- The doy of a station that holds a record is a day of the year, so that 3 at place 1 is not answered
+pub day-held : (w : List ℤ) (n : Input) → Held w n → dayWithin (getD (stationWhole w n) 1 (pos 0)) ≡ true
+unfolding judgedOf stationWhole
+day-held w n h =
+    let a = no-refusal (foundOf (unfitOf n)) 2 _ _ (h .taken) in
+    let b = no-refusal (lacksHistoryOf w n) 1 10 _ (a .1) in
+    let c = no-refusal (foundOf (outsideOf n)) 3 _ _ (b .1) in
+    day-passed n (dayWithin (n .doy)) refl (c .0)
+
+-- the same after any calls
+pub day-kept : (w : List ℤ) (n : Input) (cs : List Call) → Held w n → dayWithin (getD ((stationAfter (stationWhole w n) (stationNumbers w n) cs) .0) 1 (pos 0)) ≡ true
+day-kept w n cs h =
+    let r = kept-station w n cs h in
+    rw (r .0) (day-held ((heldAfter w n cs) .0) ((heldAfter w n cs) .1) (r .1))
+
+-- Slices of zeros, never prepared: no altitude is accepted
+pub unprepared-refused : (z : Float) → altitudeAnswer 11 (replicate 27 (pos 0)) 259 z ≡ cond (not (finiteOf z)) (Refused 2 3) (Refused 3 1)
+unfolding altitudeAnswer
+unprepared-refused z = refl
+
 answer-told : (w : List ℤ) (n : Input) (z : Float) (len : ℕ) → Held w n
     → altitudeAnswer len (stationWhole w n) (length (stationNumbers w n)) z ≡ answerOf w (withAltOf n z) len
 unfolding altitudeAnswer answerOf recordAnswer
 answer-told w n z len h =
-    rw (eq-eqb _ _ (whole-long w n (h .row)), eq-eqb _ _ (numbers-long w n), judged-at w n z h, fifteen w n, own-altitude n z)
+    rw (eq-eqb _ _ (whole-long w n (h .row)), eq-eqb _ _ (numbers-long w n), day-held w n h, judged-at w n z h, fifteen w n, own-altitude n z)
     (ap (cond (not (eqb len 11)) (Refused 4 11)) (sym (ten-behind (not (finiteOf z)) (not (withinOf 0·0 2500·0 z)) (unmixedOf (isOne (given w 15)) z))))
 
 -- An altitude of a station that holds a record: answer and row are the one-altitude call's with that altitude

@@ -2,7 +2,7 @@
 ghost use mathlib.Core.Path.{_≡_};
 ghost use lib.ListN.{length};
 ghost use Rattle.acceptance.specs.Acceptance.{judgedOf};
-ghost use Rattle.station_record.specs.Record.{toSec, toLst, toLong, toFluxes, stationAnswer, altitudeAnswer, changeAnswer, switchesAnswer};
+ghost use Rattle.station_record.specs.Record.{toSec, toLst, toLong, toFluxes, toMove, stationAnswer, altitudeAnswer, changeAnswer, switchesAnswer};
 ghost use Rattle.station.specs.Station.{refilledOf, stationNumbers, wholeAfter, stationNumbersAfter, altitudeRow, altitudeDrag, replacedOf, changedNumbers, renewedOf, switchedWhole, switchedNumbers};
 use acceptance::Answer;
 use acceptance::accepted;
@@ -23,6 +23,7 @@ use station_record::take_row;
 use station_record::to_fluxes;
 use station_record::to_g_long;
 use station_record::to_lst;
+use station_record::to_move;
 use station_record::to_sec;
 use station_record::units_in;
 use station_values::expansion_numbers;
@@ -180,6 +181,21 @@ pub fn change_fluxes(whole: &[i32], numbers: &mut [f64], f107a: f64, f107: f64) 
     }
     let w = row_in(whole);
     let m = to_fluxes(whole, numbers, f107a, f107);
+    changed(w, m, numbers)
+}
+
+// sec, lst and g_long in one change: refused, all three stay.
+pub fn change_move(whole: &[i32], numbers: &mut [f64], sec: f64, lst: f64, g_long: f64) -> Answer
+    ensures { λ r. ⌜ (r ≡ changeAnswer (toMove sec lst «g_long») (now (whole .entry)) (now (numbers .entry))) × (now (numbers .exit) ≡ changedNumbers (toMove sec lst «g_long») (now (whole .entry)) (now (numbers .entry))) ⌝ }
+{
+    if whole.len() != 27 {
+        return Answer::Refused(4, 27);
+    }
+    if numbers.len() != 259 {
+        return Answer::Refused(4, 259);
+    }
+    let w = row_in(whole);
+    let m = to_move(whole, numbers, sec, lst, g_long);
     changed(w, m, numbers)
 }
 

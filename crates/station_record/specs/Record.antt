@@ -16,7 +16,7 @@ use Rattle.setting.specs.ApHistory.{absentOf}
 use Rattle.setting.specs.Switches.{isOne, onOff}
 use Rattle.acceptance.specs.declared.Answer.{Answer}
 use Rattle.acceptance.specs.declared.Answer.the-variants.{Accepted, Refused}
-use Rattle.acceptance.specs.Acceptance.{withinOf, judgedOf, acceptedOf, unmixedOf, withAltOf}
+use Rattle.acceptance.specs.Acceptance.{withinOf, dayWithin, judgedOf, acceptedOf, unmixedOf, withAltOf}
 
 -- ---- what the two slices hold: 27 whole numbers and 259 numbers, the record's fourteen first
 
@@ -70,7 +70,8 @@ stationAnswer w n ints count =
     (cond (not (eqb count 259)) (Refused 4 259)
     (judgedOf w (withAltOf n 0·0)))
 
--- ---- an altitude: 4 for the row, for the two slices; 2, then 3, then 10 at place 3; switch 0 stands at 3 and switch 15 at 18
+-- ---- an altitude: 4 for the row, for the two slices; 2 at place 3; 3 at place 1 where the doy that is stored is no day, as in slices that were never
+-- prepared; 3, then 10 at place 3; doy stands at 1, switch 0 at 3 and switch 15 at 18
 
 unfoldable pub altitudeAnswer : ℕ → List ℤ → ℕ → Float → Answer
 altitudeAnswer len whole count alt =
@@ -78,10 +79,11 @@ altitudeAnswer len whole count alt =
     (cond (not (eqb (length whole) 27)) (Refused 4 27)
     (cond (not (eqb count 259)) (Refused 4 259)
     (cond (not (finiteOf alt)) (Refused 2 3)
+    (cond (not (dayWithin (getD whole 1 (pos 0)))) (Refused 3 1)
     (cond (not (withinOf 0·0 2500·0 alt)) (Refused 3 3)
-    (cond (unmixedOf (isOne (getD whole 18 (pos 0))) alt) (Refused 10 3) Accepted)))))
+    (cond (unmixedOf (isOne (getD whole 18 (pos 0))) alt) (Refused 10 3) Accepted))))))
 
--- ---- changes of sec, of lst, of g_long, of the fluxes
+-- ---- changes of sec, of lst, of g_long, of the fluxes, and the move, of sec, lst and g_long together
 
 unfoldable pub withSecOf : Input → Float → Input
 withSecOf n y = record { year = n .year; doy = n .doy; sec = y; alt = n .alt; «g_lat» = n .«g_lat»; «g_long» = n .«g_long»; lst = n .lst; f107a = n .f107a; f107 = n .f107; ap = n .ap; history = n .history; «ap_array» = n .«ap_array» }
@@ -100,12 +102,14 @@ pub data Change : Type 0 where
   toLst : Float → Change
   toLong : Float → Change
   toFluxes : Float → Float → Change
+  toMove : Float → Float → Float → Change
 
 abbrev pub changeOf : Change → Input → Input
 changeOf (toSec y) n = withSecOf n y
 changeOf (toLst y) n = withLstOf n y
 changeOf (toLong y) n = withLongOf n y
 changeOf (toFluxes a f) n = withFluxesOf n a f
+changeOf (toMove s l g) n = withLongOf (withLstOf (withSecOf n s) l) g
 
 -- 4 for the slices, then what the changed record meets
 unfoldable pub changeAnswer : Change → List ℤ → List Float → Answer

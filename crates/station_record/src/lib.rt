@@ -3,9 +3,9 @@ ghost use mathlib.Core.Path.{_≡_};
 ghost use Prim.Native.Nat.{_<_};
 ghost use lib.IntN.{pos};
 ghost use lib.ListN.{length, drop, getD};
-ghost use Rattle.acceptance.specs.Acceptance.{judgedOf};
+ghost use Rattle.acceptance.specs.Acceptance.{dayWithin, judgedOf};
 ghost use Rattle.setting.specs.Switches.{isOne, onOff};
-ghost use Rattle.station_record.specs.Record.{markOf, historyIn, stationWhole, recordNumbers, recordIn, unitsIn, mixingIn, withSecOf, withLstOf, withLongOf, withFluxesOf, toSec, toLst, toLong, toFluxes, changeOf, stationAnswer, altitudeAnswer, rowTaken};
+ghost use Rattle.station_record.specs.Record.{markOf, historyIn, stationWhole, recordNumbers, recordIn, unitsIn, mixingIn, withSecOf, withLstOf, withLongOf, withFluxesOf, toSec, toLst, toLong, toFluxes, toMove, changeOf, stationAnswer, altitudeAnswer, rowTaken};
 use acceptance::Answer;
 use acceptance::accepted;
 use acceptance::judge;
@@ -260,6 +260,16 @@ pub fn to_fluxes(whole: &[i32], numbers: &[f64], f107a: f64, f107: f64) -> Input
     with_fluxes(n, f107a, f107)
 }
 
+pub fn to_move(whole: &[i32], numbers: &[f64], sec: f64, lst: f64, g_long: f64) -> Input
+    requires { ⌜ (length (now whole) ≡ 27) × (length (now numbers) ≡ 259) ⌝ }
+    ensures { λ r. ⌜ r ≡ changeOf (toMove sec lst «g_long») (recordIn (now (whole .entry)) (now (numbers .entry))) ⌝ }
+{
+    let n = record_in(whole, numbers);
+    let timed = with_sec(n, sec);
+    let local = with_lst(timed, lst);
+    with_g_long(local, g_long)
+}
+
 // ---- what the calls meet
 
 // Preparing: the lengths of the two slices, then what the record meets, its altitude not looked at.
@@ -288,7 +298,22 @@ pub fn one_in(whole: &[i32], i: usize) -> bool
     false
 }
 
-// The answer to an altitude: the lengths of the row, the whole numbers and the numbers; 2, then 3, then 10.
+// Whether the doy of the whole numbers is a day of the year: in slices that were never prepared it is likely none.
+pub fn day_in(whole: &[i32]) -> bool
+    requires { ⌜ length (now whole) ≡ 27 ⌝ }
+    ensures { λ r. ⌜ r ≡ dayWithin (getD (now (whole .entry)) 1 (pos 0)) ⌝ }
+{
+    let d = whole[1];
+    if d < 1 {
+        return false;
+    }
+    if d > 366 {
+        return false;
+    }
+    true
+}
+
+// The answer to an altitude: the lengths of the row, the whole numbers and the numbers; 2, then 3 for the doy and for the altitude, then 10.
 pub fn altitude_answer(len: usize, whole: &[i32], count: usize, alt: f64) -> Answer
     ensures { λ r. ⌜ r ≡ altitudeAnswer len (now (whole .entry)) count alt ⌝ }
 {
@@ -304,6 +329,9 @@ pub fn altitude_answer(len: usize, whole: &[i32], count: usize, alt: f64) -> Ans
     }
     if !finite(alt) {
         return Answer::Refused(2, 3);
+    }
+    if !day_in(whole) {
+        return Answer::Refused(3, 1);
     }
     if !within(0.0, 2500.0, alt) {
         return Answer::Refused(3, 3);
