@@ -16,7 +16,8 @@ use Rattle.acceptance.specs.declared.Answer.the-variants.{Accepted, Refused}
 use Rattle.acceptance.specs.Acceptance.{dayWithin, judgedOf, acceptedOf, withAltOf}
 use Rattle.atmosphere.specs.Atmosphere.{elevenOf}
 use Rattle.shutoff.specs.Theorems.{row-written}
-use Rattle.station_record.specs.Record.{stationWhole, stationAnswer, altitudeAnswer}
+use Rattle.station_record.specs.Record.{stationWhole}
+use Rattle.station_answer.specs.Answers.{stationAnswer, altitudeAnswer}
 use Rattle.station.specs.Station.{stationNumbers, wholeAfter, stationNumbersAfter, altitudeRow}
 use Rattle.station.specs.Theorems.{altitude-told, prepared-held, day-held}
 use Rattle.descent_orbits.specs.declared.Orbit.{Orbit}

@@ -14,7 +14,7 @@ use Rattle.acceptance.specs.Acceptance.{acceptedOf}
 use Rattle.atmosphere.specs.Atmosphere.{answerOf}
 use Rattle.altitudes.specs.Altitudes.{columnAnswer}
 use Rattle.column.specs.Column.{columnAfter}
-use Rattle.station_record.specs.Record.{stationAnswer, switchesAnswer}
+use Rattle.station_answer.specs.Answers.{stationAnswer, switchesAnswer}
 use Rattle.station.specs.Station.{wholeAfter, stationNumbersAfter, switchedWhole, switchedNumbers}
 use Rattle.crossings_list.specs.declared.Listing.{Listing}
 use Rattle.crossings.specs.Crossings.{crossingsRefusedOr, crossingsAnswer, crossingsAfter}

@@ -12,7 +12,7 @@ use Rattle.acceptance.specs.Acceptance.{acceptedOf}
 use Rattle.atmosphere.specs.Atmosphere.{answerOf, rowAfter}
 use Rattle.altitudes.specs.Altitudes.{columnAnswer}
 use Rattle.column.specs.Column.{columnAfter}
-use Rattle.station_record.specs.Record.{stationAnswer, switchesAnswer}
+use Rattle.station_answer.specs.Answers.{stationAnswer, switchesAnswer}
 use Rattle.station.specs.Station.{wholeAfter, stationNumbersAfter, switchedWhole, switchedNumbers}
 use Rattle.drag.specs.Drag.{dragAfter}
 use Rattle.host_record.specs.Record.{recordOf, lengthsOf}

@@ -18,7 +18,8 @@ use Rattle.acceptance.specs.Acceptance.{judgedOf, acceptedOf, withAltOf}
 use Rattle.acceptance.specs.Refusals.{no-refusal}
 use Rattle.atmosphere.specs.Atmosphere.{answerOf, rowAfter}
 use Rattle.drag.specs.Drag.{dragAfter}
-use Rattle.station_record.specs.Record.{stationWhole, stationAnswer, altitudeAnswer, Change, switchesAnswer}
+use Rattle.station_record.specs.Record.{stationWhole}
+use Rattle.station_answer.specs.Answers.{stationAnswer, altitudeAnswer, Change, switchesAnswer}
 use Rattle.station.specs.Station.{stationNumbers, wholeAfter, stationNumbersAfter, altitudeRow, altitudeDrag, changedNumbers, switchedWhole, switchedNumbers}
 use Rattle.station.specs.Theorems.{Held, stationOf, callOf, callOn, call-told, call-held, prepared-held, altitude-told}
 use Rattle.station.specs.Theorems as station

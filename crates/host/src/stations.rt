@@ -1,7 +1,7 @@
 // A prepared station on the host: 27 whole numbers and 259 numbers that the caller keeps.
 ghost use mathlib.Core.Path.{_≡_};
 ghost use lib.ListN.{length};
-ghost use Rattle.station_record.specs.Record.{toSec, toLst, toLong, toFluxes, toMove, altitudeAnswer, changeAnswer};
+ghost use Rattle.station_answer.specs.Answers.{toSec, toLst, toLong, toFluxes, toMove, altitudeAnswer, changeAnswer};
 ghost use Rattle.station.specs.Station.{altitudeRow, altitudeDrag, changedNumbers};
 ghost use Rattle.host_record.specs.Record.{codeOf};
 ghost use Rattle.host.specs.Host.{hostStation, hostWhole, hostNumbers, hostSwitches, hostSwitchedWhole, hostSwitchedNumbers};

@@ -30,7 +30,8 @@ use Rattle.stored_parts.specs.declared.Parts.{Parts}
 use Rattle.stored_parts.specs.Parts.{allParts}
 use Rattle.stored.specs.Stored.{needOf, part, storedOf, rowStored}
 use Rattle.drag_sum.specs.DragSum.{draggedOf}
-use Rattle.station_record.specs.Record.{stationWhole, recordNumbers, recordIn, unitsIn, mixingIn, Change, changeOf, stationAnswer, altitudeAnswer, changeAnswer, switchesAnswer, rowTaken}
+use Rattle.station_record.specs.Record.{stationWhole, recordNumbers, recordIn, unitsIn, mixingIn}
+use Rattle.station_answer.specs.Answers.{Change, changeOf, stationAnswer, altitudeAnswer, changeAnswer, switchesAnswer, rowTaken}
 use Rattle.station.specs.Station.{heldOf, refilledOf, stationNumbers, wholeAfter, stationNumbersAfter, altitudeRow, altitudeDrag, replacedOf, changedNumbers, renewedOf, switchedWhole, switchedNumbers}
 use Rattle.station.specs.Renewed.{record-fourteen, refilled-is}
 

@@ -15,7 +15,8 @@ use Rattle.shutoff.specs.Theorems.{alike-at}
 use Rattle.drag_sum.specs.DragSum.{draggedOf}
 use Rattle.drag.specs.Drag.{dragOf, dragAfter}
 use Rattle.drag.specs.Theorems.{demand-3-drag}
-use Rattle.station_record.specs.Record.{stationWhole, altitudeAnswer}
+use Rattle.station_record.specs.Record.{stationWhole}
+use Rattle.station_answer.specs.Answers.{altitudeAnswer}
 use Rattle.station.specs.Station.{stationNumbers, altitudeRow, altitudeDrag}
 use Rattle.station.specs.Theorems.{Held, Call, heldAfter, stationAfter, kept-station, altitude-told}
 

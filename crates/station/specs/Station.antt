@@ -17,7 +17,8 @@ use Rattle.station_values.specs.StationValues.{expansionNumbers, expansionValue
 use Rattle.stored_parts.specs.Parts.{allParts}
 use Rattle.stored.specs.Stored.{needOf, part, storedOf, rowStored}
 use Rattle.drag_sum.specs.DragSum.{draggedOf}
-use Rattle.station_record.specs.Record.{stationWhole, recordNumbers, recordIn, unitsIn, mixingIn, Change, changeOf, stationAnswer, altitudeAnswer, changeAnswer, switchesAnswer}
+use Rattle.station_record.specs.Record.{stationWhole, recordNumbers, recordIn, unitsIn, mixingIn}
+use Rattle.station_answer.specs.Answers.{Change, changeOf, stationAnswer, altitudeAnswer, changeAnswer, switchesAnswer}
 
 -- what no altitude changes, out of the expansions' values
 unfoldable pub heldOf : List ℤ → Input → ExpansionValues → List Float

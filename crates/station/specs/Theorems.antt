@@ -32,7 +32,8 @@ use Rattle.stored_parts.specs.Held.{all-hold}
 use Rattle.stored.specs.Eleven.{stored-eleven}
 use Rattle.shutoff.specs.Shut.{Alike}
 use Rattle.shutoff.specs.Theorems.{judged-first, known, row-written, alike-at, eleven≡}
-use Rattle.station_record.specs.Record.{markOf, historyIn, stationWhole, recordNumbers, recordIn, stationAnswer, altitudeAnswer, withSecOf, withLstOf, withLongOf, withFluxesOf, Change, toSec, toLst, toLong, toFluxes, toMove, changeOf, changeAnswer, switchesAnswer}
+use Rattle.station_record.specs.Record.{markOf, historyIn, stationWhole, recordNumbers, recordIn}
+use Rattle.station_answer.specs.Answers.{stationAnswer, altitudeAnswer, withSecOf, withLstOf, withLongOf, withFluxesOf, Change, toSec, toLst, toLong, toFluxes, toMove, changeOf, changeAnswer, switchesAnswer}
 use Rattle.station_values.specs.StationValues.{siteUnder}
 use Rattle.station.specs.Station.{heldOf, stationNumbers, wholeAfter, stationNumbersAfter, altitudeRow, changedNumbers, switchedWhole, switchedNumbers}
 use Rattle.station.specs.Renewed.{record-fourteen, numbers-long, numbers-front, renewed-told}

@@ -1,2 +1,2 @@
--- The definitions that the contracts of this crate cite.
+-- The record of a station in its two slices.
 pub mod Record

@@ -1,5 +1,5 @@
 -- `change_fluxes` meets its contract.
-use Rattle.station_record.specs.Record.{toFluxes}
+use Rattle.station_answer.specs.Answers.{toFluxes}
 use Rattle.station.proofs.Laws.{change-no-whole, change-no-numbers, change-met}
 use borrow.Author.Needs.{needs}
 use Rattle.station.proofs.change_fluxes.Statement.{statement}

@@ -1,5 +1,5 @@
 -- `change_g_long` meets its contract.
-use Rattle.station_record.specs.Record.{toLong}
+use Rattle.station_answer.specs.Answers.{toLong}
 use Rattle.station.proofs.Laws.{change-no-whole, change-no-numbers, change-met}
 use borrow.Author.Needs.{needs}
 use Rattle.station.proofs.change_g_long.Statement.{statement}

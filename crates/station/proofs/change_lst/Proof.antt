@@ -1,5 +1,5 @@
 -- `change_lst` meets its contract.
-use Rattle.station_record.specs.Record.{toLst}
+use Rattle.station_answer.specs.Answers.{toLst}
 use Rattle.station.proofs.Laws.{change-no-whole, change-no-numbers, change-met}
 use borrow.Author.Needs.{needs}
 use Rattle.station.proofs.change_lst.Statement.{statement}

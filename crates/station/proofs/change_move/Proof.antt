@@ -1,5 +1,5 @@
 -- `change_move` meets its contract.
-use Rattle.station_record.specs.Record.{toMove}
+use Rattle.station_answer.specs.Answers.{toMove}
 use Rattle.station.proofs.Laws.{change-no-whole, change-no-numbers, change-met}
 use borrow.Author.Needs.{needs}
 use Rattle.station.proofs.change_move.Statement.{statement}

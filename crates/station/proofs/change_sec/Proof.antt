@@ -1,5 +1,5 @@
 -- `change_sec` meets its contract.
-use Rattle.station_record.specs.Record.{toSec}
+use Rattle.station_answer.specs.Answers.{toSec}
 use Rattle.station.proofs.Laws.{change-no-whole, change-no-numbers, change-met}
 use borrow.Author.Needs.{needs}
 use Rattle.station.proofs.change_sec.Statement.{statement}

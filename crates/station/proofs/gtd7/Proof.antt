@@ -2,7 +2,7 @@
 use native.Mathlib.Omega.{arith}
 use borrow.Author.Tests.{not-true, not-false}
 use lib.Seq.{length-take-le}
-use Rattle.station_record.proofs.Laws.{altitude-fits}
+use Rattle.station_answer.proofs.Laws.{altitude-fits}
 use Rattle.station.proofs.Laws.{verdict, altitude-refused, altitude-given}
 use borrow.Author.Needs.{needs}
 use Rattle.station.proofs.gtd7.Statement.{statement}

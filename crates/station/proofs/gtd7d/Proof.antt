@@ -2,7 +2,7 @@
 use borrow.Author.Needs.{needs}
 use borrow.Author.Tests.{not-true, not-false}
 use native.Mathlib.Omega.{arith}
-use Rattle.station_record.proofs.Laws.{altitude-fits}
+use Rattle.station_answer.proofs.Laws.{altitude-fits}
 use Rattle.station.proofs.Laws.{verdict, drag-refused, drag-given}
 use Rattle.station.proofs.gtd7d.Statement.{statement}
 use Rattle.station.proofs.gtd7d.Tie as tie

@@ -1,7 +1,7 @@
 -- `prepare` meets its contract.
 use mathlib.Core.Path.{sym, _∙_}
 use borrow.Author.Tests.{not-true, not-false}
-use Rattle.station_record.proofs.Laws.{station-fits}
+use Rattle.station_answer.proofs.Laws.{station-fits}
 use Rattle.station.proofs.Laws.{verdict, refused, taken}
 use borrow.Author.Needs.{needs}
 use Rattle.station.proofs.prepare.Statement.{statement}

@@ -4,7 +4,7 @@ use borrow.Author.Tests.{not-true, not-false}
 use mir.Facts.{toZ-ofZ}
 use lib.ListN.{length}
 use Rattle.acceptance.specs.declared.Answer.the-variants.{Refused}
-use Rattle.station_record.specs.Record.{stationAnswer}
+use Rattle.station_answer.specs.Answers.{stationAnswer}
 use Rattle.host_record.specs.Record.{recordOf}
 use Rattle.host_record.proofs.SliceLaws.{stopped, fields-fit, switches-fit, passed, dated}
 use Rattle.host.proofs.Laws.{station-refused, no-whole, no-numbers, a-station, prepared}

@@ -1,0 +1,2 @@
+-- The refusals of a station's calls, and its changes.
+pub mod Answers
