@@ -26,12 +26,13 @@ returns c =
 
 returns-2 : tie.Need-returns-2
 returns-2 c =
-    let call = c .keep in
-    let test = c .before in
+    let kept = c .before .before in
+    let call = kept .keep in
+    let test = kept .before .before in
     let start = test .before .before .before .args in
-    let kept = one-kept (start .line .now) (start .p .len) (start .b) _ _ (test .if1 .left) (call .ensures .0) (call .ensures .1) in (
-      (line-kept (start .line .now) (start .out .now) (start .p) (start .b) _ _ (test .if1 .left) (call .ensures .2 .1), call .ensures .2 .0, search needs, search needs),
-      (kept .0, kept .1, refl),
+    let step = one-kept (start .line .now) (start .p .len) (start .b) _ _ (test .if1 .left) (call .ensures .0) (call .ensures .1) in (
+      (line-kept (start .line .now) (start .out .now) (start .p) (start .b) _ _ (test .if1 .left) (call .ensures .3), call .ensures .2, search needs, search needs),
+      (step .0, step .1, refl),
     )
 
 pub take-byte-spec : {M : Type 1} → statement M
@@ -42,5 +43,5 @@ take-byte-spec =
     slice-aggregate-answer
     (λ c κs. search needs) (λ c κs. search needs) (λ c. search needs) (λ c. search needs)
     returns
-    (λ c κs. search needs)
+    (λ c κs. search needs) (λ c. search needs)
     returns-2)
