@@ -111,8 +111,10 @@ fn drawn(g: &mut Random, i: u64) -> (u32, Input, [i32; 24], [usize; 4]) {
     let known = known_set(g, &w);
     let mut lengths = [11, 8, if r.ap_array.is_some() { 7 } else { 0 }, 24];
     if g.below(20) == 0 {
-        let k = g.below(4) as usize;
-        lengths[k] = g.below([14, 11, 10, 27][k]) as usize;
+        for _ in 0..1 + g.below(2) {
+            let k = g.below(4) as usize;
+            lengths[k] = g.below([14, 11, 10, 27][k]) as usize;
+        }
     }
     // the record that the call is handed
     match lengths[2] {
