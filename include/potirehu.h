@@ -38,7 +38,7 @@ extern "C" {
 
 /* The numbers of refusals. No call of this library gives 6 or 7. */
 enum potirehu_number {
-    POTIREHU_MISSING_AP_ARRAY = 1,      /* switch 9 is -1, and the history is absent; in potirehu_gtd7_known also a field that counts and is not known */
+    POTIREHU_MISSING_AP_ARRAY = 1,      /* switch 9 is -1, and the history is absent; or a field that counts is not known */
     POTIREHU_NON_FINITE_INPUT = 2,      /* a field is NaN or infinite */
     POTIREHU_OUT_OF_DOMAIN = 3,         /* a field is out of range */
     POTIREHU_WRONG_LENGTH = 4,          /* a slice has not the length needed, which is the place */
@@ -202,16 +202,15 @@ POTIREHU_CHECKED
 uint64_t potirehu_gtd7_with(const double *nine, size_t n_nine, int32_t year, int32_t doy, const double *fields, size_t n_fields,
                             const double *ap_array, size_t n_ap, const int32_t *switches, size_t n_switches, double *row, size_t n_row);
 
-/* Which fields count under a switch row: fields, 17 numbers, gets 1 where the field of that number counts and 0 where the row shuts it off (0 year, 1 doy,
-   2 sec, 3 alt, 4 g_lat, 5 g_long, 6 lst, 7 f107a, 8 f107, 9 ap, 10 to 16 the history, of which 10 never counts). Two accepted records that agree in
-   the fields marked 1 give the same row. Answers 0; or leaves fields as it was and answers 4 at 17 for fields, then 4 at 24 for switches of another
-   length. */
+/* Which fields count under a switch row: fields, 17 numbers, gets 1 where the field of that number (POTIREHU_FIELD_..) counts and 0 where the row shuts it
+   off; of the history POTIREHU_FIELD_AP_DAILY never counts. Two accepted records that agree in the fields marked 1 give the same row. Answers 0; or
+   leaves fields as it was and answers 4 at 17 for fields, then 4 at 24 for switches of another length. */
 #define POTIREHU_COUNTS 17
 POTIREHU_CHECKED
 uint64_t potirehu_counts(const int32_t *switches, uint64_t n_switches, int32_t *fields, uint64_t n_fields);
 
-/* potirehu_gtd7 for a record of which only some fields are known, as after a restart: bit k of known says that field k is known, k from 0, year, to 9,
-   ap; higher bits are not looked at, and the history is known where it is there. A field that is not known is not looked at: anything may stand in
+/* potirehu_gtd7 for a record of which only some fields are known, as after a restart: bit k of known, 1u << POTIREHU_FIELD_.., says that field k is known,
+   k from 0, year, to 9, ap; higher bits are not looked at, and the history is known where it is there. A field that is not known is not looked at: anything may stand in
    it, a NaN too, whether in year, doy or fields. Answers 0 and writes the row of the record with 0 in the fields that are not known, which is the row
    of every accepted record that agrees in the known ones; or leaves row as it was and answers, after the lengths as potirehu_gtd7:
      2 at the lowest known field that is NaN or infinite;

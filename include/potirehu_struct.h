@@ -81,6 +81,11 @@ struct potirehu_index_answer {
     size_t index;
 };
 
+/* Which fields count: field[POTIREHU_FIELD_..] is 1 or 0. */
+struct potirehu_counting {
+    int32_t field[POTIREHU_COUNTS];
+};
+
 /* How a descent ended, its last altitude in millimetres, and how many losses it took. */
 struct potirehu_end {
     int64_t ending, altitude, taken;
@@ -165,6 +170,19 @@ static inline struct potirehu_answer potirehu_struct_gtd7_with(const struct poti
     const double fields[8] = POTIREHU_FIELDS_OF(record);
     return potirehu_answer_of(
         potirehu_gtd7_with((const double *)nine, POTIREHU_NINE, POTIREHU_RECORD_OF(record), switches->entry, 24, (double *)row, 11));
+}
+
+/* known has the bit 1u << POTIREHU_FIELD_.. of each field that is known, the history apart. */
+POTIREHU_CHECKED
+static inline struct potirehu_answer potirehu_struct_gtd7_known(uint32_t known, const struct potirehu_record *record,
+                                                                const struct potirehu_switches *switches, struct potirehu_row *row) {
+    const double fields[8] = POTIREHU_FIELDS_OF(record);
+    return potirehu_answer_of(potirehu_gtd7_known(known, POTIREHU_RECORD_OF(record), switches->entry, 24, (double *)row, 11));
+}
+
+POTIREHU_CHECKED
+static inline struct potirehu_answer potirehu_struct_counts(const struct potirehu_switches *switches, struct potirehu_counting *counting) {
+    return potirehu_answer_of(potirehu_counts(switches->entry, 24, counting->field, POTIREHU_COUNTS));
 }
 
 /* ---- many altitudes */

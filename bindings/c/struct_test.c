@@ -84,6 +84,20 @@ static void one_altitude(const struct both *b) {
         answer = potirehu_struct_gtd7_with(&parameters, &b->record, &b->switches, &named);
         same("gtd7_with", bare, answer.number, answer.place, row, &named, sizeof row);
     }
+    /* all known, and one field after the other not */
+    for (uint32_t known = 0; known <= 10; known++) {
+        const uint32_t bits = 1023u & ~(1u << known);
+        fill(row, &named, sizeof row);
+        bare = potirehu_gtd7_known(bits, SLICES(b), ROW(b), row, 11);
+        answer = potirehu_struct_gtd7_known(bits, &b->record, &b->switches, &named);
+        same("gtd7_known", bare, answer.number, answer.place, row, &named, sizeof row);
+    }
+    int32_t fields[POTIREHU_COUNTS];
+    struct potirehu_counting counting;
+    fill(fields, &counting, sizeof fields);
+    bare = potirehu_counts(ROW(b), fields, POTIREHU_COUNTS);
+    answer = potirehu_struct_counts(&b->switches, &counting);
+    same("counts", bare, answer.number, answer.place, fields, &counting, sizeof fields);
     const struct potirehu_parameters present = potirehu_present();
     fill(row, &named, sizeof row);
     bare = potirehu_gtd7(SLICES(b), ROW(b), row, 11);

@@ -201,8 +201,8 @@ class Refusal(ValueError):
 # ---- the library
 
 _CALLS = (
-    "gtd7", "gtd7d", "gtd7_with", "gtd7_known", "counts", "gtd7_column", "crossings", "first_below", "station", "station_gtd7", "station_gtd7d", "station_sec", "station_lst", "station_g_long",
-    "station_fluxes", "station_move", "station_switches", "bands", "bands_gtd7", "descent", "logs",
+    "gtd7", "gtd7d", "gtd7_with", "gtd7_known", "counts", "gtd7_column", "crossings", "first_below", "station", "station_gtd7", "station_gtd7d", "station_sec", "station_lst",
+    "station_g_long", "station_fluxes", "station_move", "station_switches", "bands", "bands_gtd7", "descent", "logs",
 )
 _NOWHERE = 2**32 - 1
 
