@@ -17,12 +17,6 @@ use Rattle.profile.specs.declared.unchecked.Shape.{Shape}
 use Rattle.tables.specs.Tables.{ptmT, pdlT1, pdmT0, pdmT1, pdmT2, pdmT3, pdmT4, pdmT5, pdmT6}
 use Rattle.stages.specs.Stages.{densuSets, mixedSets, n2Plan, heliumPlan, oxygenPlan, o2Plan, argonPlan, hydrogenPlan, nitrogenPlan, anomalousPlan}
 
-pub made : (s r : State) (on : Bool) (u : Fields → Fields) → on ≡ true → r ≡ withFields s (u (fieldsOf s)) → r ≡ withFields s (setWhen on u (fieldsOf s))
-made s r on u e f = f ∙ ap (λ (b : Bool). withFields s (setWhen b u (fieldsOf s))) (sym e)
-
-pub not-made : (s : State) (on : Bool) (u : Fields → Fields) → on ≡ false → s ≡ withFields s (setWhen on u (fieldsOf s))
-not-made s on u e = ap (λ (b : Bool). withFields s (setWhen b u (fieldsOf s))) (sym e)
-
 -- a step under a test after one without
 pub first-made : (s a b : State) (on : Bool) (t u : Fields → Fields)
     → b ≡ withFields a (setWhen on u (fieldsOf a)) → a ≡ withFields s (t (fieldsOf s)) → b ≡ withFields s (setWhen on u (t (fieldsOf s)))

@@ -1,6 +1,6 @@
 -- `densu_where` meets its contract.
 use Rattle.stages.specs.Stages.{densuSets}
-use Rattle.state_steps.proofs.Laws.{made, not-made}
+use Rattle.state_fields.proofs.Made.{made, not-made}
 use borrow.Author.Needs.{needs}
 use Rattle.state_steps.proofs.densu_where.Statement.{statement}
 use Rattle.state_steps.proofs.densu_where.Tie as tie

@@ -2,8 +2,8 @@
 use mathlib.Core.Path.{refl}
 use Rattle.plan.specs.Fields.{setNodes1, setTn1}
 use borrow.Author.Needs.{needs}
-use Rattle.state_steps.proofs.set_nodes1.Statement.{statement}
-use Rattle.state_steps.proofs.set_nodes1.Tie as tie
+use Rattle.state_fields.proofs.set_nodes1.Statement.{statement}
+use Rattle.state_fields.proofs.set_nodes1.Tie as tie
 
 returns : tie.Need-returns
 unfolding setNodes1 setTn1

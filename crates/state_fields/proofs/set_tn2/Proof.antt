@@ -1,8 +1,8 @@
 -- `set_tn2` meets its contract.
 use mathlib.Core.Path.{refl}
 use Rattle.plan.specs.Fields.{setTn2}
-use Rattle.state_steps.proofs.set_tn2.Statement.{statement}
-use Rattle.state_steps.proofs.set_tn2.Tie as tie
+use Rattle.state_fields.proofs.set_tn2.Statement.{statement}
+use Rattle.state_fields.proofs.set_tn2.Tie as tie
 
 returns : tie.Need-returns
 unfolding setTn2

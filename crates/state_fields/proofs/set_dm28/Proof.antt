@@ -1,9 +1,9 @@
 -- `set_dm28` meets its contract.
 use mathlib.Core.Path.{refl}
 use Rattle.plan.specs.Fields.{setDm28}
-use Rattle.state_steps.proofs.Laws.{made, not-made}
-use Rattle.state_steps.proofs.set_dm28.Statement.{statement}
-use Rattle.state_steps.proofs.set_dm28.Tie as tie
+use Rattle.state_fields.proofs.Made.{made, not-made}
+use Rattle.state_fields.proofs.set_dm28.Statement.{statement}
+use Rattle.state_fields.proofs.set_dm28.Tie as tie
 
 returns : tie.Need-returns
 unfolding setDm28

@@ -1,8 +1,8 @@
 -- `set_dd` meets its contract.
 use mathlib.Core.Path.{refl}
 use Rattle.plan.specs.Fields.{setDd}
-use Rattle.state_steps.proofs.set_dd.Statement.{statement}
-use Rattle.state_steps.proofs.set_dd.Tie as tie
+use Rattle.state_fields.proofs.set_dd.Statement.{statement}
+use Rattle.state_fields.proofs.set_dd.Tie as tie
 
 returns : tie.Need-returns
 unfolding setDd

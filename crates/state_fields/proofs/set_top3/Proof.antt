@@ -2,8 +2,8 @@
 use mathlib.Core.Path.{refl}
 use Rattle.plan.specs.Fields.{setTop3, setTn3}
 use borrow.Author.Needs.{needs}
-use Rattle.state_steps.proofs.set_top3.Statement.{statement}
-use Rattle.state_steps.proofs.set_top3.Tie as tie
+use Rattle.state_fields.proofs.set_top3.Statement.{statement}
+use Rattle.state_fields.proofs.set_top3.Tie as tie
 
 returns : tie.Need-returns
 unfolding setTop3 setTn3

@@ -1,8 +1,8 @@
 -- `set_gravity` meets its contract.
 use mathlib.Core.Path.{refl}
 use Rattle.plan.specs.Fields.{setGravity}
-use Rattle.state_steps.proofs.set_gravity.Statement.{statement}
-use Rattle.state_steps.proofs.set_gravity.Tie as tie
+use Rattle.state_fields.proofs.set_gravity.Statement.{statement}
+use Rattle.state_fields.proofs.set_gravity.Tie as tie
 
 returns : tie.Need-returns
 unfolding setGravity
