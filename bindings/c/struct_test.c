@@ -168,6 +168,22 @@ static void station(const struct both *b, const struct both *next) {
     HELD("station_switches");
 }
 
+/* A station of zeros: no altitude, 3 at doy; a NaN as altitude comes first. */
+static void never_prepared(void) {
+    static struct potirehu_prepared zeros;
+    const uint64_t no_day = ((uint64_t)POTIREHU_OUT_OF_DOMAIN << 32) + POTIREHU_FIELD_DOY;
+    const uint64_t no_altitude = ((uint64_t)POTIREHU_NON_FINITE_INPUT << 32) + POTIREHU_FIELD_ALT;
+    struct potirehu_row row, kept;
+    struct potirehu_answer answer;
+    fill(&row, &kept, sizeof row);
+    answer = potirehu_struct_station_gtd7(&zeros, 400.0, &row);
+    same("station_gtd7, never prepared", no_day, answer.number, answer.place, &row, &kept, sizeof row);
+    answer = potirehu_struct_station_gtd7d(&zeros, 2501.0, &row);
+    same("station_gtd7d, never prepared", no_day, answer.number, answer.place, &row, &kept, sizeof row);
+    answer = potirehu_struct_station_gtd7(&zeros, NAN, &row);
+    same("station_gtd7, no altitude", no_altitude, answer.number, answer.place, &row, &kept, sizeof row);
+}
+
 static void descent(const struct both *b, int64_t start) {
     int32_t settings[ORBITS];
     int64_t losses[ORBITS], other_losses[ORBITS], end[3];
@@ -283,6 +299,7 @@ int main(void) {
         }
     }
     logs();
+    never_prepared();
     printf("struct_test: %lu calls held against each other, 0 differ\n", calls);
     return 0;
 }
