@@ -204,8 +204,9 @@ uint64_t potirehu_gtd7_with(const double *nine, size_t n_nine, int32_t year, int
 
 /* A prepared station is a record and a switch row with the values stored that do not depend on the altitude: two arrays of the caller's, of these
    lengths. What they hold is the library's own; they may be copied and moved, and need not be given back. An altitude asked of it works out no
-   expansion. What is said here of a station holds for one that these calls gave. It has no guard against bits that flip in its arrays: they give wrong
-   rows and no refusal. Where that can happen keep a copy and compare it before use, or prepare anew from the record now and then. */
+   expansion. What is said here of a station holds for one that these calls gave. While a call changes it no other may read it. It has no guard against
+   bits that flip in its arrays: they give wrong rows and no refusal. Where that can happen keep a copy and compare it before use, or prepare anew from
+   the record now and then. */
 #define POTIREHU_STATION_WHOLE 27
 #define POTIREHU_STATION_NUMBERS 259
 
