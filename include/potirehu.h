@@ -224,8 +224,9 @@ uint64_t potirehu_gtd7_known(uint32_t known, int32_t year, int32_t doy, const do
 
 /* A prepared station is a record and a switch row with the values stored that do not depend on the altitude: two arrays of the caller's, of these
    lengths. What they hold is the library's own; they may be copied and moved, and need not be given back. An altitude asked of it works out no
-   expansion. What is said here of a station holds for one that these calls gave. It has no guard against bits that flip in its arrays: they give wrong
-   rows and no refusal. Where that can happen keep a copy and compare it before use, or prepare anew from the record now and then. */
+   expansion. What is said here of a station holds for one that these calls gave. While a call changes it no other may read it. It has no guard against
+   bits that flip in its arrays: they give wrong rows and no refusal. Where that can happen keep a copy and compare it before use, or prepare anew from
+   the record now and then. */
 #define POTIREHU_STATION_WHOLE 27
 #define POTIREHU_STATION_NUMBERS 259
 
@@ -264,7 +265,7 @@ POTIREHU_CHECKED
 uint64_t potirehu_station_fluxes(const int32_t *whole, size_t n_whole, double *numbers, size_t n_numbers, double f107a, double f107);
 
 /* Moves the station: sec, lst and g_long in one change, in the same way, so that it is never of two times or places at once; refused, all three stay. What
-   has no change, doy, g_lat, ap and the history, is prepared anew; that takes as long as a change. */
+   has no change, doy, g_lat, ap and the history, is prepared anew; that takes as long as a change (docs/FIGURES.md). */
 POTIREHU_CHECKED
 uint64_t potirehu_station_move(const int32_t *whole, uint64_t n_whole, double *numbers, uint64_t n_numbers, double sec, double lst, double g_long);
 

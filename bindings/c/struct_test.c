@@ -55,11 +55,12 @@ static void one_altitude(const struct both *b) {
     answer = potirehu_struct_gtd7(&b->record, &b->switches, &named);
     same("gtd7", bare, answer.number, answer.place, row, &named, sizeof row);
     /* the row's members are its numbers */
-    if (!answer.number && (memcmp(&named.he, row, 8) || memcmp(&named.o, row + 1, 8) || memcmp(&named.n2, row + 2, 8) || memcmp(&named.o2, row + 3, 8) ||
-                           memcmp(&named.ar, row + 4, 8) || memcmp(&named.density, row + POTIREHU_ROW_DENSITY, 8) || memcmp(&named.h, row + 6, 8) ||
-                           memcmp(&named.n, row + 7, 8) || memcmp(&named.anomalous_o, row + 8, 8) || memcmp(&named.temperature_exo, row + 9, 8) ||
-                           memcmp(&named.temperature_alt, row + 10, 8)))
-        same("row", 0, 1, 1, row, row, 8);
+    const double *const members[11] = {&named.he, &named.o, &named.n2, &named.o2, &named.ar, &named.density, &named.h, &named.n, &named.anomalous_o,
+                                       &named.temperature_exo, &named.temperature_alt};
+    const int numbers[11] = {POTIREHU_ROW_HE, POTIREHU_ROW_O, POTIREHU_ROW_N2, POTIREHU_ROW_O2, POTIREHU_ROW_AR, POTIREHU_ROW_DENSITY, POTIREHU_ROW_H,
+                             POTIREHU_ROW_N, POTIREHU_ROW_ANOMALOUS_O, POTIREHU_ROW_TEMPERATURE_EXO, POTIREHU_ROW_TEMPERATURE_ALT};
+    for (int i = 0; i < 11 && !answer.number; i++)
+        if (numbers[i] != i || memcmp(members[i], row + i, sizeof *row)) same("a member of the row", 0, 1, 1, row, row, 8);
 
     fill(row, &named, sizeof row);
     bare = potirehu_gtd7d(SLICES(b), ROW(b), row, 11);
@@ -182,6 +183,22 @@ static void station(const struct both *b, const struct both *next) {
     HELD("station_switches");
 }
 
+/* A station of zeros: no altitude, 3 at doy; a NaN as altitude comes first. */
+static void never_prepared(void) {
+    static struct potirehu_prepared zeros;
+    const uint64_t no_day = ((uint64_t)POTIREHU_OUT_OF_DOMAIN << 32) + POTIREHU_FIELD_DOY;
+    const uint64_t no_altitude = ((uint64_t)POTIREHU_NON_FINITE_INPUT << 32) + POTIREHU_FIELD_ALT;
+    struct potirehu_row row, kept;
+    struct potirehu_answer answer;
+    fill(&row, &kept, sizeof row);
+    answer = potirehu_struct_station_gtd7(&zeros, 400.0, &row);
+    same("station_gtd7, never prepared", no_day, answer.number, answer.place, &row, &kept, sizeof row);
+    answer = potirehu_struct_station_gtd7d(&zeros, 2501.0, &row);
+    same("station_gtd7d, never prepared", no_day, answer.number, answer.place, &row, &kept, sizeof row);
+    answer = potirehu_struct_station_gtd7(&zeros, NAN, &row);
+    same("station_gtd7, no altitude", no_altitude, answer.number, answer.place, &row, &kept, sizeof row);
+}
+
 static void descent(const struct both *b, int64_t start) {
     int32_t settings[ORBITS];
     int64_t losses[ORBITS], other_losses[ORBITS], end[3];
@@ -297,6 +314,7 @@ int main(void) {
         }
     }
     logs();
+    never_prepared();
     printf("struct_test: %lu calls held against each other, 0 differ\n", calls);
     return 0;
 }

@@ -77,6 +77,18 @@ fn every_kind_has_its_name_and_number_in_the_header() {
     assert_eq!((kinds.len(), enumerators.matches(" POTIREHU_").count()), (19, 19));
 }
 
+// The fields with the altitudes behind them, the row's numbers and the switches are counted from 0, none left out.
+#[test]
+fn places_rows_and_switches_are_counted_from_0() {
+    for (name, count) in [("field", 18), ("row_number", 11), ("switch", 24)] {
+        let header = header();
+        let enumerators = header.split_once(&format!("enum potirehu_{name} {{")).unwrap().1.split_once("};").unwrap().0;
+        let number = |text: &str| text.chars().take_while(char::is_ascii_digit).collect::<String>().parse::<usize>().unwrap();
+        let numbers: Vec<usize> = enumerators.split(" = ").skip(1).map(number).collect();
+        assert_eq!(numbers, (0..count).collect::<Vec<_>>());
+    }
+}
+
 #[test]
 fn every_length_is_the_headers() {
     for (macro_name, name) in [
