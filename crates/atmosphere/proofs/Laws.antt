@@ -10,7 +10,7 @@ use lib.ListN.{length}
 use lib.Ieee.{Float, eq, ofBits}
 use Rattle.numbers.specs.Literals.{0·0}
 use Rattle.setting.specs.declared.Input.{Input}
-use Rattle.setting.specs.View.{viewOf}
+use Rattle.views.specs.View.{viewOf}
 use Rattle.expansion_values.specs.declared.RecordValues.{RecordValues}
 use Rattle.needed_sets.specs.NeededSets.{needAt}
 use Rattle.expansion_values.specs.ExpansionValues.{recordValuesOf}

@@ -14,7 +14,7 @@ use Rattle.setting.specs.declared.Input.{Input}
 use Rattle.setting.specs.declared.State.{State}
 use Rattle.setting.specs.declared.View.{View}
 use Rattle.setting.specs.State.{freshOf}
-use Rattle.setting.specs.View.{viewOf}
+use Rattle.views.specs.View.{viewOf}
 use Rattle.plan.specs.Fields.{setGravity, setDd}
 use Rattle.plan.specs.Plan.{Plan, done, ask, keep, either, _>>=_, _>>_, run, told, answerTo}
 use Rattle.plan.specs.declared.ExpansionValues.{ExpansionValues}

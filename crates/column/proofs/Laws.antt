@@ -13,7 +13,7 @@ use lib.Ieee.{Float, nan}
 use Rattle.numbers.specs.Arithmetic.{_‼_}
 use Rattle.numbers.specs.Literals.{0·0}
 use Rattle.setting.specs.declared.Input.{Input}
-use Rattle.setting.specs.View.{viewOf}
+use Rattle.views.specs.View.{viewOf}
 use Rattle.gts7_arithmetic.specs.declared.Site.{Site}
 use Rattle.gts7_arithmetic.specs.Gts7Arithmetic.{siteOf}
 use Rattle.acceptance.specs.declared.Answer.the-variants.{Accepted}

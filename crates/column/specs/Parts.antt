@@ -3,7 +3,7 @@ use mathlib.Core.List.{List, [], _∷_, _++_}
 use lib.IntN.{ℤ}
 use lib.Ieee.{Float}
 use Rattle.setting.specs.declared.Input.{Input}
-use Rattle.setting.specs.View.{viewOf}
+use Rattle.views.specs.View.{viewOf}
 use Rattle.gts7_arithmetic.specs.Gts7Arithmetic.{siteOf}
 use Rattle.expansion_values.specs.ExpansionValues.{expansionValuesOf}
 use Rattle.stored.specs.Stored.{needOf, storedOf, rowStored}

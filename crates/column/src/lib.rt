@@ -3,7 +3,7 @@ ghost use mathlib.Core.Path.{_≡_};
 ghost use mathlib.Core.List.{_++_};
 ghost use Prim.Native.Nat.{_*_, _≤_};
 ghost use lib.ListN.{length, take, drop};
-ghost use Rattle.setting.specs.View.{viewOf};
+ghost use Rattle.views.specs.View.{viewOf};
 ghost use Rattle.acceptance.specs.declared.Answer.the-variants.{Accepted};
 ghost use Rattle.altitudes.specs.Altitudes.{altitudesFrom, columnAnswer};
 ghost use Rattle.column.specs.Column.{columnAfter, columnRows};

@@ -11,7 +11,7 @@ use Rattle.setting.specs.declared.Input.{Input}
 use Rattle.setting.specs.declared.State.{State}
 use Rattle.setting.specs.declared.View.{View}
 use Rattle.setting.specs.State.{freshOf}
-use Rattle.setting.specs.View.{viewOf}
+use Rattle.views.specs.View.{viewOf}
 use Rattle.plan.specs.Fields.{fieldsOf, withFields, setGravity, setDd}
 use Rattle.plan.specs.Plan.{Plan, done, keep, either, _>>=_, Ran, run, run->>=}
 use Rattle.gts7_arithmetic.specs.declared.Site.{Site}

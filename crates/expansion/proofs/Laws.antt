@@ -8,7 +8,7 @@ use Rattle.numbers.specs.Arithmetic.{_⊗_, _‼_}
 use Rattle.numbers.specs.Literals.{0·0}
 use Rattle.setting.specs.declared.State.{State}
 use Rattle.setting.specs.declared.View.{View}
-use Rattle.setting.specs.declared.views.Turns.{Turns}
+use Rattle.views.specs.declared.Turns.{Turns}
 use Rattle.expansion_parts.specs.declared.Seasons.{Seasons}
 use Rattle.expansion.specs.declared.FirstTerms.{FirstTerms}
 use Rattle.expansion.specs.declared.Carried.{Carried}

@@ -15,7 +15,7 @@ use Rattle.terms.specs.Terms.{t0Of, f1Of, f2Of, t1Of, t3Of, t4Of, t5Of, t1sOf, 
 use Rattle.legendre.specs.Legendre.{legendreOf, flatOf, rowsOf}
 use Rattle.activity.specs.Activity.{apdfNextOf, aptNextOf}
 use Rattle.expansion_parts.specs.ExpansionParts.{dayCosinesOf, t6Of, t7Of, t13Of, t8Of, t10Of, t11Of, t12Of, weightedOf, t8sOf, t10sOf, t6sOf, t7sOf, t13sOf}
-use Rattle.setting.specs.declared.views.Turns.{Turns}
+use Rattle.views.specs.declared.Turns.{Turns}
 
 -- t[0] to t[5] of globe7
 unfoldable pub firstTermsOf : View → List Float → List (List Float) → Seasons → FirstTerms

@@ -2,7 +2,7 @@
 ghost use mathlib.Core.Path.{_≡_};
 ghost use Prim.Native.Nat.{_≤_};
 ghost use lib.ListN.{length};
-ghost use Rattle.setting.specs.Shared.{Shared};
+ghost use Rattle.views.specs.Shared.{Shared};
 ghost use Rattle.expansion.specs.Expansion.{firstTermsOf, carriedOf, globe7Value, turnsAfterOf, stateAfter, globe7Of, glob7sValue, glob7sFrom, glob7sOf};
 use activity::apdf_next;
 use activity::apt_next;
@@ -28,7 +28,6 @@ use numbers::pick;
 use setting::State;
 use setting::Valued;
 use setting::View;
-use setting::views::Turns;
 use terms::f1;
 use terms::f2;
 use terms::t0;
@@ -40,6 +39,7 @@ use terms::t3s;
 use terms::t4;
 use terms::t4s;
 use terms::t5;
+use views::Turns;
 
 // t[0] to t[5] of globe7.
 pub struct FirstTerms {

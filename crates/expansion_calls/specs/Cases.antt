@@ -13,7 +13,7 @@ use Rattle.numbers.specs.Literals.{0·0, 1·0, 2·0}
 use Rattle.setting.specs.declared.State.{State}
 use Rattle.setting.specs.declared.View.{View}
 use Rattle.setting.specs.declared.Input.{Input}
-use Rattle.setting.specs.View.{viewOf}
+use Rattle.views.specs.View.{viewOf}
 use Rattle.legendre.specs.Legendre.{rowsOf}
 use Rattle.expansion.specs.Expansion.{carriedOf, glob7sValue, glob7sFrom, glob7sOf}
 use Rattle.expansion_calls.specs.ExpansionCalls.{acceptedCall, glob7sCallOf}

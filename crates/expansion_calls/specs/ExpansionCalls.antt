@@ -9,7 +9,7 @@ use lib.Ieee.{Float}
 use Rattle.numbers.specs.Literals.{0·0}
 use Rattle.setting.specs.declared.State.{State}
 use Rattle.setting.specs.declared.Input.{Input}
-use Rattle.setting.specs.View.{viewOf}
+use Rattle.views.specs.View.{viewOf}
 use Rattle.setting.specs.ApHistory.{lacksHistoryOf}
 use Rattle.expansion.specs.Expansion.{globe7Of, glob7sOf}
 use Rattle.expansion_calls.specs.declared.Expanded.{Expanded}

@@ -4,7 +4,7 @@ ghost use Rattle.expansion_calls.specs.ExpansionCalls.{globe7CallOf, glo
 use setting::Input;
 use setting::State;
 use setting::ap_history::lacks_history;
-use setting::views::view_of;
+use views::view_of;
 
 // What an expansion's call gives: refused is document 01's number with its place, or 0 and 0 where the call is accepted.
 // A refused call gives the value 0 and the State that it was given.

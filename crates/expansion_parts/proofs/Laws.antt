@@ -7,7 +7,7 @@ use Rattle.numbers.specs.Arithmetic.{_⊕_, _⊗_, _‼_}
 use Rattle.numbers.specs.Literals.{0·0, 1000·0}
 use Rattle.setting.specs.declared.View.{View}
 use Rattle.terms.specs.Terms.{seasonSOf, longCosSOf, longSinSOf}
-use Rattle.setting.specs.Phases.{annualCosOf, semiannualCosOf}
+use Rattle.views.specs.Phases.{annualCosOf, semiannualCosOf}
 use Rattle.expansion_parts.specs.ExpansionParts.{t10sOf}
 
 pub t10s-law : (v : View) (p : List Float) (g : List (List Float))

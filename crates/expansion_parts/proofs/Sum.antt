@@ -4,7 +4,7 @@ use mathlib.Core.List.{List}
 use lib.Ieee.{Float}
 use Rattle.numbers.specs.Arithmetic.{_⊕_, _⊗_, _‼_}
 use Rattle.numbers.specs.Tests.{absOf}
-use Rattle.setting.specs.Shared.{OwnSize}
+use Rattle.views.specs.Shared.{OwnSize}
 use Rattle.expansion_parts.specs.ExpansionParts.{weightedFrom, weightedOf}
 
 pub weighted-law : (first : Float) (sw t : List Float) (nine : Float) → OwnSize sw → nine ≡ absOf (sw ‼ 9)

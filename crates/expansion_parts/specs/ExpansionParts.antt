@@ -7,7 +7,7 @@ use Rattle.numbers.specs.Arithmetic.{_⊕_, _⊗_, _‼_}
 use Rattle.numbers.specs.Literals.{0·0, 1000·0, 1·0}
 use Rattle.numbers.specs.Tests.{absOf}
 use Rattle.setting.specs.declared.View.{View}
-use Rattle.setting.specs.Phases.{annualCosOf, semiannualCosOf, localCosOf, utCosOf, utLongCosOf, longPhaseCosOf}
+use Rattle.views.specs.Phases.{annualCosOf, semiannualCosOf, localCosOf, utCosOf, utLongCosOf, longPhaseCosOf}
 use Rattle.expansion_parts.specs.declared.Seasons.{Seasons}
 use Rattle.terms.specs.Terms.{fluxFactorOf, diurnalOf, semidiurnalOf, terdiurnalOf, localTimePartOf, activityTermOf, longCosOf, longSinOf, utMeanOf, utLongOf, activityLongOf, activityAnnualOf, activityUtOf, diurnalSOf, semidiurnalSOf, terdiurnalSOf, dailySOf, historySOf, seasonSOf, longCosSOf, longSinSOf}
 

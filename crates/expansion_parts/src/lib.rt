@@ -2,19 +2,13 @@
 ghost use mathlib.Core.Path.{_≡_};
 ghost use Prim.Native.Nat.{_≤_};
 ghost use lib.ListN.{length};
-ghost use Rattle.setting.specs.Phases.{annualCosOf, semiannualCosOf, localCosOf, utCosOf, utLongCosOf, longPhaseCosOf};
+ghost use Rattle.views.specs.Phases.{annualCosOf, semiannualCosOf, localCosOf, utCosOf, utLongCosOf, longPhaseCosOf};
 ghost use Rattle.numbers.specs.Literals.{0·0};
-ghost use Rattle.setting.specs.Shared.{OwnSize, Shared};
+ghost use Rattle.views.specs.Shared.{OwnSize, Shared};
 ghost use Rattle.expansion_parts.specs.ExpansionParts.{dayCosinesAt, hasLongitudeOf, t6Of, t7Of, t13Of, history8Of, daily8Of, t8Of, t10Of, t11Of, history12Of, daily12Of, t12Of, weightedOf, t8sOf, t10sOf, t6sOf, t7sOf, t13sOf};
 use numbers::abs;
 use numbers::plus_zero;
 use setting::View;
-use setting::phases::annual_cos;
-use setting::phases::local_cos;
-use setting::phases::long_phase_cos;
-use setting::phases::semiannual_cos;
-use setting::phases::ut_cos;
-use setting::phases::ut_long_cos;
 use terms::activity_annual;
 use terms::activity_long;
 use terms::activity_term;
@@ -36,6 +30,12 @@ use terms::terdiurnal;
 use terms::terdiurnal_s;
 use terms::ut_long;
 use terms::ut_mean;
+use views::phases::annual_cos;
+use views::phases::local_cos;
+use views::phases::long_phase_cos;
+use views::phases::semiannual_cos;
+use views::phases::ut_cos;
+use views::phases::ut_long_cos;
 
 // The four cosines of the day that an expansion reads.
 pub struct Seasons {

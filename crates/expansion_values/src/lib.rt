@@ -5,7 +5,7 @@ ghost use mathlib.Core.Bool.{true, cond};
 ghost use lib.ListN.{length};
 ghost use Rattle.numbers.specs.Literals.{0·0};
 ghost use Rattle.tables.specs.Tables.{ptT, pdT0, pdT1, pdT3, pdT7, pdT8};
-ghost use Rattle.setting.specs.Shared.{Shared};
+ghost use Rattle.views.specs.Shared.{Shared};
 ghost use Rattle.expansion.specs.Expansion.{globe7Value, glob7sFrom};
 ghost use Rattle.numbers.specs.Arithmetic.{_‼_};
 ghost use Rattle.needed_sets.specs.NeededSets.{glob7sEnd};
@@ -30,7 +30,6 @@ use plan::ExpansionValues;
 use setting::Input;
 use setting::View;
 use setting::fresh;
-use setting::views::view_of;
 use tables::pd0;
 use tables::pd1;
 use tables::pd2;
@@ -56,6 +55,7 @@ use tables::ptl0;
 use tables::ptl1;
 use tables::ptl2;
 use tables::ptl3;
+use views::view_of;
 
 // What State carries before a set's magnetic activity.
 pub fn quiet(v: View) -> Carried

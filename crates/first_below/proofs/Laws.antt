@@ -16,7 +16,7 @@ use Rattle.setting.specs.declared.Input.{Input}
 use Rattle.setting.specs.declared.View.{View}
 use Rattle.setting.specs.declared.Flags.{Flags}
 use Rattle.setting.specs.Switches.{flagsOf}
-use Rattle.setting.specs.View.{viewOf}
+use Rattle.views.specs.View.{viewOf}
 use Rattle.acceptance.specs.declared.Answer.{Answer}
 use Rattle.acceptance.specs.declared.Answer.the-variants.{Accepted, Refused}
 use Rattle.acceptance.specs.Acceptance.{acceptedOf, withAltOf}

@@ -13,7 +13,7 @@ use Rattle.setting.specs.declared.Input.{Input}
 use Rattle.setting.specs.declared.View.{View}
 use Rattle.setting.specs.Switches.{given, isOne, onOff, filled, swOf}
 use Rattle.setting.specs.State.{freshOf}
-use Rattle.setting.specs.View.{viewOf}
+use Rattle.views.specs.View.{viewOf}
 use Rattle.parameters.specs.Parameters.{presentOf}
 use Rattle.parameters.specs.declared.Parameters.{Parameters}
 use Rattle.mixing_limits.specs.Limits.{mixedAt}

@@ -3,7 +3,7 @@
 ghost use mathlib.Core.Path.{_≡_};
 ghost use Rattle.elementary.specs.Root.{sqrtOf};
 ghost use Rattle.numbers.specs.Arithmetic.{_⊗_};
-ghost use Rattle.setting.specs.Shared.{Shared};
+ghost use Rattle.views.specs.Shared.{Shared};
 ghost use Rattle.setting.specs.State.{freshOf};
 ghost use Rattle.plan.specs.Fields.{fieldsOf, withFields};
 ghost use Rattle.plan.specs.Plan.{ends, answerTo, stepped, run};

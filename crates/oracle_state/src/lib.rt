@@ -15,7 +15,7 @@ use model_state::gtd7_from_fresh;
 use numbers::pick;
 use setting::Input;
 use setting::State;
-use setting::views::view_of;
+use views::view_of;
 
 // The first thirty numbers of State: ten fields, then the nodes.
 pub fn nodes(s: State) -> [f64; 30]

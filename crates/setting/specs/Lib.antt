@@ -2,8 +2,5 @@
 pub mod Switches
 pub mod Entries
 pub mod State
-pub mod Phases
-pub mod View
-pub mod Shared
 pub mod Cases
 pub mod ApHistory

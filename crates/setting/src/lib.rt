@@ -1,11 +1,9 @@
-// What a call works out once: the switch row as numbers, the record, the State, and the View that every expansion reads.
+// The switch row as numbers, the record, the State, and the fields of the View that every expansion reads.
 ghost use mathlib.Core.Path.{_≡_};
 ghost use Rattle.setting.specs.State.{freshOf};
 
 pub mod ap_history;
-pub mod phases;
 pub mod switches;
-pub mod views;
 
 // The switch row as numbers: main effects and cross effects.
 pub struct Flags {

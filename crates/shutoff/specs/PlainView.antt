@@ -12,8 +12,8 @@ use Rattle.elementary.specs.Pow.{powOf}
 use Rattle.setting.specs.declared.View.{View}
 use Rattle.setting.specs.declared.Input.{Input}
 use Rattle.setting.specs.Switches.{swAt, swcAt, filled, swOf, swcOf}
-use Rattle.setting.specs.Phases.{annualCosOf, semiannualCosOf, localCosOf, utCosOf, utLongCosOf, longPhaseCosOf}
-use Rattle.setting.specs.View.{turnedOf, plainOf, viewOf}
+use Rattle.views.specs.Phases.{annualCosOf, semiannualCosOf, localCosOf, utCosOf, utLongCosOf, longPhaseCosOf}
+use Rattle.views.specs.View.{turnedOf, plainOf, viewOf}
 
 abbrev row24 : (ℕ → Float) → List Float
 row24 f =

@@ -16,7 +16,7 @@ use Rattle.setting.specs.declared.Input.{Input}
 use Rattle.setting.specs.declared.State.{State}
 use Rattle.setting.specs.declared.View.{View}
 use Rattle.setting.specs.declared.Valued.{Valued}
-use Rattle.setting.specs.View.{viewOf}
+use Rattle.views.specs.View.{viewOf}
 use Rattle.setting.specs.ApHistory.{lacksHistoryOf}
 use Rattle.terms.specs.Terms.{t0Of, f1Of, f2Of, t1Of, t3Of, t4Of, t5Of, diurnalOf, semidiurnalOf, terdiurnalOf, longCosOf, longSinOf, utMeanOf, utLongOf}
 use Rattle.expansion_parts.specs.ExpansionParts.{dayCosinesOf, t6Of, t7Of, t13Of, history8Of, daily8Of, t8Of, t10Of, t11Of, history12Of, daily12Of, t12Of}

@@ -17,7 +17,7 @@ use Rattle.setting.specs.declared.View.{View}
 use Rattle.setting.specs.declared.History.{History}
 use Rattle.setting.specs.declared.History.the-variants.{Absent, Present}
 use Rattle.setting.specs.State.{freshOf}
-use Rattle.setting.specs.View.{viewOf}
+use Rattle.views.specs.View.{viewOf}
 use Rattle.setting.specs.Switches.{given}
 use Rattle.setting.specs.ApHistory.{isMinusOne, asksHistoryOf, absentOf, lacksHistoryOf}
 use Rattle.expansion.specs.Expansion.{globe7Of}

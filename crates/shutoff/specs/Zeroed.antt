@@ -16,7 +16,7 @@ use Rattle.setting.specs.declared.State.{State}
 use Rattle.setting.specs.declared.Input.{Input}
 use Rattle.setting.specs.declared.View.{View}
 use Rattle.setting.specs.State.{freshOf}
-use Rattle.setting.specs.Phases.{localCosOf}
+use Rattle.views.specs.Phases.{localCosOf}
 use Rattle.setting.specs.Switches.{given, isOne, aboveZero, onOff, swAt, swcAt}
 use Rattle.tables.specs.Tables.{pdlT0}
 use Rattle.tables.specs.Names.{Wide, Narrow, wide, narrow}

@@ -9,7 +9,7 @@ use lib.Seq.{take-at, drop-at, take-length}
 use lib.Ieee.{Float}
 use Rattle.setting.specs.declared.Input.{Input}
 use Rattle.setting.specs.Switches.{given, swOf, swcOf}
-use Rattle.setting.specs.View.{viewOf}
+use Rattle.views.specs.View.{viewOf}
 use Rattle.switch_rows.specs.Rows.{sameExpansions}
 use Rattle.switch_rows.specs.Same.{same-rows, outer-entries}
 use Rattle.expansion_values.specs.ExpansionValues.{expansionValuesOf}

@@ -19,7 +19,7 @@ use Rattle.setting.specs.declared.History.{History}
 use Rattle.setting.specs.declared.History.the-variants.{Absent, Present}
 use Rattle.setting.specs.ApHistory.{absentOf, lacksHistoryOf}
 use Rattle.setting.specs.Switches.{given, isOne, onOff, filled, swOf}
-use Rattle.setting.specs.View.{viewOf}
+use Rattle.views.specs.View.{viewOf}
 use Rattle.acceptance.specs.declared.Answer.{Answer}
 use Rattle.acceptance.specs.declared.Answer.the-variants.{Accepted, Refused}
 use Rattle.acceptance.specs.Acceptance.{withinOf, dayWithin, lowest, arrayUnfitOf, unfitOf, arrayOutsideOf, outsideOf, foundOf, judgedOf, acceptedOf, unmixedOf, recordAnswer, withAltOf}

@@ -7,7 +7,7 @@ use gts7_arithmetic::Site;
 use gts7_arithmetic::site_of;
 use plan::ExpansionValues;
 use setting::Input;
-use setting::views::day;
+use views::day;
 
 pub fn expansion_numbers(l: ExpansionValues) -> [f64; 25]
     ensures { λ r. ⌜ r ≡ expansionNumbers l ⌝ }

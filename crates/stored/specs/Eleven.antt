@@ -9,7 +9,7 @@ use Rattle.numbers.specs.Arithmetic.{_‼_}
 use Rattle.numbers.specs.Booleans.{or-left, or-right, and-both}
 use Rattle.numbers.specs.Literals.{72·5, 300·0, 2500·0}
 use Rattle.setting.specs.declared.Input.{Input}
-use Rattle.setting.specs.View.{turnedOf, viewOf}
+use Rattle.views.specs.View.{turnedOf, viewOf}
 use Rattle.acceptance.specs.Acceptance.{withAltOf}
 use Rattle.needed_sets.specs.declared.Need.{Need}
 use Rattle.needed_sets.specs.NeededSets.{needAt}

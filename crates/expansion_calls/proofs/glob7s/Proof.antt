@@ -2,7 +2,7 @@
 use borrow.Author.Tests.{ltb-false}
 use Rattle.numbers.specs.Booleans.{neither}
 use Rattle.expansion_calls.specs.ExpansionCalls.{glob7sCallOf}
-use Rattle.setting.specs.Shared.{shared}
+use Rattle.views.specs.Shared.{shared}
 use borrow.Author.Needs.{needs}
 use Rattle.expansion_calls.proofs.glob7s.Statement.{statement}
 use Rattle.expansion_calls.proofs.glob7s.Tie as tie

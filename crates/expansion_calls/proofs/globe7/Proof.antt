@@ -1,7 +1,7 @@
 -- `globe7` meets its contract.
 use borrow.Author.Tests.{eq-eqb, ne-eqb}
 use Rattle.expansion_calls.specs.ExpansionCalls.{globe7CallOf}
-use Rattle.setting.specs.Shared.{shared}
+use Rattle.views.specs.Shared.{shared}
 use borrow.Author.Needs.{needs}
 use Rattle.expansion_calls.proofs.globe7.Statement.{statement}
 use Rattle.expansion_calls.proofs.globe7.Tie as tie

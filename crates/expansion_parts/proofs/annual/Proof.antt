@@ -1,7 +1,7 @@
 -- `annual` meets its contract.
 use mathlib.Core.Path.{sym, _∙_, ap}
 use lib.Ieee.{Float}
-use Rattle.setting.specs.Phases.{annualCosOf}
+use Rattle.views.specs.Phases.{annualCosOf}
 use borrow.Author.Needs.{needs}
 use Rattle.expansion_parts.proofs.annual.Statement.{statement}
 use Rattle.expansion_parts.proofs.annual.Tie as tie

@@ -1,7 +1,7 @@
 -- `annual_at` meets its contract.
 use mathlib.Core.Path.{sym, _∙_, ap}
 use lib.Ieee.{Float}
-use Rattle.setting.specs.Phases.{annualCosOf}
+use Rattle.views.specs.Phases.{annualCosOf}
 use borrow.Author.Needs.{needs}
 use Rattle.expansion_parts.proofs.annual_at.Statement.{statement}
 use Rattle.expansion_parts.proofs.annual_at.Tie as tie

@@ -1,7 +1,7 @@
 -- `local` meets its contract.
 use mathlib.Core.Path.{sym, _∙_, ap}
 use lib.Ieee.{Float}
-use Rattle.setting.specs.Phases.{localCosOf}
+use Rattle.views.specs.Phases.{localCosOf}
 use borrow.Author.Needs.{needs}
 use Rattle.expansion_parts.proofs.local.Statement.{statement}
 use Rattle.expansion_parts.proofs.local.Tie as tie

@@ -1,7 +1,7 @@
 -- `long_phase` meets its contract.
 use mathlib.Core.Path.{sym, _∙_, ap}
 use lib.Ieee.{Float}
-use Rattle.setting.specs.Phases.{longPhaseCosOf}
+use Rattle.views.specs.Phases.{longPhaseCosOf}
 use borrow.Author.Needs.{needs}
 use Rattle.expansion_parts.proofs.long_phase.Statement.{statement}
 use Rattle.expansion_parts.proofs.long_phase.Tie as tie

@@ -1,7 +1,7 @@
 -- `semiannual_at` meets its contract.
 use mathlib.Core.Path.{sym, _∙_, ap}
 use lib.Ieee.{Float}
-use Rattle.setting.specs.Phases.{semiannualCosOf}
+use Rattle.views.specs.Phases.{semiannualCosOf}
 use borrow.Author.Needs.{needs}
 use Rattle.expansion_parts.proofs.semiannual_at.Statement.{statement}
 use Rattle.expansion_parts.proofs.semiannual_at.Tie as tie

@@ -1,7 +1,7 @@
 -- `ut` meets its contract.
 use mathlib.Core.Path.{sym, _∙_, ap}
 use lib.Ieee.{Float}
-use Rattle.setting.specs.Phases.{utCosOf}
+use Rattle.views.specs.Phases.{utCosOf}
 use borrow.Author.Needs.{needs}
 use Rattle.expansion_parts.proofs.ut.Statement.{statement}
 use Rattle.expansion_parts.proofs.ut.Tie as tie

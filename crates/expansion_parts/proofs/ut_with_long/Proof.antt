@@ -1,7 +1,7 @@
 -- `ut_with_long` meets its contract.
 use mathlib.Core.Path.{sym, _∙_, ap}
 use lib.Ieee.{Float}
-use Rattle.setting.specs.Phases.{utLongCosOf}
+use Rattle.views.specs.Phases.{utLongCosOf}
 use borrow.Author.Needs.{needs}
 use Rattle.expansion_parts.proofs.ut_with_long.Statement.{statement}
 use Rattle.expansion_parts.proofs.ut_with_long.Tie as tie

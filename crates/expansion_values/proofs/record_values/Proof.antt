@@ -1,5 +1,5 @@
 -- `record_values` meets its contract.
-use Rattle.setting.specs.Shared.{shared}
+use Rattle.views.specs.Shared.{shared}
 use Rattle.expansion_values.specs.ExpansionValues.{recordValuesOf}
 use borrow.Author.Needs.{needs}
 use Rattle.expansion_values.proofs.record_values.Statement.{statement}

@@ -11,7 +11,7 @@ use lib.ListN.{length}
 use lib.Ieee.{Float}
 use Rattle.numbers.specs.Arithmetic.{_‼_}
 use Rattle.setting.specs.declared.Input.{Input}
-use Rattle.setting.specs.View.{viewOf}
+use Rattle.views.specs.View.{viewOf}
 use Rattle.column.specs.Column.{columnRows}
 use Rattle.stored_parts.specs.declared.Parts.{Parts}
 use Rattle.stored_parts.specs.Parts.{servesOf}

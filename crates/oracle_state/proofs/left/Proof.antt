@@ -1,5 +1,5 @@
 -- `left` meets its contract.
-use Rattle.setting.specs.Shared.{shared}
+use Rattle.views.specs.Shared.{shared}
 use Rattle.oracle_state.proofs.Laws.{left-law}
 use borrow.Author.Needs.{needs}
 use Rattle.oracle_state.proofs.left.Statement.{statement}

@@ -1,8 +1,8 @@
 -- `semiannual_cos` meets its contract.
-use Rattle.setting.specs.Phases.{semiannualCosOf}
+use Rattle.views.specs.Phases.{semiannualCosOf}
 use borrow.Author.Needs.{needs}
-use Rattle.setting.proofs.phases.semiannual_cos.Statement.{statement}
-use Rattle.setting.proofs.phases.semiannual_cos.Tie as tie
+use Rattle.views.proofs.phases.semiannual_cos.Statement.{statement}
+use Rattle.views.proofs.phases.semiannual_cos.Tie as tie
 
 returns : tie.Need-returns
 unfolding semiannualCosOf

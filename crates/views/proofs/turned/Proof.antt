@@ -1,7 +1,7 @@
 -- `turned` meets its contract.
-use Rattle.setting.specs.View.{turnedOf}
-use Rattle.setting.proofs.views.turned.Statement.{statement}
-use Rattle.setting.proofs.views.turned.Tie as tie
+use Rattle.views.specs.View.{turnedOf}
+use Rattle.views.proofs.turned.Statement.{statement}
+use Rattle.views.proofs.turned.Tie as tie
 
 sin-requires : tie.Need-sin-requires
 sin-requires c κs = tt

@@ -1,11 +1,11 @@
 -- `view_of` meets its contract.
 use mathlib.Core.Path.{ap}
-use Rattle.setting.specs.declared.views.Turns.{Turns}
-use Rattle.setting.specs.View.{turnedOf, viewOf}
+use Rattle.views.specs.declared.Turns.{Turns}
+use Rattle.views.specs.View.{turnedOf, viewOf}
 use Rattle.setting.specs.Switches.{flagsOf}
 use borrow.Author.Needs.{needs}
-use Rattle.setting.proofs.views.view_of.Statement.{statement}
-use Rattle.setting.proofs.views.view_of.Tie as tie
+use Rattle.views.proofs.view_of.Statement.{statement}
+use Rattle.views.proofs.view_of.Tie as tie
 
 returns : tie.Need-returns
 unfolding viewOf flagsOf

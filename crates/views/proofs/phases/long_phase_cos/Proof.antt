@@ -1,8 +1,8 @@
 -- `long_phase_cos` meets its contract.
-use Rattle.setting.specs.Phases.{longPhaseCosOf}
+use Rattle.views.specs.Phases.{longPhaseCosOf}
 use borrow.Author.Needs.{needs}
-use Rattle.setting.proofs.phases.long_phase_cos.Statement.{statement}
-use Rattle.setting.proofs.phases.long_phase_cos.Tie as tie
+use Rattle.views.proofs.phases.long_phase_cos.Statement.{statement}
+use Rattle.views.proofs.phases.long_phase_cos.Tie as tie
 
 returns : tie.Need-returns
 unfolding longPhaseCosOf

@@ -1,8 +1,8 @@
 -- `annual_cos` meets its contract.
-use Rattle.setting.specs.Phases.{annualCosOf}
+use Rattle.views.specs.Phases.{annualCosOf}
 use borrow.Author.Needs.{needs}
-use Rattle.setting.proofs.phases.annual_cos.Statement.{statement}
-use Rattle.setting.proofs.phases.annual_cos.Tie as tie
+use Rattle.views.proofs.phases.annual_cos.Statement.{statement}
+use Rattle.views.proofs.phases.annual_cos.Tie as tie
 
 returns : tie.Need-returns
 unfolding annualCosOf

@@ -1,23 +1,26 @@
-// The View of a row and a record.
+// The View of a row and a record, and the cosines with a phase that the expansions read.
 ghost use mathlib.Core.Path.{_≡_};
 ghost use lib.Ieee.{binary64, ofInt};
 ghost use Rattle.numbers.specs.Arithmetic.{_⊗_};
 ghost use Rattle.numbers.specs.Constants.{dgtr, hr};
 ghost use Rattle.elementary.specs.Trig.{cosOf};
-ghost use Rattle.setting.specs.View.{turnedOf, plainOf, viewOf};
-use super::Input;
-use super::View;
-use super::phases::annual_cos;
-use super::phases::cos_again;
-use super::phases::semiannual_cos;
-use super::phases::ut_cos;
-use super::phases::ut_long_cos;
-use super::switches::tselec;
+ghost use Rattle.views.specs.View.{turnedOf, plainOf, viewOf};
+
+pub mod phases;
+
+use crate::phases::annual_cos;
+use crate::phases::cos_again;
+use crate::phases::semiannual_cos;
+use crate::phases::ut_cos;
+use crate::phases::ut_long_cos;
 use elementary::power::pow;
 use elementary::trigonometry::cos;
 use elementary::trigonometry::sin;
 use numbers::DGTR;
 use numbers::HR;
+use setting::Input;
+use setting::View;
+use setting::switches::tselec;
 
 // The sines and cosines of local time, once, twice and three times a day.
 pub struct Turns {

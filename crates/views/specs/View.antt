@@ -7,12 +7,12 @@ use Rattle.numbers.specs.Literals.{0·0, 2·0, 3·0, 150·0}
 use Rattle.numbers.specs.Constants.{dgtr, hr}
 use Rattle.elementary.specs.Trig.{sinOf, cosOf}
 use Rattle.elementary.specs.Pow.{powOf}
 use Rattle.setting.specs.declared.Input.{Input}
 use Rattle.setting.specs.declared.View.{View}
-use Rattle.setting.specs.declared.views.Turns.{Turns}
-use Rattle.setting.specs.declared.views.Plain.{Plain}
-use Rattle.setting.specs.Phases.{annualCosOf, semiannualCosOf, localCosOf, utCosOf, utLongCosOf, longPhaseCosOf}
+use Rattle.views.specs.declared.Turns.{Turns}
+use Rattle.views.specs.declared.Plain.{Plain}
+use Rattle.views.specs.Phases.{annualCosOf, semiannualCosOf, localCosOf, utCosOf, utLongCosOf, longPhaseCosOf}
 use Rattle.setting.specs.Switches.{swOf, swcOf}
 
 -- stloc to c3tloc of globe7
 unfoldable pub turnedOf : Float → Turns

@@ -1,8 +1,8 @@
 -- `ut_long_cos` meets its contract.
-use Rattle.setting.specs.Phases.{utLongCosOf}
+use Rattle.views.specs.Phases.{utLongCosOf}
 use borrow.Author.Needs.{needs}
-use Rattle.setting.proofs.phases.ut_long_cos.Statement.{statement}
-use Rattle.setting.proofs.phases.ut_long_cos.Tie as tie
+use Rattle.views.proofs.phases.ut_long_cos.Statement.{statement}
+use Rattle.views.proofs.phases.ut_long_cos.Tie as tie
 
 returns : tie.Need-returns
 unfolding utLongCosOf

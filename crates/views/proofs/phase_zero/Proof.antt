@@ -1,9 +1,9 @@
 -- `phase_zero` meets its contract.
-use Rattle.setting.specs.Phases.{localCosOf, longPhaseCosOf}
-use Rattle.setting.specs.View.{plainOf}
+use Rattle.views.specs.Phases.{localCosOf, longPhaseCosOf}
+use Rattle.views.specs.View.{plainOf}
 use borrow.Author.Needs.{needs}
-use Rattle.setting.proofs.views.phase_zero.Statement.{statement}
-use Rattle.setting.proofs.views.phase_zero.Tie as tie
+use Rattle.views.proofs.phase_zero.Statement.{statement}
+use Rattle.views.proofs.phase_zero.Tie as tie
 
 returns : tie.Need-returns
 unfolding plainOf localCosOf longPhaseCosOf

@@ -8,11 +8,11 @@ use lib.Ieee.{Float, lt, eq, ofBits}
 use Rattle.numbers.specs.Arithmetic.{_‼_}
 use Rattle.numbers.specs.Literals.{0·0}
 use Rattle.numbers.specs.Tests.{absOf}
 use Rattle.setting.specs.declared.Input.{Input}
 use Rattle.setting.specs.declared.View.{View}
-use Rattle.setting.specs.Phases.{annualCosOf, semiannualCosOf, localCosOf, utCosOf, utLongCosOf, longPhaseCosOf}
+use Rattle.views.specs.Phases.{annualCosOf, semiannualCosOf, localCosOf, utCosOf, utLongCosOf, longPhaseCosOf}
 use Rattle.setting.specs.Switches.{given, isOne, onOff, filled, swOf}
-use Rattle.setting.specs.View.{plainOf, viewOf}
+use Rattle.views.specs.View.{plainOf, viewOf}
 
 -- the main effects that weigh the terms, entry 9 apart
 abbrev pub OwnSize : List Float → Type 0

@@ -1,7 +1,7 @@
 // The cosines with a phase that the expansions read.
 ghost use mathlib.Core.Path.{_≡_};
 ghost use Rattle.elementary.specs.Trig.{cosOf};
-ghost use Rattle.setting.specs.Phases.{annualCosOf, semiannualCosOf, localCosOf, utCosOf, utLongCosOf, longPhaseCosOf};
+ghost use Rattle.views.specs.Phases.{annualCosOf, semiannualCosOf, localCosOf, utCosOf, utLongCosOf, longPhaseCosOf};
 use elementary::trigonometry::cos;
 use numbers::DGTR;
 use numbers::DR;

@@ -1,8 +1,8 @@
 -- `local_cos` meets its contract.
-use Rattle.setting.specs.Phases.{localCosOf}
+use Rattle.views.specs.Phases.{localCosOf}
 use borrow.Author.Needs.{needs}
-use Rattle.setting.proofs.phases.local_cos.Statement.{statement}
-use Rattle.setting.proofs.phases.local_cos.Tie as tie
+use Rattle.views.proofs.phases.local_cos.Statement.{statement}
+use Rattle.views.proofs.phases.local_cos.Tie as tie
 
 returns : tie.Need-returns
 unfolding localCosOf

@@ -2,8 +2,8 @@
 use mathlib.Core.Path.{sym, _∙_, ap}
 use Rattle.elementary.specs.Trig.{cosOf}
 use borrow.Author.Needs.{needs}
-use Rattle.setting.proofs.phases.cos_again.Statement.{statement}
-use Rattle.setting.proofs.phases.cos_again.Tie as tie
+use Rattle.views.proofs.phases.cos_again.Statement.{statement}
+use Rattle.views.proofs.phases.cos_again.Tie as tie
 
 returns : tie.Need-returns
 returns c = c .before .before .pre ∙ ap cosOf (sym (c .before .same .ensures (c .if1 .taken)))

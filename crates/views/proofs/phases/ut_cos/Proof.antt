@@ -1,8 +1,8 @@
 -- `ut_cos` meets its contract.
-use Rattle.setting.specs.Phases.{utCosOf}
+use Rattle.views.specs.Phases.{utCosOf}
 use borrow.Author.Needs.{needs}
-use Rattle.setting.proofs.phases.ut_cos.Statement.{statement}
-use Rattle.setting.proofs.phases.ut_cos.Tie as tie
+use Rattle.views.proofs.phases.ut_cos.Statement.{statement}
+use Rattle.views.proofs.phases.ut_cos.Tie as tie
 
 returns : tie.Need-returns
 unfolding utCosOf
