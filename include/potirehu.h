@@ -1,5 +1,6 @@
-/* What libhost.a offers: NRLMSISE-00 at one altitude, also for drag, with constants of the caller's and for a record known in part, at a column of altitudes, where its density passes a level and where it is first thin enough, in bands of
-   switch rows, from a prepared station and orbit by orbit in a descent, two boards' logs held against each other, and the elementary functions it is built on. Nothing is kept between calls; only memcpy and memset are needed from
+/* What libhost.a offers: NRLMSISE-00 at one altitude, also for drag, with constants of the caller's and for a record known in part, at a column of altitudes,
+   where its density passes a level and where it is first thin enough, in bands of switch rows, from a prepared station and orbit by orbit in a descent, two
+   boards' logs held against each other, and the elementary functions it is built on. Nothing is kept between calls; only memcpy and memset are needed from
    outside. docs/RULES.md has every rule.
 
    An answer of 2^32 or more is a refusal: its number times 2^32 plus a place, which is cut to its lower 32 bits (only 18, of more than 2^32 settings, has a
@@ -209,10 +210,10 @@ uint64_t potirehu_gtd7_with(const double *nine, size_t n_nine, int32_t year, int
 POTIREHU_CHECKED
 uint64_t potirehu_counts(const int32_t *switches, uint64_t n_switches, int32_t *fields, uint64_t n_fields);
 
-/* potirehu_gtd7 for a record of which only some fields are known, as after a restart: bit k of known, 1u << POTIREHU_FIELD_.., says that field k is known,
-   k from 0, year, to 9, ap; higher bits are not looked at, and the history is known where it is there. A field that is not known is not looked at: anything may stand in
-   it, a NaN too, whether in year, doy or fields. Answers 0 and writes the row of the record with 0 in the fields that are not known, which is the row
-   of every accepted record that agrees in the known ones; or leaves row as it was and answers, after the lengths as potirehu_gtd7:
+/* potirehu_gtd7 for a record of which only some fields are known, as after a restart: bit k of known, 1u << POTIREHU_FIELD_.., says that field k is known, k
+   from 0, year, to 9, ap; higher bits are not looked at, and the history is known where it is there. A field that is not known is not looked at: anything may
+   stand in it, a NaN too, whether in year, doy or fields. Answers 0 and writes the row of the record with 0 in the fields that are not known, which is the
+   row of every accepted record that agrees in the known ones; or leaves row as it was and answers, after the lengths as potirehu_gtd7:
      2 at the lowest known field that is NaN or infinite;
      1 at the lowest field that counts under the row (potirehu_counts) and is not known, or at 10 as potirehu_gtd7;
      3 at the lowest known field that is out of range;
@@ -293,12 +294,12 @@ uint64_t potirehu_descent(int32_t year, int32_t doy, const double *fields, size_
    be copied and moved, and need not be given back. What is said here of a table holds for one that potirehu_bands gave. */
 #define POTIREHU_BANDS 1601
 
-/* Reads a text of bands into table, one a line: (band FROM TO (switches ..)), whole metres, FROM included and TO not, 24 switches, single spaces,
-   numbers with an optional minus and 1 to 9 digits, no leading zero, no -0; the bands, in line order, cover 0 to 2,500,000 with no gap or overlap, the last TO being
-   2,500,001, in at most 64 lines; the last may lack its newline. Answers 0; or leaves table as it was and answers 4 at the length needed; 11 at the
-   first line that is not a band, has FROM not below TO, ends past 2,500,001, or is the 65th; then, line by line, 12 at an overlap, FROM below the
-   last TO, 13 at a gap, FROM above it; 13 at one past the last line where the table ends short. Lines are counted from 1. n_text counts the text's bytes:
-   with a C string's closing NUL it is one too many, and its last line no band. */
+/* Reads a text of bands into table, one a line: (band FROM TO (switches ..)), whole metres, FROM included and TO not, 24 switches, single spaces, numbers
+   with an optional minus and 1 to 9 digits, no leading zero, no -0; the bands, in line order, cover 0 to 2,500,000 with no gap or overlap, the last TO being
+   2,500,001, in at most 64 lines; the last may lack its newline. Answers 0; or leaves table as it was and answers 4 at the length needed; 11 at the first
+   line that is not a band, has FROM not below TO, ends past 2,500,001, or is the 65th; then, line by line, 12 at an overlap, FROM below the last TO, 13 at a
+   gap, FROM above it; 13 at one past the last line where the table ends short. Lines are counted from 1. n_text counts the text's bytes: with a C string's
+   closing NUL it is one too many, and its last line no band. */
 POTIREHU_CHECKED
 uint64_t potirehu_bands(const uint8_t *text, size_t n_text, int32_t *table, size_t n_table);
 
