@@ -170,4 +170,5 @@ def main():
     print(f"{count} numbers have the bits of the Rust's literals, in the code and in the definitions")
 
 
-main()
+if __name__ == "__main__":
+    main()

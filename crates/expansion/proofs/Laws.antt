@@ -10,16 +10,17 @@ use Rattle.setting.specs.declared.State.{State}
 use Rattle.setting.specs.declared.View.{View}
 use Rattle.views.specs.declared.Turns.{Turns}
 use Rattle.expansion_parts.specs.declared.Seasons.{Seasons}
+use Rattle.expansion_parts.specs.declared.LongitudeSeasons.{LongitudeSeasons}
 use Rattle.expansion.specs.declared.FirstTerms.{FirstTerms}
 use Rattle.expansion.specs.declared.Carried.{Carried}
 use Rattle.terms.specs.Terms.{t0Of, f1Of, f2Of, t1Of, t3Of, t4Of, t5Of, t1sOf, t2sOf, t3sOf, t4sOf}
 use Rattle.legendre.specs.Legendre.{legendreOf, flatOf}
 use Rattle.activity.specs.Activity.{apdfNextOf, aptNextOf}
-use Rattle.expansion_parts.specs.ExpansionParts.{dayCosinesOf, t6Of, t7Of, t8Of, t10Of, t11Of, t12Of, t13Of, weightedOf, t6sOf, t7sOf, t8sOf, t10sOf, t13sOf}
-use Rattle.expansion.specs.Expansion.{firstTermsOf, globe7Value, turnsAfterOf, stateAfter, glob7sValue}
+use Rattle.expansion_parts.specs.ExpansionParts.{t6Of, t7Of, t8Of, t10Of, t11Of, t12Of, t13Of, weightedOf, t6sOf, t7sOf, t8sOf, t10sGiven, t13sOf}
+use Rattle.expansion.specs.Expansion.{firstTermsOf, globe7Given, turnsAfterOf, stateAfter, glob7sGiven}
 
-pub globe7-value-law : (v : View) (p : List Float) (g : List (List Float)) (s : Carried)
-    (x·end : Float) (x13 : Float) (x12 : Float) (x11 : Float) (x10 : Float) (x8 : Float) (x7 : Float) (x6 : Float) (fb : Float) (y : FirstTerms) (d : Seasons)
+pub globe7-value-law : (v : View) (p : List Float) (g : List (List Float)) (s : Carried) (d : Seasons)
+    (x·end : Float) (x13 : Float) (x12 : Float) (x11 : Float) (x10 : Float) (x8 : Float) (x7 : Float) (x6 : Float) (fb : Float) (y : FirstTerms)
     → x·end ≡ weightedOf (p ‼ 30) (v .sw) ((y .t0) ∷ (y .t1) ∷ (y .t2) ∷ (y .t3) ∷ (y .t4) ∷ (y .t5) ∷ x6 ∷ x7 ∷ x8 ∷ 0·0 ∷ x10 ∷ x11 ∷ x12 ∷ x13 ∷ [])
     → x13 ≡ t13Of p g ((v .sw) ‼ 14) fb (d .cd14) ((v .swc) ‼ 5) (s .c3tloc) (s .s3tloc)
     → x12 ≡ t12Of v p g (d .cd14) (s .apdf) (s .apt)
@@ -30,11 +31,10 @@ pub globe7-value-law : (v : View) (p : List Float) (g : List (List Float)) (s : 
     → x6 ≡ t6Of p g ((v .sw) ‼ 7) fb (d .cd14) ((v .swc) ‼ 5) (s .ctloc) (s .stloc)
     → fb ≡ f2Of p (v .df) (v .dfa) ((v .swc) ‼ 1)
     → y ≡ firstTermsOf v p g d
-    → d ≡ dayCosinesOf (v .doy) p
-    → _≡_ {A = Float} (x·end) (globe7Value v p g s)
-unfolding globe7Value
-globe7-value-law v p g s x·end x13 x12 x11 x10 x8 x7 x6 fb y d e0 e1 e2 e3 e4 e5 e6 e7 e8 e9 e10 =
-    simp (e0, e1, e2, e3, e4, e5, e6, e7, e8, e9, e10)
+    → _≡_ {A = Float} (x·end) (globe7Given v p g s d)
+unfolding globe7Given
+globe7-value-law v p g s d x·end x13 x12 x11 x10 x8 x7 x6 fb y e0 e1 e2 e3 e4 e5 e6 e7 e8 e9 =
+    simp (e0, e1, e2, e3, e4, e5, e6, e7, e8, e9)
 
 pub first-terms-law : (v : View) (p : List Float) (g : List (List Float)) (d : Seasons)
     (x5 : Float) (x4 : Float) (x3 : Float) (x1 : Float) (x0 : Float) (fa : Float)
@@ -49,11 +49,11 @@ unfolding firstTermsOf
 first-terms-law v p g d x5 x4 x3 x1 x0 fa e0 e1 e2 e3 e4 e5 =
     simp (e0, e1, e2, e3, e4, e5)
 
-pub glob7s-value-law : (v : View) (p : List Float) (g : List (List Float)) (s : Carried)
-    (x·end : Float) (x13 : Float) (x10 : Float) (x8 : Float) (x7 : Float) (x6 : Float) (x5 : Float) (x4 : Float) (x3 : Float) (x2 : Float) (x1 : Float) (d : Seasons)
+pub glob7s-value-law : (v : View) (p : List Float) (g : List (List Float)) (s : Carried) (d : Seasons) (e : LongitudeSeasons)
+    (x·end : Float) (x13 : Float) (x10 : Float) (x8 : Float) (x7 : Float) (x6 : Float) (x5 : Float) (x4 : Float) (x3 : Float) (x2 : Float) (x1 : Float)
     → x·end ≡ weightedOf 0·0 (v .sw) ((p ‼ 21 ⊗ s .dfa) ∷ x1 ∷ x2 ∷ x3 ∷ x4 ∷ x5 ∷ x6 ∷ x7 ∷ x8 ∷ 0·0 ∷ x10 ∷ 0·0 ∷ 0·0 ∷ x13 ∷ [])
     → x13 ≡ t13sOf p g ((v .sw) ‼ 14) (s .c3tloc) (s .s3tloc)
-    → x10 ≡ t10sOf v p g
+    → x10 ≡ t10sGiven v p g e
     → x8 ≡ t8sOf v p g (s .apdf) (s .apt)
     → x7 ≡ t7sOf p g ((v .sw) ‼ 8) (d .cd14) ((v .swc) ‼ 5) (s .c2tloc) (s .s2tloc)
     → x6 ≡ t6sOf p g ((v .sw) ‼ 7) (d .cd14) ((v .swc) ‼ 5) (s .ctloc) (s .stloc)
@@ -62,11 +62,10 @@ pub glob7s-value-law : (v : View) (p : List Float) (g : List (List Float)) (s : 
     → x3 ≡ t3sOf p g (d .cd18)
     → x2 ≡ t2sOf p g (d .cd32)
     → x1 ≡ t1sOf p g
-    → d ≡ dayCosinesOf (v .doy) p
-    → _≡_ {A = Float} (x·end) (glob7sValue v p g s)
-unfolding glob7sValue
-glob7s-value-law v p g s x·end x13 x10 x8 x7 x6 x5 x4 x3 x2 x1 d e0 e1 e2 e3 e4 e5 e6 e7 e8 e9 e10 e11 =
-    simp (e0, e1, e2, e3, e4, e5, e6, e7, e8, e9, e10, e11)
+    → _≡_ {A = Float} (x·end) (glob7sGiven v p g s d e)
+unfolding glob7sGiven
+glob7s-value-law v p g s d e x·end x13 x10 x8 x7 x6 x5 x4 x3 x2 x1 e0 e1 e2 e3 e4 e5 e6 e7 e8 e9 e10 =
+    simp (e0, e1, e2, e3, e4, e5, e6, e7, e8, e9, e10)
 
 pub after-law : (v : View) (p : List Float) (s : State)
     (apt : Float) (apdf : Float) (t : Turns) (q : List Float) (g : List (List Float))

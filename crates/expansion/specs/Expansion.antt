@@ -9,12 +9,13 @@ use Rattle.setting.specs.declared.State.{State}
 use Rattle.setting.specs.declared.View.{View}
 use Rattle.setting.specs.declared.Valued.{Valued}
 use Rattle.expansion_parts.specs.declared.Seasons.{Seasons}
+use Rattle.expansion_parts.specs.declared.LongitudeSeasons.{LongitudeSeasons}
 use Rattle.expansion.specs.declared.FirstTerms.{FirstTerms}
 use Rattle.expansion.specs.declared.Carried.{Carried}
 use Rattle.terms.specs.Terms.{t0Of, f1Of, f2Of, t1Of, t3Of, t4Of, t5Of, t1sOf, t2sOf, t3sOf, t4sOf}
 use Rattle.legendre.specs.Legendre.{legendreOf, flatOf, rowsOf}
 use Rattle.activity.specs.Activity.{apdfNextOf, aptNextOf}
-use Rattle.expansion_parts.specs.ExpansionParts.{dayCosinesOf, t6Of, t7Of, t13Of, t8Of, t10Of, t11Of, t12Of, weightedOf, t8sOf, t10sOf, t6sOf, t7sOf, t13sOf}
+use Rattle.expansion_parts.specs.ExpansionParts.{dayCosinesOf, longitudeCosinesOf, t6Of, t7Of, t13Of, t8Of, t10Of, t11Of, t12Of, weightedOf, t8sOf, t10sGiven, t6sOf, t7sOf, t13sOf}
 use Rattle.views.specs.declared.Turns.{Turns}
 
 -- t[0] to t[5] of globe7
@@ -45,10 +46,9 @@ carriedOf s =
       apt = s .apt ‼ 0;
     }
 
--- The value of globe7, from what the State after it carries
-unfoldable pub globe7Value : View → List Float → List (List Float) → Carried → Float
-globe7Value v p g s =
-    let d = dayCosinesOf (v .doy) p in
+-- The value of globe7, from what the State after it carries; d are its cosines of the day
+unfoldable pub globe7Given : View → List Float → List (List Float) → Carried → Seasons → Float
+globe7Given v p g s d =
     let y = firstTermsOf v p g d in
     let c5 = v .swc ‼ 5 in
     let fb = f2Of p (v .df) (v .dfa) (v .swc ‼ 1) in
@@ -60,6 +60,9 @@ globe7Value v p g s =
     t10Of v p g (d .cd14) ∷ t11Of v p g (d .cd14) ∷
     t12Of v p g (d .cd14) (s .apdf) (s .apt) ∷
     t13Of p g (v .sw ‼ 14) fb (d .cd14) c5 (s .c3tloc) (s .s3tloc) ∷ [])
+
+unfoldable pub globe7Value : View → List Float → List (List Float) → Carried → Float
+globe7Value v p g s = globe7Given v p g s (dayCosinesOf (v .doy) p)
 
 -- The sines of local time after globe7: new only where switch 7, 8 or 14 is on
 unfoldable pub turnsAfterOf : View → State → Turns
@@ -113,10 +116,9 @@ unfoldable pub globe7Of : View → List Float → State → Valued
 globe7Of v p s =
     let a = stateAfter v p s in record { value = globe7Value v p (rowsOf (a .plg)) (carriedOf a); state = a }
 
--- The value of glob7s
-unfoldable pub glob7sValue : View → List Float → List (List Float) → Carried → Float
-glob7sValue v p g s =
-    let d = dayCosinesOf (v .doy) p in
+-- The value of glob7s; d are its cosines of the day, e those of the longitude's term
+unfoldable pub glob7sGiven : View → List Float → List (List Float) → Carried → Seasons → LongitudeSeasons → Float
+glob7sGiven v p g s d e =
     weightedOf 0·0 (v .sw) (
     (p ‼ 21 ⊗ s .dfa) ∷
     t1sOf p g ∷
@@ -128,17 +130,20 @@ glob7sValue v p g s =
     t7sOf p g (v .sw ‼ 8) (d .cd14) (v .swc ‼ 5) (s .c2tloc) (s .s2tloc) ∷
     t8sOf v p g (s .apdf) (s .apt) ∷
     0·0 ∷
-    t10sOf v p g ∷
+    t10sGiven v p g e ∷
     0·0 ∷
     0·0 ∷
     t13sOf p g (v .sw ‼ 14) (s .c3tloc) (s .s3tloc) ∷ [])
 
 -- glob7s from what State carries
-unfoldable pub glob7sFrom : View → List Float → List (List Float) → Carried → Float
-glob7sFrom v p g s =
+unfoldable pub glob7sFromGiven : View → List Float → List (List Float) → Carried → Seasons → LongitudeSeasons → Float
+glob7sFromGiven v p g s d e =
     let p99 = cond (eq (p ‼ 99) 0·0) 2·0 (p ‼ 99) in
     cond (ne p99 2·0) (neg 1·0) (
-    glob7sValue v p g s)
+    glob7sGiven v p g s d e)
+
+unfoldable pub glob7sFrom : View → List Float → List (List Float) → Carried → Float
+glob7sFrom v p g s = glob7sFromGiven v p g s (dayCosinesOf (v .doy) p) (longitudeCosinesOf (v .doy) p)
 
 -- glob7s from a View
 unfoldable pub glob7sOf : View → List Float → State → Float

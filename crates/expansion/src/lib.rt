@@ -3,11 +3,13 @@ ghost use mathlib.Core.Path.{_≡_};
 ghost use Prim.Native.Nat.{_≤_};
 ghost use lib.ListN.{length};
 ghost use Rattle.views.specs.Shared.{Shared};
-ghost use Rattle.expansion.specs.Expansion.{firstTermsOf, carriedOf, globe7Value, turnsAfterOf, stateAfter, globe7Of, glob7sValue, glob7sFrom, glob7sOf};
+ghost use Rattle.expansion.specs.Expansion.{firstTermsOf, carriedOf, globe7Given, turnsAfterOf, stateAfter, globe7Of, glob7sGiven, glob7sFromGiven, glob7sOf};
 use activity::apdf_next;
 use activity::apt_next;
+use expansion_parts::LongitudeSeasons;
 use expansion_parts::Seasons;
 use expansion_parts::day_cosines;
+use expansion_parts::longitude_cosines;
 use expansion_parts::t6;
 use expansion_parts::t6s;
 use expansion_parts::t7;
@@ -101,20 +103,11 @@ pub fn first_terms(v: View, p: &[f64], g: [[f64; 9]; 4], d: Seasons) -> FirstTer
     }
 }
 
-// The value of globe7, from what the State after it carries.
-pub fn globe7_value(v: View, p: &[f64], g: [[f64; 9]; 4], s: Carried) -> f64
+// The value of globe7, from what the State after it carries and its cosines of the day.
+pub fn globe7_value(v: View, p: &[f64], g: [[f64; 9]; 4], s: Carried, d: Seasons) -> f64
     requires { ⌜ (length (now p) ≡ 150) × Shared v ⌝ }
-    ensures { λ r. ⌜ r ≡ globe7Value v (now (p .entry)) g s ⌝ }
+    ensures { λ r. ⌜ r ≡ globe7Given v (now (p .entry)) g s d ⌝ }
 {
-    let d = day_cosines(
-        v.doy,
-        v.cos_year,
-        v.cos_half_year,
-        p[31],
-        p[17],
-        p[13],
-        p[38],
-    );
     let y = first_terms(v, p, g, d);
     let fb = f2(p, v.df, v.dfa, v.swc[1]);
     let x6 = t6(p, g, v.sw[7], fb, d.cd14, v.swc[5], s.ctloc, s.stloc);
@@ -200,15 +193,6 @@ pub fn globe7(v: View, p: &[f64], s: State) -> Valued
     let q = a.plg;
     let g = rows(q);
     let c = carried_in(a);
-    let x = globe7_value(v, p, g, c);
-    Valued { value: x, state: a }
-}
-
-// The value of glob7s.
-pub fn glob7s_value(v: View, p: &[f64], g: [[f64; 9]; 4], s: Carried) -> f64
-    requires { ⌜ (100 ≤ length (now p)) × Shared v ⌝ }
-    ensures { λ r. ⌜ r ≡ glob7sValue v (now (p .entry)) g s ⌝ }
-{
     let d = day_cosines(
         v.doy,
         v.cos_year,
@@ -218,6 +202,22 @@ pub fn glob7s_value(v: View, p: &[f64], g: [[f64; 9]; 4], s: Carried) -> f64
         p[13],
         p[38],
     );
+    let x = globe7_value(v, p, g, c, d);
+    Valued { value: x, state: a }
+}
+
+// The value of glob7s, with its cosines of the day; e are those of the longitude's term.
+pub fn glob7s_value(
+    v: View,
+    p: &[f64],
+    g: [[f64; 9]; 4],
+    s: Carried,
+    d: Seasons,
+    e: LongitudeSeasons,
+) -> f64
+    requires { ⌜ (100 ≤ length (now p)) × Shared v ⌝ }
+    ensures { λ r. ⌜ r ≡ glob7sGiven v (now (p .entry)) g s d e ⌝ }
+{
     let x0 = p[21] * s.dfa;
     let x1 = t1s(p, g);
     let x2 = t2s(p, g, d.cd32);
@@ -227,7 +227,7 @@ pub fn glob7s_value(v: View, p: &[f64], g: [[f64; 9]; 4], s: Carried) -> f64
     let x6 = t6s(p, g, v.sw[7], d.cd14, v.swc[5], s.ctloc, s.stloc);
     let x7 = t7s(p, g, v.sw[8], d.cd14, v.swc[5], s.c2tloc, s.s2tloc);
     let x8 = t8s(v, p, g, s.apdf, s.apt);
-    let x10 = t10s(v, p, g);
+    let x10 = t10s(v, p, g, e);
     let x13 = t13s(p, g, v.sw[14], s.c3tloc, s.s3tloc);
     let t = [x0, x1, x2, x3, x4, x5, x6, x7, x8, 0.0, x10, 0.0, 0.0, x13];
     let a = v.sw;
@@ -235,15 +235,22 @@ pub fn glob7s_value(v: View, p: &[f64], g: [[f64; 9]; 4], s: Carried) -> f64
 }
 
 // glob7s from what State carries.
-pub fn glob7s_from(v: View, p: &[f64], g: [[f64; 9]; 4], s: Carried) -> f64
+pub fn glob7s_from(
+    v: View,
+    p: &[f64],
+    g: [[f64; 9]; 4],
+    s: Carried,
+    d: Seasons,
+    e: LongitudeSeasons,
+) -> f64
     requires { ⌜ (100 ≤ length (now p)) × Shared v ⌝ }
-    ensures { λ r. ⌜ r ≡ glob7sFrom v (now (p .entry)) g s ⌝ }
+    ensures { λ r. ⌜ r ≡ glob7sFromGiven v (now (p .entry)) g s d e ⌝ }
 {
     let p99 = pick(p[99] == 0.0, 2.0, p[99]);
     if p99 != 2.0 {
         return -1.0;
     }
-    glob7s_value(v, p, g, s)
+    glob7s_value(v, p, g, s, d, e)
 }
 
 // glob7s from a View.
@@ -254,5 +261,23 @@ pub fn glob7s(v: View, p: &[f64], s: State) -> f64
     let q = s.plg;
     let g = rows(q);
     let c = carried_in(s);
-    glob7s_from(v, p, g, c)
+    let d = day_cosines(
+        v.doy,
+        v.cos_year,
+        v.cos_half_year,
+        p[31],
+        p[17],
+        p[13],
+        p[38],
+    );
+    let e = longitude_cosines(
+        v.doy,
+        v.cos_year,
+        v.cos_half_year,
+        p[81],
+        p[86],
+        p[84],
+        p[88],
+    );
+    glob7s_from(v, p, g, c, d, e)
 }

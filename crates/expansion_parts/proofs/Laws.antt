@@ -7,20 +7,16 @@ use Rattle.numbers.specs.Arithmetic.{_⊕_, _⊗_, _‼_}
 use Rattle.numbers.specs.Literals.{0·0, 1000·0}
 use Rattle.setting.specs.declared.View.{View}
 use Rattle.terms.specs.Terms.{seasonSOf, longCosSOf, longSinSOf}
-use Rattle.views.specs.Phases.{annualCosOf, semiannualCosOf}
-use Rattle.expansion_parts.specs.ExpansionParts.{t10sOf}
+use Rattle.expansion_parts.specs.declared.LongitudeSeasons.{LongitudeSeasons}
+use Rattle.expansion_parts.specs.ExpansionParts.{t10sGiven}
 
 pub t10s-law : (v : View) (p : List Float) (g : List (List Float))
-    (d : Float) (b : Float) (a : Float) (y88 : Float) (y84 : Float) (y86 : Float) (y81 : Float)
+    (e : LongitudeSeasons) (d : Float) (b : Float) (a : Float)
     → d ≡ longSinSOf p g
     → b ≡ longCosSOf p g
-    → a ≡ seasonSOf p g ((v .swc) ‼ 3) ((v .swc) ‼ 4) ((v .swc) ‼ 5) ((v .swc) ‼ 6) y81 y86 y84 y88
-    → y88 ≡ semiannualCosOf (v .doy) (p ‼ 88)
-    → y84 ≡ annualCosOf (v .doy) (p ‼ 84)
-    → y86 ≡ semiannualCosOf (v .doy) (p ‼ 86)
-    → y81 ≡ annualCosOf (v .doy) (p ‼ 81)
+    → a ≡ seasonSOf p g ((v .swc) ‼ 3) ((v .swc) ‼ 4) ((v .swc) ‼ 5) ((v .swc) ‼ 6) (e .cd82) (e .cd87) (e .cd85) (e .cd89)
     → (((eq ((v .sw) ‼ 10) 0·0) || (eq ((v .sw) ‼ 11) 0·0)) || (le (v .«g_long») (neg 1000·0))) ≡ false
-    → _≡_ {A = Float} (a ⊗ (b ⊗ v .clong ⊕ d ⊗ v .slong)) (t10sOf v p g)
-unfolding t10sOf
-t10s-law v p g d b a y88 y84 y86 y81 e0 e1 e2 e3 e4 e5 e6 e7 =
-    simp (e0, e1, e2, e3, e4, e5, e6, e7)
+    → _≡_ {A = Float} (a ⊗ (b ⊗ v .clong ⊕ d ⊗ v .slong)) (t10sGiven v p g e)
+unfolding t10sGiven
+t10s-law v p g e d b a e0 e1 e2 e3 =
+    simp (e0, e1, e2, e3)

@@ -9,6 +9,7 @@ use Rattle.numbers.specs.Tests.{absOf}
 use Rattle.setting.specs.declared.View.{View}
 use Rattle.views.specs.Phases.{annualCosOf, semiannualCosOf, localCosOf, utCosOf, utLongCosOf, longPhaseCosOf}
 use Rattle.expansion_parts.specs.declared.Seasons.{Seasons}
+use Rattle.expansion_parts.specs.declared.LongitudeSeasons.{LongitudeSeasons}
 use Rattle.terms.specs.Terms.{fluxFactorOf, diurnalOf, semidiurnalOf, terdiurnalOf, localTimePartOf, activityTermOf, longCosOf, longSinOf, utMeanOf, utLongOf, activityLongOf, activityAnnualOf, activityUtOf, diurnalSOf, semidiurnalSOf, terdiurnalSOf, dailySOf, historySOf, seasonSOf, longCosSOf, longSinSOf}
 
 -- The four cosines of the day, from their phases and of a set
@@ -18,6 +19,14 @@ dayCosinesAt doy p31 p17 p13 p38 =
 
 unfoldable pub dayCosinesOf : Float → List Float → Seasons
 dayCosinesOf doy p = dayCosinesAt doy (p ‼ 31) (p ‼ 17) (p ‼ 13) (p ‼ 38)
+
+-- The four that the longitude's term of glob7s reads besides, from their phases and of a set
+abbrev pub longitudeCosinesAt : Float → Float → Float → Float → Float → LongitudeSeasons
+longitudeCosinesAt doy p81 p86 p84 p88 =
+    record { cd82 = annualCosOf doy p81; cd87 = semiannualCosOf doy p86; cd85 = annualCosOf doy p84; cd89 = semiannualCosOf doy p88 }
+
+unfoldable pub longitudeCosinesOf : Float → List Float → LongitudeSeasons
+longitudeCosinesOf doy p = longitudeCosinesAt doy (p ‼ 81) (p ‼ 86) (p ‼ 84) (p ‼ 88)
 
 -- t[6]: 0 where switch 7 is off
 unfoldable pub t6Of : List Float → List (List Float) → Float → Float → Float → Float → Float → Float → Float
@@ -135,18 +144,17 @@ t8sOf v p g apdf apt =
     cond (eq ((v .sw) ‼ 9) 1·0) (dailySOf p g apdf ((v .swc) ‼ 2)) (
     0·0)))
 
--- t[10] of glob7s: longitudinal
-unfoldable pub t10sOf : View → List Float → List (List Float) → Float
-t10sOf v p g =
+-- t[10] of glob7s: longitudinal; e are its cosines of the day
+unfoldable pub t10sGiven : View → List Float → List (List Float) → LongitudeSeasons → Float
+t10sGiven v p g e =
     cond (((eq ((v .sw) ‼ 10) 0·0) || (eq ((v .sw) ‼ 11) 0·0)) || (le (v .«g_long») (neg 1000·0))) (0·0) (
-    let y81 = annualCosOf (v .doy) (p ‼ 81) in
-    let y86 = semiannualCosOf (v .doy) (p ‼ 86) in
-    let y84 = annualCosOf (v .doy) (p ‼ 84) in
-    let y88 = semiannualCosOf (v .doy) (p ‼ 88) in
-    let a = seasonSOf p g ((v .swc) ‼ 3) ((v .swc) ‼ 4) ((v .swc) ‼ 5) ((v .swc) ‼ 6) y81 y86 y84 y88 in
+    let a = seasonSOf p g ((v .swc) ‼ 3) ((v .swc) ‼ 4) ((v .swc) ‼ 5) ((v .swc) ‼ 6) (e .cd82) (e .cd87) (e .cd85) (e .cd89) in
     let b = longCosSOf p g in
     let d = longSinSOf p g in
     a ⊗ (b ⊗ v .clong ⊕ d ⊗ v .slong))
+
+unfoldable pub t10sOf : View → List Float → List (List Float) → Float
+t10sOf v p g = t10sGiven v p g (longitudeCosinesOf (v .doy) p)
 
 -- t[6] of glob7s: 0 where switch 7 is off
 unfoldable pub t6sOf : List Float → List (List Float) → Float → Float → Float → Float → Float → Float

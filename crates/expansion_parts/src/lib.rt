@@ -5,7 +5,7 @@ ghost use lib.ListN.{length};
 ghost use Rattle.views.specs.Phases.{annualCosOf, semiannualCosOf, localCosOf, utCosOf, utLongCosOf, longPhaseCosOf};
 ghost use Rattle.numbers.specs.Literals.{0·0};
 ghost use Rattle.views.specs.Shared.{OwnSize, Shared};
-ghost use Rattle.expansion_parts.specs.ExpansionParts.{dayCosinesAt, hasLongitudeOf, t6Of, t7Of, t13Of, history8Of, daily8Of, t8Of, t10Of, t11Of, history12Of, daily12Of, t12Of, weightedOf, t8sOf, t10sOf, t6sOf, t7sOf, t13sOf};
+ghost use Rattle.expansion_parts.specs.ExpansionParts.{dayCosinesAt, longitudeCosinesAt, hasLongitudeOf, t6Of, t7Of, t13Of, history8Of, daily8Of, t8Of, t10Of, t11Of, history12Of, daily12Of, t12Of, weightedOf, t8sOf, t10sGiven, t6sOf, t7sOf, t13sOf};
 use numbers::abs;
 use numbers::plus_zero;
 use setting::View;
@@ -45,6 +45,14 @@ pub struct Seasons {
     pub cd39: f64,
 }
 
+// The four that the longitude's term of glob7s reads besides: of the phases p[81], p[86], p[84], p[88].
+pub struct LongitudeSeasons {
+    pub cd82: f64,
+    pub cd87: f64,
+    pub cd85: f64,
+    pub cd89: f64,
+}
+
 // The cosine over the year with phase x, where y is that of the phase 0.
 pub fn annual_at(doy: f64, y: f64, x: f64) -> f64
     requires { ⌜ y ≡ annualCosOf doy 0·0 ⌝ }
@@ -65,28 +73,6 @@ pub fn semiannual_at(doy: f64, y: f64, x: f64) -> f64
         return y;
     }
     semiannual_cos(doy, x)
-}
-
-// The cosine over the year with phase x.
-pub fn annual(v: View, x: f64) -> f64
-    requires { ⌜ Shared v ⌝ }
-    ensures { λ r. ⌜ r ≡ annualCosOf (v .doy) x ⌝ }
-{
-    if plus_zero(x) {
-        return v.cos_year;
-    }
-    annual_cos(v.doy, x)
-}
-
-// The cosine over half the year with phase x.
-pub fn semiannual(v: View, x: f64) -> f64
-    requires { ⌜ Shared v ⌝ }
-    ensures { λ r. ⌜ r ≡ semiannualCosOf (v .doy) x ⌝ }
-{
-    if plus_zero(x) {
-        return v.cos_half_year;
-    }
-    semiannual_cos(v.doy, x)
 }
 
 // The cosine of local time with phase x.
@@ -156,6 +142,31 @@ pub fn day_cosines(
         cd18: b,
         cd14: c,
         cd39: d,
+    }
+}
+
+// The four of the longitude's term of glob7s.
+pub fn longitude_cosines(
+    doy: f64,
+    year: f64,
+    half: f64,
+    p81: f64,
+    p86: f64,
+    p84: f64,
+    p88: f64,
+) -> LongitudeSeasons
+    requires { ⌜ (year ≡ annualCosOf doy 0·0) × (half ≡ semiannualCosOf doy 0·0) ⌝ }
+    ensures { λ r. ⌜ r ≡ longitudeCosinesAt doy p81 p86 p84 p88 ⌝ }
+{
+    let a = annual_at(doy, year, p81);
+    let b = semiannual_at(doy, half, p86);
+    let c = annual_at(doy, year, p84);
+    let d = semiannual_at(doy, half, p88);
+    LongitudeSeasons {
+        cd82: a,
+        cd87: b,
+        cd85: c,
+        cd89: d,
     }
 }
 
@@ -424,17 +435,13 @@ pub fn t8s(v: View, p: &[f64], g: [[f64; 9]; 4], apdf: f64, apt: f64) -> f64
 }
 
 // t[10] of glob7s: longitudinal.
-pub fn t10s(v: View, p: &[f64], g: [[f64; 9]; 4]) -> f64
-    requires { ⌜ (100 ≤ length (now p)) × Shared v ⌝ }
-    ensures { λ r. ⌜ r ≡ t10sOf v (now (p .entry)) g ⌝ }
+pub fn t10s(v: View, p: &[f64], g: [[f64; 9]; 4], e: LongitudeSeasons) -> f64
+    requires { ⌜ 100 ≤ length (now p) ⌝ }
+    ensures { λ r. ⌜ r ≡ t10sGiven v (now (p .entry)) g e ⌝ }
 {
     if (v.sw[10] == 0.0) | (v.sw[11] == 0.0) | (v.g_long <= -1000.0) {
         return 0.0;
     }
-    let y81 = annual(v, p[81]);
-    let y86 = semiannual(v, p[86]);
-    let y84 = annual(v, p[84]);
-    let y88 = semiannual(v, p[88]);
     let a = season_s(
         p,
         g,
@@ -442,10 +449,10 @@ pub fn t10s(v: View, p: &[f64], g: [[f64; 9]; 4]) -> f64
         v.swc[4],
         v.swc[5],
         v.swc[6],
-        y81,
-        y86,
-        y84,
-        y88,
+        e.cd82,
+        e.cd87,
+        e.cd85,
+        e.cd89,
     );
     let b = long_cos_s(p, g);
     let d = long_sin_s(p, g);

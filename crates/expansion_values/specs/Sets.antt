@@ -17,12 +17,6 @@ use Rattle.expansion_values.specs.ExpansionValues.{activeOf, wideOf}
 
 -- ---- globe7: PT, PD[0] to PD[8], PS
 
-unfoldable pub globe7Sets : List (List Float)
-globe7Sets = ptT ∷ pdT0 ∷ pdT1 ∷ pdT2 ∷ pdT3 ∷ pdT4 ∷ pdT5 ∷ pdT6 ∷ pdT7 ∷ pdT8 ∷ psT ∷ []
-
-abbrev pub globe7Set : ℕ → List Float
-globe7Set k = getD globe7Sets k psT
-
 -- c, and before PD[8] what PD[7] leaves
 abbrev pub globe7Before : View → Carried → ℕ → Carried
 globe7Before v c k = cond (eqb k 9) (activeOf v pdT7 c) c
@@ -34,12 +28,6 @@ unfoldable pub globe7Values : Need → View → List (List Float) → Carried �
 globe7Values n v g c = filled 11 (globe7At n v g c) 0 (replicate 11 0·0)
 
 -- ---- glob7s: PTL and PMA[8], which the lower thermosphere needs; PMA[0], PMA[1], PMA[2] and PMA[9], the mesosphere; PMA[3] to PMA[7], the troposphere
-
-unfoldable pub glob7sSets : List (List Float)
-glob7sSets = ptlT0 ∷ ptlT1 ∷ ptlT2 ∷ ptlT3 ∷ pmaT8 ∷ pmaT0 ∷ pmaT1 ∷ pmaT2 ∷ pmaT9 ∷ pmaT3 ∷ pmaT4 ∷ pmaT5 ∷ pmaT6 ∷ pmaT7 ∷ []
-
-abbrev pub glob7sSet : ℕ → List Float
-glob7sSet k = getD glob7sSets k pmaT7
 
 -- c3 is what PD[3] leaves, c8 what PD[8] leaves
 abbrev pub glob7sBefore : ℕ → Carried → Carried → Carried

@@ -1,2 +1,3 @@
--- The definitions that contracts and theorems cite.
+-- Which sets an altitude needs (NeededSets), and their order (Sets).
 pub mod NeededSets
+pub mod Sets
