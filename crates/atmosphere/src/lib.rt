@@ -3,6 +3,7 @@ ghost use mathlib.Core.Path.{_≡_};
 ghost use lib.ListN.{length};
 ghost use mathlib.Core.Bool.{true, false};
 ghost use lib.Ieee.{le, eq};
+ghost use Rattle.numbers.specs.Arithmetic.{_‼_};
 ghost use Rattle.numbers.specs.Literals.{0·0, 72·5};
 ghost use Rattle.needed_sets.specs.NeededSets.{needAt};
 ghost use Rattle.expansion_values.specs.ExpansionValues.{recordValuesOf};
@@ -47,33 +48,21 @@ pub fn row_above(sw: [f64; 24], x: Site, l: ExpansionValues, alt: f64) -> [f64; 
     row
 }
 
+// The main effect of switch 0. Read in a function of its own, it costs no second copy of the row.
+pub fn units_switch(sw: [f64; 24]) -> f64
+    ensures { λ r. ⌜ r ≡ sw ‼ 0 ⌝ }
+{
+    sw[0]
+}
+
 // The eleven numbers below 72.5 km.
 pub fn row_lower(sw: [f64; 24], x: Site, l: ExpansionValues, alt: f64) -> [f64; 11]
     requires { ⌜ HasMass x × (le 72·5 alt ≡ false) ⌝ }
     ensures { λ r. ⌜ r ≡ elevenFrom sw x l alt ⌝ }
 {
+    let sw0 = units_switch(sw);
     let f = footing_of(sw, x, l, alt < 32.5);
-    row_below(sw[0], f, alt)
-}
-
-// The eleven numbers at an altitude, by the way that it takes.
-pub fn eleven(sw: [f64; 24], x: Site, l: ExpansionValues, alt: f64) -> [f64; 11]
-    requires { ⌜ HasMass x ⌝ }
-    ensures { λ r. ⌜ r ≡ elevenFrom sw x l alt ⌝ }
-{
-    if alt >= 72.5 {
-        return row_above(sw, x, l, alt);
-    }
-    row_lower(sw, x, l, alt)
-}
-
-// The same into a lent row of eleven.
-pub fn row_at(sw: [f64; 24], x: Site, l: ExpansionValues, alt: f64, out: &mut [f64])
-    requires { ⌜ (length (now out) ≡ 11) × HasMass x ⌝ }
-    ensures { λ _. ⌜ now (out .exit) ≡ elevenFrom sw x l alt ⌝ }
-{
-    let row = eleven(sw, x, l, alt);
-    put_row(out, row);
+    row_below(sw0, f, alt)
 }
 
 // What the row of a record reads of it under a switch row.
@@ -84,15 +73,36 @@ pub fn values_at(w: [i32; 24], n: Input) -> RecordValues
     record_values(w, n, a)
 }
 
-// The row of a record out of that, with nine constants.
-pub fn row_from(c: Parameters, n: Input, v: RecordValues, out: &mut [f64])
-    requires { ⌜ (length (now out) ≡ 11) × (eq (c .xmm) 0·0 ≡ false) ⌝ }
+// Whether an altitude takes the way from 72.5 km up.
+pub fn takes_upper_way(alt: f64) -> bool
+    ensures { λ r. ⌜ r ≡ le 72·5 alt ⌝ }
+{
+    alt >= 72.5
+}
+
+// The row of a record out of that, with nine constants, at or above 72.5 km. This way and the other are each called twice, so that both stay
+// functions of their own when compiled and no frame holds what both need.
+pub fn put_row_above(c: Parameters, n: Input, v: RecordValues, out: &mut [f64])
+    requires { ⌜ (length (now out) ≡ 11) × (le 72·5 (n .alt) ≡ true) ⌝ }
     ensures { λ _. ⌜ now (out .exit) ≡ elevenFrom (v .sw) (siteWith c (v .sw) (n .«g_lat») (v .doy) (n .f107a)) (v .values) (n .alt) ⌝ }
 {
     let sw = v.sw;
     let x = site_with(c, sw, n.g_lat, v.doy, n.f107a);
     let l = v.values;
-    row_at(sw, x, l, n.alt, out);
+    let row = row_above(sw, x, l, n.alt);
+    put_row(out, row);
+}
+
+// The same below 72.5 km.
+pub fn put_row_lower(c: Parameters, n: Input, v: RecordValues, out: &mut [f64])
+    requires { ⌜ (length (now out) ≡ 11) × (eq (c .xmm) 0·0 ≡ false) × (le 72·5 (n .alt) ≡ false) ⌝ }
+    ensures { λ _. ⌜ now (out .exit) ≡ elevenFrom (v .sw) (siteWith c (v .sw) (n .«g_lat») (v .doy) (n .f107a)) (v .values) (n .alt) ⌝ }
+{
+    let sw = v.sw;
+    let x = site_with(c, sw, n.g_lat, v.doy, n.f107a);
+    let l = v.values;
+    let lower = row_lower(sw, x, l, n.alt);
+    put_row(out, lower);
 }
 
 // The row of a record under a switch row, with nine constants.
@@ -101,7 +111,11 @@ pub fn row_with(c: Parameters, w: [i32; 24], n: Input, out: &mut [f64])
     ensures { λ _. ⌜ now (out .exit) ≡ elevenWith c w n ⌝ }
 {
     let v = values_at(w, n);
-    row_from(c, n, v, out);
+    if takes_upper_way(n.alt) {
+        put_row_above(c, n, v, out);
+        return;
+    }
+    put_row_lower(c, n, v, out);
 }
 
 // The same with the present nine.
@@ -111,7 +125,11 @@ pub fn row_of(w: [i32; 24], n: Input, out: &mut [f64])
 {
     let v = values_at(w, n);
     let c = present();
-    row_from(c, n, v, out);
+    if takes_upper_way(n.alt) {
+        put_row_above(c, n, v, out);
+        return;
+    }
+    put_row_lower(c, n, v, out);
 }
 
 // The answer to a record and a row of the length len.

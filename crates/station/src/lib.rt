@@ -31,7 +31,7 @@ use station_values::expansion_values_in;
 use station_values::site_under;
 use stored::need_of;
 use stored::put;
-use stored::row_on;
+use stored::station_row_on;
 use stored::store;
 use stored_parts::all_parts;
 use switch_rows::same_expansions;
@@ -95,7 +95,7 @@ pub fn gtd7(whole: &[i32], numbers: &[f64], alt: f64, out: &mut [f64]) -> Answer
     }
     let sw0 = units_in(whole);
     let sw15 = mixing_in(whole);
-    row_on(sw0, sw15, &numbers[0..234], alt, out);
+    station_row_on(sw0, sw15, &numbers[0..234], alt, out);
     a
 }
 

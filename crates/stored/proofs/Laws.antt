@@ -1,17 +1,16 @@
 -- Parts written one behind the other, and what they are.
-use Prim.Native.Nat.{ℕ, _+_}
+use Prim.Native.Nat.{ℕ, _+_, _≤_}
 use mathlib.Core.Path.{_≡_, refl, sym, ap, ap₂, _∙_}
 use mathlib.Core.Bool.{Bool, true, false, cond, not}
 use mathlib.Core.List.{List, [], _++_, append-assoc, append-nil}
 use native.Mathlib.Omega.{arith}
 use borrow.Author.Tests.{not-true, not-false}
 use borrow.Rule.Slice.PartMut.{putMid}
-use lib.ListN.{length, take, drop, take-append-drop}
-use lib.Seq.{length-take-le, take-at, drop-at, drop-drop, drop-length}
+use lib.ListN.{length, take, drop, take-append-drop, length-drop}
+use lib.Seq.{length-take-le, take-append-le, take-at, drop-at, drop-drop, drop-length}
 use lib.Ieee.{Float, lt, le, eq, ofBits}
 use Rattle.numbers.specs.Arithmetic.{_‼_}
 use Rattle.numbers.specs.Literals.{72·5, 100·0, 200·0, 300·0}
-use Rattle.parameters.specs.Parameters.{presentOf}
 use Rattle.elementary.specs.Log.{logOf}
 use Rattle.layers.specs.declared.Span.{Span}
 use Rattle.places.specs.declared.place.Spine.{Spine}
@@ -19,17 +18,17 @@ use Rattle.plan.specs.declared.ExpansionValues.{ExpansionValues}
 use Rattle.plan.specs.Plan.{told, answerTo}
 use Rattle.profile.specs.declared.unchecked.Shape.{Shape}
 use Rattle.species.specs.Places.{spineAt}
-use Rattle.tables.specs.Tables.{pdlT1}
 use Rattle.gts7_arithmetic.specs.declared.Site.{Site}
 use Rattle.gts7_arithmetic.specs.Gts7Arithmetic.{anomalousOf}
 use Rattle.stages.specs.Stages.{shapePlan}
 use Rattle.region.specs.declared.Bases.{Bases}
 use Rattle.region.specs.declared.Roots.{Roots}
-use Rattle.region.specs.Region.{basesOf, rootsOf, rowOver, rowUnder}
+use Rattle.region.specs.Region.{basesOf, rootsOf}
 use Rattle.footing.specs.declared.Footing.{Footing}
-use Rattle.footing.specs.Footing.{footingOf}
+use Rattle.footing.specs.Footing.{footingOf, rowBelowOf}
 use Rattle.stored_parts.specs.declared.Parts.{Parts}
-use Rattle.stored.specs.Stored.{part, regionNumbers, spineNumbers, spanNumbers, groundNumbers, footingNumbers, shapeIn, rootsIn, spineIn, regionStored, lowStored, footingStored, summitStored, storedOf, storedIn, lowRow}
+use Rattle.stored_parts.specs.Parts.{aboveSummit, fromSummit, aboveZa, belowZa, below300}
+use Rattle.stored.specs.Stored.{part, regionNumbers, spineNumbers, spanNumbers, groundNumbers, footingNumbers, spineIn, footingIn, overIn, underIn, regionStored, lowStored, footingStored, summitStored, storedOf, storedIn, lowRow, rowStored}
 use Rattle.stored.specs.Rows.{grown, footing-length, low-length, region-length, numbers-36, numbers-24}
 use Rattle.stored.specs.Reached.{chosen-length}
 
@@ -205,22 +204,41 @@ pub spine-logged : (xs : List Float) (s : Spine) → s ≡ spineIn xs → s .lt 
 unfolding spineIn
 spine-logged xs s e = rw e
 
-pub under-law : (sw0 sw15 : Float) (xs : List Float) (alt : Float) (row l : List Float) (h : Shape) (q : Roots) (a b : Spine)
-    → row ≡ rowUnder presentOf sw0 sw15 h a b q alt
-    → b ≡ spineIn (part 60 24 xs) → a ≡ spineIn (part 36 24 xs) → q ≡ rootsIn (part 0 36 xs) → h ≡ shapeIn (part 0 36 xs)
-    → not (lt alt (l ‼ 15)) ≡ false
-    → l ≡ pdlT1
-    → row ≡ lowRow sw0 sw15 xs alt
-unfolding lowRow
-under-law sw0 sw15 xs alt row l h q a b e0 e1 e2 e3 e4 t el = rw (e0, e1, e2, e3, e4, rw el at t)
+-- ---- the row, by the way that an altitude takes
 
-pub over-law : (sw0 sw15 : Float) (xs : List Float) (alt : Float) (row l : List Float)
-    → row ≡ rowOver presentOf sw0 sw15 (shapeIn (part 0 36 xs)) (rootsIn (part 0 36 xs)) alt
-    → not (lt alt (l ‼ 15)) ≡ true
-    → l ≡ pdlT1
-    → row ≡ lowRow sw0 sw15 xs alt
-unfolding lowRow
-over-law sw0 sw15 xs alt row l e t el = rw (e, rw el at t)
+-- the start of a part
+front : (xs : List Float) → length xs ≡ 234 → part 0 36 (part 67 84 xs) ≡ part 67 36 xs
+front xs len =
+    let ys = drop 67 xs in
+    let more : 84 ≤ length ys = rw (length-drop 67 xs) (omega (arith, len)) in
+    let most : 36 ≤ length (take 84 ys) = rw (length-take-le 84 ys more) (omega arith) in
+    sym (take-append-le 36 (take 84 ys) (drop 84 ys) most) ∙ ap (λ (t : List Float). take 36 t) (take-append-drop 84 ys)
+
+module _ (sw0 sw15 : Float) (xs : List Float) (alt : Float) (row : List Float) (above : Bool) (ea : above ≡ aboveSummit alt) where
+  pub summit-way : (reached : Bool) → reached ≡ fromSummit alt → not above ≡ true → reached ≡ true → row ≡ part 223 11 xs → row ≡ rowStored sw0 sw15 xs alt
+  unfolding rowStored
+  summit-way reached er t f e = rw (ap not (sym ea) ∙ t, sym er ∙ f) e
+
+  pub ground-way : (reached : Bool) → reached ≡ fromSummit alt → not above ≡ true → reached ≡ false → row ≡ rowBelowOf sw0 (footingIn (part 14 53 xs)) alt → row ≡ rowStored sw0 sw15 xs alt
+  unfolding rowStored
+  ground-way reached er t f e = rw (ap not (sym ea) ∙ t, sym er ∙ f) e
+
+  module _ (high : Bool) (eh : high ≡ aboveZa alt) (t : not above ≡ false) where
+    pub under-way : (under : Bool) → under ≡ belowZa alt → not high ≡ true → under ≡ true → row ≡ underIn sw0 sw15 (part 67 84 xs) alt → row ≡ rowStored sw0 sw15 xs alt
+    unfolding rowStored lowRow
+    under-way under eu f g e = rw (ap not (sym ea) ∙ t, ap not (sym eh) ∙ f, sym eu ∙ g) e
+
+    pub za-way : (under : Bool) → under ≡ belowZa alt → length xs ≡ 234 → not high ≡ true → under ≡ false → row ≡ overIn sw0 sw15 (part 67 36 xs) alt → row ≡ rowStored sw0 sw15 xs alt
+    unfolding rowStored lowRow
+    za-way under eu len f g e = rw (ap not (sym ea) ∙ t, ap not (sym eh) ∙ f, sym eu ∙ g) (e ∙ ap (λ (s : List Float). overIn sw0 sw15 s alt) (sym (front xs len)))
+
+    pub mid-way : (lower : Bool) → lower ≡ below300 alt → not high ≡ false → lower ≡ true → row ≡ overIn sw0 sw15 (part 151 36 xs) alt → row ≡ rowStored sw0 sw15 xs alt
+    unfolding rowStored
+    mid-way lower el f g e = rw (ap not (sym ea) ∙ t, ap not (sym eh) ∙ f, sym el ∙ g) e
+
+    pub top-way : (lower : Bool) → lower ≡ below300 alt → not high ≡ false → lower ≡ false → row ≡ overIn sw0 sw15 (part 187 36 xs) alt → row ≡ rowStored sw0 sw15 xs alt
+    unfolding rowStored
+    top-way lower el f g e = rw (ap not (sym ea) ∙ t, ap not (sym eh) ∙ f, sym el ∙ g) e
 
 pub region-law : (on : Bool) (sw : List Float) (x : Site) (l : ExpansionValues) (d : Bases) (z : Float) (r : List Float) (h : Shape) (q : Roots)
     → r ≡ regionNumbers h q

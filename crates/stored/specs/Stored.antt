@@ -4,7 +4,7 @@ use Prim.Native.Nat.{ℕ, _+_}
 use mathlib.Core.Bool.{Bool, true, cond, not, _||_}
 use mathlib.Core.List.{List, [], _∷_, _++_}
 use lib.ListN.{take, drop, replicate}
-use lib.Ieee.{Float, lt}
+use lib.Ieee.{Float}
 use Rattle.numbers.specs.Arithmetic.{_‼_}
 use Rattle.numbers.specs.Literals.{0·0, 72·5, 100·0, 200·0, 300·0}
 use Rattle.parameters.specs.Parameters.{presentOf}
@@ -17,7 +17,6 @@ use Rattle.plan.specs.Plan.{told, answerTo}
 use Rattle.profile.specs.declared.unchecked.Shape.{Shape}
 use Rattle.species.specs.declared.Root.{Root}
 use Rattle.species.specs.Places.{spineAt}
-use Rattle.tables.specs.Tables.{pdlT1}
 use Rattle.gts7_arithmetic.specs.declared.Site.{Site}
 use Rattle.gts7_arithmetic.specs.Gts7Arithmetic.{anomalousOf}
 use Rattle.stages.specs.Stages.{shapePlan}
@@ -28,7 +27,7 @@ use Rattle.footing.specs.declared.Footing.{Footing}
 use Rattle.footing.specs.Footing.{footingOf, rowBelowOf}
 use Rattle.atmosphere.specs.Atmosphere.{elevenFrom}
 use Rattle.stored_parts.specs.declared.Parts.{Parts}
-use Rattle.stored_parts.specs.Parts.{aboveSummit, fromSummit, aboveZa, below300}
+use Rattle.stored_parts.specs.Parts.{aboveSummit, fromSummit, aboveZa, belowZa, below300}
 
 -- ---- the parts
 
@@ -183,11 +182,18 @@ footingIn xs =
 
 -- ---- the row of an altitude
 
+-- at or above za, out of a region's numbers
+abbrev pub overIn : Float → Float → List Float → Float → List Float
+overIn sw0 sw15 xs alt = rowOver presentOf sw0 sw15 (shapeIn xs) (rootsIn xs) alt
+
+-- above 72.5 km and below za
+abbrev pub underIn : Float → Float → List Float → Float → List Float
+underIn sw0 sw15 xs alt =
+    rowUnder presentOf sw0 sw15 (shapeIn (part 0 36 xs)) (spineIn (part 36 24 xs)) (spineIn (part 60 24 xs)) (rootsIn (part 0 36 xs)) alt
+
 -- above 72.5 km up to za
 unfoldable pub lowRow : Float → Float → List Float → Float → List Float
-lowRow sw0 sw15 xs alt =
-    cond (not (lt alt (pdlT1 ‼ 15))) (rowOver presentOf sw0 sw15 (shapeIn (part 0 36 xs)) (rootsIn (part 0 36 xs)) alt)
-    (rowUnder presentOf sw0 sw15 (shapeIn (part 0 36 xs)) (spineIn (part 36 24 xs)) (spineIn (part 60 24 xs)) (rootsIn (part 0 36 xs)) alt)
+lowRow sw0 sw15 xs alt = cond (not (belowZa alt)) (overIn sw0 sw15 (part 0 36 xs) alt) (underIn sw0 sw15 xs alt)
 
 -- xs has the record's fourteen numbers first
 unfoldable pub rowStored : Float → Float → List Float → Float → List Float
@@ -195,6 +201,4 @@ rowStored sw0 sw15 xs alt =
     cond (not (aboveSummit alt))
     (cond (fromSummit alt) (part 223 11 xs) (rowBelowOf sw0 (footingIn (part 14 53 xs)) alt))
     (cond (not (aboveZa alt)) (lowRow sw0 sw15 (part 67 84 xs) alt)
-    (cond (below300 alt)
-    (rowOver presentOf sw0 sw15 (shapeIn (part 151 36 xs)) (rootsIn (part 151 36 xs)) alt)
-    (rowOver presentOf sw0 sw15 (shapeIn (part 187 36 xs)) (rootsIn (part 187 36 xs)) alt)))
+    (cond (below300 alt) (overIn sw0 sw15 (part 151 36 xs) alt) (overIn sw0 sw15 (part 187 36 xs) alt)))

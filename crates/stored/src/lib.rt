@@ -5,9 +5,8 @@ ghost use mathlib.Core.Bool.{true, cond};
 ghost use mathlib.Core.List.{_++_};
 ghost use Prim.Native.Nat.{_+_, _≤_};
 ghost use lib.ListN.{length, take, drop};
-ghost use Rattle.parameters.specs.Parameters.{presentOf};
-ghost use Rattle.region.specs.Region.{rowOver};
-ghost use Rattle.stored.specs.Stored.{needOf, regionNumbers, spineNumbers, spanNumbers, groundNumbers, fiveIn, shapeIn, rootIn, rootsIn, spineIn, spanIn, footingIn, regionStored, lowStored, footingStored, summitStored, storedOf, storedIn, lowRow, rowStored};
+ghost use Rattle.footing.specs.Footing.{rowBelowOf};
+ghost use Rattle.stored.specs.Stored.{needOf, regionNumbers, spineNumbers, spanNumbers, groundNumbers, fiveIn, shapeIn, rootIn, rootsIn, spineIn, spanIn, footingIn, regionStored, lowStored, footingStored, summitStored, storedOf, storedIn, overIn, underIn, rowStored};
 use atmosphere::row_above;
 use elementary::logarithm::log;
 use footing::Curves;
@@ -36,8 +35,8 @@ use stored_parts::Parts;
 use stored_parts::above_summit;
 use stored_parts::above_za;
 use stored_parts::below_300;
+use stored_parts::below_za;
 use stored_parts::from_summit;
-use tables::pdl1;
 use thermosphere::shape_stage;
 
 // The coefficient sets that the parts read.
@@ -522,38 +521,21 @@ pub fn store_in(p: Parts, sw: [f64; 24], x: Site, l: ExpansionValues, out: &mut 
 
 // ---- the row of an altitude
 
-pub fn eleven_from(s: &[f64]) -> [f64; 11]
-    requires { ⌜ length (now s) ≡ 11 ⌝ }
-    ensures { λ r. ⌜ r ≡ now (s .entry) ⌝ }
-{
-    let mut r = [0.0; 11];
-    let mut i: usize = 0;
-    while i < 11 {
-        r[i] = s[i];
-        i += 1;
-    }
-    r
-}
-
 // At or above za in a region.
 pub fn over_from(sw0: f64, sw15: f64, s: &[f64], alt: f64) -> [f64; 11]
     requires { ⌜ length (now s) ≡ 36 ⌝ }
-    ensures { λ r. ⌜ r ≡ rowOver presentOf sw0 sw15 (shapeIn (now (s .entry))) (rootsIn (now (s .entry))) alt ⌝ }
+    ensures { λ r. ⌜ r ≡ overIn sw0 sw15 (now (s .entry)) alt ⌝ }
 {
     let h = shape_from(s);
     let q = roots_from(s);
     row_over(sw0, sw15, h, q, alt)
 }
 
-// Above 72.5 km up to za.
-pub fn low_from(sw0: f64, sw15: f64, s: &[f64], alt: f64) -> [f64; 11]
+// Above 72.5 km and below za.
+pub fn under_from(sw0: f64, sw15: f64, s: &[f64], alt: f64) -> [f64; 11]
     requires { ⌜ length (now s) ≡ 84 ⌝ }
-    ensures { λ r. ⌜ r ≡ lowRow sw0 sw15 (now (s .entry)) alt ⌝ }
+    ensures { λ r. ⌜ r ≡ underIn sw0 sw15 (now (s .entry)) alt ⌝ }
 {
-    let l = pdl1();
-    if !(alt < l[15]) {
-        return over_from(sw0, sw15, &s[0..36], alt);
-    }
     let h = shape_from(&s[0..36]);
     let q = roots_from(&s[0..36]);
     let a = spine_from(&s[36..60]);
@@ -561,32 +543,87 @@ pub fn low_from(sw0: f64, sw15: f64, s: &[f64], alt: f64) -> [f64; 11]
     row_under(sw0, sw15, h, a, b, q, alt)
 }
 
-// The eleven numbers at an altitude; sw0 and sw15 are the main effects of switches 0 and 15.
-pub fn row_stored(sw0: f64, sw15: f64, s: &[f64], alt: f64) -> [f64; 11]
-    requires { ⌜ length (now s) ≡ 234 ⌝ }
-    ensures { λ r. ⌜ r ≡ rowStored sw0 sw15 (now (s .entry)) alt ⌝ }
+// Each way into a lent row of eleven: below 72.5 km, from there to za, from za on. row_on and station_row_on both call these, so that they stay
+// functions of their own when compiled and no frame holds what two of them need.
+
+pub fn ground_on(sw0: f64, s: &[f64], alt: f64, out: &mut [f64])
+    requires { ⌜ (length (now s) ≡ 53) × (length (now out) ≡ 11) ⌝ }
+    ensures { λ _. ⌜ now (out .exit) ≡ rowBelowOf sw0 (footingIn (now (s .entry))) alt ⌝ }
 {
-    if !above_summit(alt) {
-        if from_summit(alt) {
-            return eleven_from(&s[223..234]);
-        }
-        let f = footing_from(&s[14..67]);
-        return row_below(sw0, f, alt);
-    }
-    if !above_za(alt) {
-        return low_from(sw0, sw15, &s[67..151], alt);
-    }
-    if below_300(alt) {
-        return over_from(sw0, sw15, &s[151..187], alt);
-    }
-    over_from(sw0, sw15, &s[187..223], alt)
+    let f = footing_from(s);
+    let r = row_below(sw0, f, alt);
+    put(out, &r);
 }
 
-// The eleven numbers at an altitude into a lent row of eleven: no View, no record. The station's call and the column fill their rows by it.
+pub fn under_on(sw0: f64, sw15: f64, s: &[f64], alt: f64, out: &mut [f64])
+    requires { ⌜ (length (now s) ≡ 84) × (length (now out) ≡ 11) ⌝ }
+    ensures { λ _. ⌜ now (out .exit) ≡ underIn sw0 sw15 (now (s .entry)) alt ⌝ }
+{
+    let r = under_from(sw0, sw15, s, alt);
+    put(out, &r);
+}
+
+pub fn over_on(sw0: f64, sw15: f64, s: &[f64], alt: f64, out: &mut [f64])
+    requires { ⌜ (length (now s) ≡ 36) × (length (now out) ≡ 11) ⌝ }
+    ensures { λ _. ⌜ now (out .exit) ≡ overIn sw0 sw15 (now (s .entry)) alt ⌝ }
+{
+    let r = over_from(sw0, sw15, s, alt);
+    put(out, &r);
+}
+
+// The eleven numbers at an altitude, with no View and no record; sw0 and sw15 are the main effects of switches 0 and 15. Column, crossings and
+// the first altitude thin enough fill their rows by it.
 pub fn row_on(sw0: f64, sw15: f64, s: &[f64], alt: f64, out: &mut [f64])
     requires { ⌜ (length (now s) ≡ 234) × (length (now out) ≡ 11) ⌝ }
     ensures { λ _. ⌜ now (out .exit) ≡ rowStored sw0 sw15 (now (s .entry)) alt ⌝ }
 {
-    let r = row_stored(sw0, sw15, s, alt);
-    put(out, &r);
+    if !above_summit(alt) {
+        if from_summit(alt) {
+            put(out, &s[223..234]);
+            return;
+        }
+        ground_on(sw0, &s[14..67], alt, out);
+        return;
+    }
+    if !above_za(alt) {
+        if below_za(alt) {
+            under_on(sw0, sw15, &s[67..151], alt, out);
+            return;
+        }
+        over_on(sw0, sw15, &s[67..103], alt, out);
+        return;
+    }
+    if below_300(alt) {
+        over_on(sw0, sw15, &s[151..187], alt, out);
+        return;
+    }
+    over_on(sw0, sw15, &s[187..223], alt, out);
+}
+
+// The same for a station's altitude.
+pub fn station_row_on(sw0: f64, sw15: f64, s: &[f64], alt: f64, out: &mut [f64])
+    requires { ⌜ (length (now s) ≡ 234) × (length (now out) ≡ 11) ⌝ }
+    ensures { λ _. ⌜ now (out .exit) ≡ rowStored sw0 sw15 (now (s .entry)) alt ⌝ }
+{
+    if !above_summit(alt) {
+        if from_summit(alt) {
+            put(out, &s[223..234]);
+            return;
+        }
+        ground_on(sw0, &s[14..67], alt, out);
+        return;
+    }
+    if !above_za(alt) {
+        if below_za(alt) {
+            under_on(sw0, sw15, &s[67..151], alt, out);
+            return;
+        }
+        over_on(sw0, sw15, &s[67..103], alt, out);
+        return;
+    }
+    if below_300(alt) {
+        over_on(sw0, sw15, &s[151..187], alt, out);
+        return;
+    }
+    over_on(sw0, sw15, &s[187..223], alt, out);
 }

@@ -21,6 +21,10 @@ fromSummit alt = le 72·5 alt
 abbrev pub aboveZa : Float → Bool
 aboveZa alt = lt (pdlT1 ‼ 15) alt
 
+-- below za
+abbrev pub belowZa : Float → Bool
+belowZa alt = lt alt (pdlT1 ‼ 15)
+
 -- below 300 km
 abbrev pub below300 : Float → Bool
 below300 alt = lt alt 300·0

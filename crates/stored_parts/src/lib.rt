@@ -1,6 +1,6 @@
 // Which parts of what a station stores an altitude reads: the tests by which a row takes its way, and the parts of an altitude and of a list of altitudes.
 ghost use mathlib.Core.Path.{_≡_};
-ghost use Rattle.stored_parts.specs.Parts.{aboveSummit, fromSummit, aboveZa, below300, partsAt, allParts, noParts, eitherParts, servesOf, reachedOf, partsFrom};
+ghost use Rattle.stored_parts.specs.Parts.{aboveSummit, fromSummit, aboveZa, belowZa, below300, partsAt, allParts, noParts, eitherParts, servesOf, reachedOf, partsFrom};
 use tables::pdl1;
 
 // ---- the tests
@@ -25,6 +25,14 @@ pub fn above_za(alt: f64) -> bool
 {
     let l = pdl1();
     alt > l[15]
+}
+
+// Below za.
+pub fn below_za(alt: f64) -> bool
+    ensures { λ r. ⌜ r ≡ belowZa alt ⌝ }
+{
+    let l = pdl1();
+    alt < l[15]
 }
 
 // Below 300 km.

@@ -1,6 +1,8 @@
 -- `row_lower` meets its contract.
-use lib.Ieee.{lt}
+use mathlib.Core.Path.{ap, _∙_}
+use lib.Ieee.{Float, lt}
 use Rattle.numbers.specs.Literals.{32·5}
+use Rattle.footing.specs.Footing.{rowBelowOf}
 use Rattle.atmosphere.specs.Rows.{eleven-below}
 use borrow.Author.Needs.{needs}
 use Rattle.atmosphere.proofs.row_lower.Statement.{statement}
@@ -8,10 +10,12 @@ use Rattle.atmosphere.proofs.row_lower.Tie as tie
 
 returns : tie.Need-returns
 returns c =
-    let s = c .before .before in
+    let footing = c .before in
+    let s = footing .before .before in
     let A = s .args in
-    eleven-below (A .t1) (A .x) (A .l) (A .alt) (lt (A .alt) 32·5) (c .before .footing-of .result) (c .row-below .result)
-    (s .pre .0) (c .row-below .ensures) (c .before .footing-of .ensures) (λ e. e) (s .pre .1)
+    eleven-below (A .sw) (A .x) (A .l) (A .alt) (lt (A .alt) 32·5) (footing .footing-of .result) (c .row-below .result)
+    (s .pre .0) (c .row-below .ensures ∙ ap (λ (u : Float). rowBelowOf u (footing .footing-of .result) (A .alt)) (footing .before .units-switch .ensures)) (footing .footing-of .ensures) (λ e. e)
+    (s .pre .1)
 
 pub row-lower-spec : {M : Type 1} → statement M
-row-lower-spec = tie.close (tie.spec (λ c κs. search needs) (λ c. search needs) (λ c κs. search needs) returns)
+row-lower-spec = tie.close (tie.spec (λ c κs. search needs) (λ c κs. search needs) (λ c κs. search needs) returns)
