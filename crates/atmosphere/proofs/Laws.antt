@@ -7,17 +7,22 @@ use borrow.Author.Tests.{eqb-true}
 use lib.Dec.{eqb}
 use lib.IntN.{ℤ}
 use lib.ListN.{length}
-use lib.Ieee.{Float, eq, ofBits}
+use lib.Ieee.{Float, binary64, ofInt, eq, ofBits}
+use Rattle.numbers.specs.Arithmetic.{_‼_}
 use Rattle.numbers.specs.Literals.{0·0}
 use Rattle.setting.specs.declared.Input.{Input}
+use Rattle.setting.specs.Switches.{swOf}
 use Rattle.views.specs.View.{viewOf}
+use Rattle.views.specs.Phases.{annualCosOf}
+use Rattle.tables.specs.Tables.{ptT}
 use Rattle.expansion_values.specs.declared.RecordValues.{RecordValues}
 use Rattle.needed_sets.specs.NeededSets.{needAt}
-use Rattle.expansion_values.specs.ExpansionValues.{recordValuesOf}
+use Rattle.expansion_values.specs.ExpansionValues.{expansionValuesOf, recordValuesOf}
 use Rattle.gts7_arithmetic.specs.declared.Site.{Site}
 use Rattle.parameters.specs.Parameters.{presentOf}
 use Rattle.parameters.specs.declared.Parameters.{Parameters}
-use Rattle.gts7_arithmetic.specs.Gts7Arithmetic.{HasMass, siteWith}
+use Rattle.gts7_arithmetic.specs.Gts7Arithmetic.{HasMass, siteFrom, siteWith}
+use Rattle.gts7_arithmetic.specs.Given.{site-given}
 use Rattle.acceptance.specs.declared.Answer.{Answer}
 use Rattle.acceptance.specs.declared.Answer.the-variants.{Refused}
 use Rattle.acceptance.specs.Acceptance.{acceptedOf}
@@ -49,12 +54,19 @@ pub present-mass : eq (presentOf .xmm) 0·0 ≡ false
 unfolding presentOf eq ofBits
 present-mass = refl
 
-pub site-mass : (c : Parameters) (sw : List Float) (lat doy f107a : Float) (x : Site) → x ≡ siteWith c sw lat doy f107a → eq (c .xmm) 0·0 ≡ false → HasMass x
-unfolding siteWith
-site-mass c sw lat doy f107a x e m = ap (λ (y : Site). eq (y .nine .xmm) 0·0) e ∙ m
+pub site-mass : (c : Parameters) (sw : List Float) (lat slat cosPt f107a : Float) (x : Site) → x ≡ siteFrom c sw lat slat cosPt f107a → eq (c .xmm) 0·0 ≡ false → HasMass x
+unfolding siteFrom
+site-mass c sw lat slat cosPt f107a x e m = ap (λ (y : Site). eq (y .nine .xmm) 0·0) e ∙ m
+
+-- the site that a record's values give is the definition's
+site-is : (c : Parameters) (w : List ℤ) (n : Input)
+    → siteFrom c ((viewOf w n) .sw) (n .«g_lat») ((viewOf w n) .slat) (annualCosOf ((viewOf w n) .doy) (ptT ‼ 13)) (n .f107a)
+    ≡ siteWith c ((viewOf w n) .sw) (n .«g_lat») ((viewOf w n) .doy) (n .f107a)
+unfolding viewOf annualCosOf
+site-is c w n = site-given c (swOf w) (n .«g_lat») (ofInt binary64 (n .doy)) (n .f107a)
 
 pub row-with-law : (c : Parameters) (w : List ℤ) (n : Input) (row : List Float) (v : RecordValues)
-    → row ≡ elevenFrom (v .sw) (siteWith c (v .sw) (n .«g_lat») (v .doy) (n .f107a)) (v .values) (n .alt)
+    → row ≡ elevenFrom (v .sw) (siteFrom c (v .sw) (n .«g_lat») (v .slat) (v .«cos_pt») (n .f107a)) (v .values) (n .alt)
     → v ≡ recordValuesOf w n (needAt (n .alt))
     → eq (c .xmm) 0·0 ≡ false
     → row ≡ elevenWith c w n
@@ -62,4 +74,5 @@ unfolding elevenWith recordValuesOf
 row-with-law c w n row v e f m =
     let u = viewOf w n in
     (rw f at e)
-    ∙ sym (eleven-told u (siteWith c (u .sw) (n .«g_lat») (u .doy) (n .f107a)) (n .alt) (site-mass c (u .sw) (n .«g_lat») (u .doy) (n .f107a) _ refl m))
+    ∙ ap (λ (x : Site). elevenFrom (u .sw) x (expansionValuesOf u (needAt (n .alt))) (n .alt)) (site-is c w n)
+    ∙ sym (eleven-told u (siteWith c (u .sw) (n .«g_lat») (u .doy) (n .f107a)) (n .alt) (site-mass c (u .sw) (n .«g_lat») _ _ (n .f107a) _ (sym (site-is c w n)) m))

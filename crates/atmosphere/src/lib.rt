@@ -7,7 +7,7 @@ ghost use Rattle.numbers.specs.Arithmetic.{_‼_};
 ghost use Rattle.numbers.specs.Literals.{0·0, 72·5};
 ghost use Rattle.needed_sets.specs.NeededSets.{needAt};
 ghost use Rattle.expansion_values.specs.ExpansionValues.{recordValuesOf};
-ghost use Rattle.gts7_arithmetic.specs.Gts7Arithmetic.{HasMass, siteWith};
+ghost use Rattle.gts7_arithmetic.specs.Gts7Arithmetic.{HasMass, siteFrom};
 ghost use Rattle.atmosphere.specs.Atmosphere.{elevenFrom, elevenWith, elevenOf, answerOf, rowAfter};
 use acceptance::Answer;
 use acceptance::accepted;
@@ -17,7 +17,7 @@ use expansion_values::record_values;
 use footing::footing_of;
 use footing::row_below;
 use gts7_arithmetic::Site;
-use gts7_arithmetic::site_with;
+use gts7_arithmetic::site_from;
 use lower_atmosphere::above;
 use mixing_limits::mixed_at;
 use mixing_limits::some_mixed;
@@ -70,7 +70,8 @@ pub fn values_at(w: [i32; 24], n: Input) -> RecordValues
     ensures { λ r. ⌜ r ≡ recordValuesOf w n (needAt (n .alt)) ⌝ }
 {
     let a = need_at(n.alt);
-    record_values(w, n, a)
+    let mut season = [0.0; 156];
+    record_values(w, n, a, &mut season)
 }
 
 // Whether an altitude takes the way from 72.5 km up.
@@ -84,10 +85,10 @@ pub fn takes_upper_way(alt: f64) -> bool
 // functions of their own when compiled and no frame holds what both need.
 pub fn put_row_above(c: Parameters, n: Input, v: RecordValues, out: &mut [f64])
     requires { ⌜ (length (now out) ≡ 11) × (le 72·5 (n .alt) ≡ true) ⌝ }
-    ensures { λ _. ⌜ now (out .exit) ≡ elevenFrom (v .sw) (siteWith c (v .sw) (n .«g_lat») (v .doy) (n .f107a)) (v .values) (n .alt) ⌝ }
+    ensures { λ _. ⌜ now (out .exit) ≡ elevenFrom (v .sw) (siteFrom c (v .sw) (n .«g_lat») (v .slat) (v .«cos_pt») (n .f107a)) (v .values) (n .alt) ⌝ }
 {
     let sw = v.sw;
-    let x = site_with(c, sw, n.g_lat, v.doy, n.f107a);
+    let x = site_from(c, sw, n.g_lat, v.slat, v.cos_pt, n.f107a);
     let l = v.values;
     let row = row_above(sw, x, l, n.alt);
     put_row(out, row);
@@ -96,10 +97,10 @@ pub fn put_row_above(c: Parameters, n: Input, v: RecordValues, out: &mut [f64])
 // The same below 72.5 km.
 pub fn put_row_lower(c: Parameters, n: Input, v: RecordValues, out: &mut [f64])
     requires { ⌜ (length (now out) ≡ 11) × (eq (c .xmm) 0·0 ≡ false) × (le 72·5 (n .alt) ≡ false) ⌝ }
-    ensures { λ _. ⌜ now (out .exit) ≡ elevenFrom (v .sw) (siteWith c (v .sw) (n .«g_lat») (v .doy) (n .f107a)) (v .values) (n .alt) ⌝ }
+    ensures { λ _. ⌜ now (out .exit) ≡ elevenFrom (v .sw) (siteFrom c (v .sw) (n .«g_lat») (v .slat) (v .«cos_pt») (n .f107a)) (v .values) (n .alt) ⌝ }
 {
     let sw = v.sw;
-    let x = site_with(c, sw, n.g_lat, v.doy, n.f107a);
+    let x = site_from(c, sw, n.g_lat, v.slat, v.cos_pt, n.f107a);
     let l = v.values;
     let lower = row_lower(sw, x, l, n.alt);
     put_row(out, lower);

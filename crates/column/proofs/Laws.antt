@@ -8,8 +8,8 @@ use native.Mathlib.Omega.{arith}
 use borrow.Rule.Slice.PartMut.{putMid}
 use lib.IntN.{ℤ}
 use lib.ListN.{length, take, drop, getD, replicate, length-append}
-use lib.Seq.{take-suc, take-at, drop-at, drop-drop}
-use lib.Ieee.{Float, nan}
+use lib.Seq.{take-suc, take-at, drop-at, drop-drop, length-take-le}
+use lib.Ieee.{Float, nan, binary64, ofInt}
 use Rattle.numbers.specs.Arithmetic.{_‼_}
 use Rattle.numbers.specs.Literals.{0·0}
 use Rattle.setting.specs.declared.Input.{Input}
@@ -106,12 +106,15 @@ pub rows-are : (w : List ℤ) (n : Input) (alts numbers sw xs : List Float)
     → rowsStored (sw ‼ 0) (sw ‼ 15) numbers alts ++ xs ≡ columnRows w n alts ++ xs
 rows-are w n alts numbers sw xs es en e = ap (λ (r : List Float). r ++ xs) (rows-of w n (sw ‼ 0) (sw ‼ 15) numbers alts (each-row w n alts numbers sw es en e))
 
-pub stored-are : (w : List ℤ) (n : Input) (alts rec numbers : List Float) (v : RecordValues) (x : Site) (p : Parts) (a : Need)
-    → v ≡ recordValuesOf w n a → x ≡ siteOf (v .sw) (n .«g_lat») (v .doy) (n .f107a) → p ≡ partsFrom noParts alts → a ≡ needOf p
-    → numbers ≡ rec ++ storedOf p (v .sw) x (v .values)
-    → (v .sw ≡ (viewOf w n) .sw) × (numbers ≡ rec ++ storedFor w n alts)
-unfolding storedFor recordValuesOf
-stored-are w n alts rec numbers v x p a ev ex ep ea en = (ap (λ (u : RecordValues). u .sw) ev, rw (en, ex, ev, ea, ep))
+pub stored-are : (w : List ℤ) (n : Input) (alts xs s numbers : List Float) (v : RecordValues) (x : Site) (doy : Float) (p : Parts) (a : Need)
+    → length xs ≡ 234 → v ≡ recordValuesOf w n a → x ≡ siteOf (v .sw) (n .«g_lat») doy (n .f107a) → doy ≡ ofInt binary64 (n .doy)
+    → p ≡ partsFrom noParts alts → a ≡ needOf p
+    → numbers ≡ take 14 (putMid 14 156 xs s) ++ storedOf p (v .sw) x (v .values)
+    → (v .sw ≡ (viewOf w n) .sw) × (numbers ≡ take 14 xs ++ storedFor w n alts)
+unfolding storedFor recordValuesOf viewOf
+stored-are w n alts xs s numbers v x doy p a len ev ex ed ep ea en =
+    let record-stays : take 14 (putMid 14 156 xs s) ≡ take 14 xs = take-at (take 14 xs) _ 14 (length-take-le 14 xs (omega (arith, len))) in
+    (ap (λ (u : RecordValues). u .sw) ev, rw (en, record-stays, ex, ed, ev, ea, ep))
 
 -- ---- the call
 

@@ -18,6 +18,7 @@ use stored::need_of;
 use stored::row_on;
 use stored::store;
 use stored_parts::parts_of;
+use views::day;
 
 // Each altitude's row into its own part of the buffer, out of the stored numbers; sw0 and sw15 are the main effects of switches 0 and 15.
 pub fn rows_at(sw0: f64, sw15: f64, numbers: &[f64], alts: &[f64], out: &mut [f64])
@@ -35,16 +36,17 @@ pub fn rows_at(sw0: f64, sw15: f64, numbers: &[f64], alts: &[f64], out: &mut [f6
 }
 
 // What rows at the altitudes read of a record, stored as a station stores it behind the first 14 numbers: the parts that the altitudes read. The
-// main effects of the switches come back.
+// main effects of the switches come back. The season lies where the parts are stored afterwards, so that it takes no more of the stack.
 pub fn stored_for(w: [i32; 24], n: Input, alts: &[f64], numbers: &mut [f64]) -> [f64; 24]
     requires { ⌜ length (now numbers) ≡ 234 ⌝ }
     ensures { λ r. ⌜ (r ≡ (viewOf w n) .sw) × (now (numbers .exit) ≡ take 14 (now (numbers .entry)) ++ storedFor w n (now (alts .entry))) ⌝ }
 {
     let p = parts_of(alts);
     let a = need_of(p);
-    let v = record_values(w, n, a);
+    let v = record_values(w, n, a, &mut numbers[14..170]);
     let sw = v.sw;
-    let x = site_of(sw, n.g_lat, v.doy, n.f107a);
+    let doy = day(n);
+    let x = site_of(sw, n.g_lat, doy, n.f107a);
     let l = v.values;
     store(p, sw, x, l, numbers);
     sw

@@ -1,27 +1,34 @@
 -- The sets' values from the values of the calls, and the expansions' values from these.
-use Prim.Native.Nat.{ℕ, zero, suc, _<_, _≤_}
+use Prim.Native.Nat.{ℕ, zero, suc, _+_, _*_, _<_, _≤_}
 use native.Mathlib.Omega.{arith}
 use mathlib.Core.Path.{_≡_, refl, ap, ap₂, sym, _∙_}
 use mathlib.Core.Bool.{Bool, true, false, cond}
 use mathlib.Core.List.{List, [], _∷_}
 use lib.Dec.{eqb, ltb, lit≤}
 use lib.ListN.{getD, length, replicate}
-use lib.Ieee.{Float, eq, neg}
+use lib.IntN.{ℤ}
+use lib.Ieee.{Float, binary64, ofInt, eq, neg}
 use Rattle.numbers.specs.Arithmetic.{_‼_}
 use Rattle.numbers.specs.Literals.{0·0, 1·0}
+use Rattle.setting.specs.declared.Input.{Input}
 use Rattle.setting.specs.declared.View.{View}
 use Rattle.setting.specs.Switches.{filled}
 use Rattle.tables.specs.Tables.{ptT, psT, pdT0, pdT1, pdT2, pdT3, pdT4, pdT5, pdT6, pdT7, pdT8, ptlT0, ptlT1, ptlT2, ptlT3, pmaT0, pmaT1, pmaT2, pmaT3, pmaT4, pmaT5, pmaT6, pmaT7, pmaT8, pmaT9}
 use Rattle.activity.specs.Activity.{apdfNextOf, apdfFromOf}
 use Rattle.activity.specs.Responses.{aptFrom}
 use Rattle.expansion.specs.declared.Carried.{Carried}
-use Rattle.expansion.specs.Expansion.{globe7Value, glob7sFrom}
-use Rattle.plan.specs.declared.ExpansionValues.{ExpansionValues}
+use Rattle.expansion.specs.Expansion.{globe7Given, glob7sFromGiven}
 use Rattle.needed_sets.specs.declared.Need.{Need}
 use Rattle.expansion_values.specs.declared.Activity.{Activity}
-use Rattle.expansion_values.specs.ExpansionValues.{legendreIn, quietOf, activeOf, wideOf, expansionValuesOf}
+use Rattle.expansion_values.specs.ExpansionValues.{legendreIn, quietOf, activeOf, recordValuesOf}
 use Rattle.needed_sets.specs.NeededSets.{glob7sEnd}
-use Rattle.expansion_values.specs.Sets.{globe7Sets, globe7Set, globe7Before, globe7Values, glob7sSets, glob7sSet, glob7sBefore, glob7sAt, glob7sValues}
+use Rattle.needed_sets.specs.Sets.{globe7Sets, globe7Set, glob7sSets, glob7sSet}
+use Rattle.season.specs.Season.{seasonsAt, longitudeSeasonsAt, seasonInto}
+use Rattle.season.specs.Filled.{seasoned}
+use Rattle.expansion_parts.specs.declared.Seasons.{Seasons}
+use Rattle.expansion_values.specs.Sets.{globe7Before, glob7sBefore, wideGiven, globe7ValuesGiven, glob7sAtGiven, glob7sValuesGiven, namedValues, expansionValuesGiven, recordValuesGiven}
+use Rattle.expansion_values.specs.InSeason.{longitudeIn, record-in-season}
+use Rattle.expansion_values.specs.declared.RecordValues.{RecordValues}
 use Rattle.expansion_values.specs.Activities.{activityIn, activeFrom, carrying, active-from, in-ps, in-pd2, in-pd3, in-pd4, in-pd5, in-pd6, in-pd7, in-pd8}
 
 kept-apdf : (b : Bool) (x y z : Float) → cond b x z ≡ cond b (cond b x y) z
@@ -36,8 +43,8 @@ unfolding activeFrom activeOf apdfNextOf
 carried-at true v c b p51 p138 = cc (kept-apdf (eq (v .sw ‼ 9) (neg 1·0)) (c .apdf) (apdfFromOf (pdT7 ‼ 43) (pdT7 ‼ 44) (v .ap)) (b .apdf))
 carried-at false v c b p51 p138 = refl
 
-pub globe7-at-law : (k : ℕ) (v : View) (g : List (List Float)) (c c7 : Carried) (b : Activity) (p : List Float) (r x y nine latitude before : Float)
-    → r ≡ globe7Value v p g (carrying c x y)
+pub globe7-at-law : (k : ℕ) (v : View) (g : List (List Float)) (c c7 : Carried) (b : Activity) (p : List Float) (d : Seasons) (r x y nine latitude before : Float)
+    → r ≡ globe7Given v p g (carrying c x y) d
     → y ≡ aptFrom nine (p ‼ 51) (p ‼ 138) latitude (b .g) before
     → before ≡ cond (eqb k 9) (c7 .apt) (c .apt)
     → x ≡ cond (eq nine (neg 1·0)) (c .apdf) (b .apdf)
@@ -46,12 +53,12 @@ pub globe7-at-law : (k : ℕ) (v : View) (g : List (List Float)) (c c7 : Carried
     → b ≡ activityIn v (globe7Set k)
     → c7 ≡ activeOf v pdT7 c
     → p ≡ globe7Set k
-    → r ≡ wideOf v g (globe7Before v c k) (globe7Set k)
-unfolding wideOf
-globe7-at-law k v g c c7 b p r x y nine latitude before e0 e1 e2 e3 e4 e5 e6 e7 e8 =
+    → r ≡ wideGiven v g (globe7Before v c k) (globe7Set k) d
+unfolding wideGiven
+globe7-at-law k v g c c7 b p d r x y nine latitude before e0 e1 e2 e3 e4 e5 e6 e7 e8 =
     let f : carrying c x y ≡ activeFrom v b ((globe7Set k) ‼ 51) ((globe7Set k) ‼ 138) (globe7Before v c k) =
     rw (e1, e2, e3, e4, e5, e7, e8) (carried-at (eqb k 9) v c b ((globe7Set k) ‼ 51) ((globe7Set k) ‼ 138)) in
-    e0 ∙ ap₂ (λ (t : List Float) (d : Carried). globe7Value v t g d) e8 (f ∙ active-from v (globe7Set k) (globe7Before v c k) b e6)
+    e0 ∙ ap₂ (λ (t : List Float) (u : Carried). globe7Given v t g u d) e8 (f ∙ active-from v (globe7Set k) (globe7Before v c k) b e6)
 
 -- ---- the last of the sets, and whose activity a set has
 
@@ -111,56 +118,34 @@ to-end o true false y = refl
 to-end true false false y = refl
 to-end false false false y = refl
 
-pub glob7s-to-end : (n : Need) (v : View) (g : List (List Float)) (c3 c8 : Carried)
-    → filled (glob7sEnd n) (glob7sAt n v g c3 c8) 0 (replicate 14 0·0) ≡ glob7sValues n v g c3 c8
-unfolding glob7sValues
-glob7s-to-end n v g c3 c8 = to-end (n .nodes) (n .meso) (n .tropo) (λ k. glob7sFrom v (glob7sSet k) g (glob7sBefore k c3 c8))
-
-pub end-most : (n : Need) → glob7sEnd n ≤ 14
-end-most n = most (n .tropo) (n .meso) (n .nodes)
-  where
-    most : (t m o : Bool) → cond t 14 (cond m 9 (cond o 5 0)) ≤ 14
-    most true m o = lit≤ tt
-    most false true o = lit≤ tt
-    most false false true = lit≤ tt
-    most false false false = lit≤ tt
+pub glob7s-to-end : (n : Need) (v : View) (g : List (List Float)) (c3 c8 : Carried) (s : List Float)
+    → filled (glob7sEnd n) (glob7sAtGiven n v g c3 c8 s) 0 (replicate 14 0·0) ≡ glob7sValuesGiven n v g c3 c8 s
+unfolding glob7sValuesGiven
+glob7s-to-end n v g c3 c8 s =
+    to-end (n .nodes) (n .meso) (n .tropo)
+    (λ k. glob7sFromGiven v (glob7sSet k) g (glob7sBefore k c3 c8) (seasonsAt s (44 + 4 * k)) (longitudeSeasonsAt s (100 + 4 * k)))
 
 -- ---- the whole
 
-pub expansion-values-law : (v : View) (n : Need) (y x : List Float) (c7 c : Carried) (g : List (List Float))
-    → y ≡ glob7sValues n v g (activeOf v pdT3 c) (activeOf v pdT8 c7)
-    → x ≡ globe7Values n v g c
+pub expansion-values-law : (v : View) (n : Need) (s y x : List Float) (c7 c : Carried) (g : List (List Float))
+    → y ≡ glob7sValuesGiven n v g (activeOf v pdT3 c) (activeOf v pdT8 c7) s
+    → x ≡ globe7ValuesGiven n v g c s
     → c7 ≡ activeOf v pdT7 c
     → c ≡ quietOf v
     → g ≡ legendreIn v
-    → _≡_ {A = ExpansionValues}
-    (record {
-      pt = x ‼ 0;
-      ps = x ‼ 10;
-      pd0 = x ‼ 1;
-      pd1 = x ‼ 2;
-      pd2 = x ‼ 3;
-      pd3 = x ‼ 4;
-      pd4 = x ‼ 5;
-      pd5 = x ‼ 6;
-      pd6 = x ‼ 7;
-      pd7 = x ‼ 8;
-      pd8 = x ‼ 9;
-      ptl0 = y ‼ 0;
-      ptl1 = y ‼ 1;
-      ptl2 = y ‼ 2;
-      ptl3 = y ‼ 3;
-      pma0 = y ‼ 5;
-      pma1 = y ‼ 6;
-      pma2 = y ‼ 7;
-      pma3 = y ‼ 9;
-      pma4 = y ‼ 10;
-      pma5 = y ‼ 11;
-      pma6 = y ‼ 12;
-      pma7 = y ‼ 13;
-      pma8 = y ‼ 4;
-      pma9 = y ‼ 8;
-    })
-    (expansionValuesOf v n)
-unfolding expansionValuesOf globe7Values glob7sValues filled globe7Sets glob7sSets
-expansion-values-law v n y x c7 c g e0 e1 e2 e3 e4 = rw (e0, e1, e2, e3, e4)
+    → namedValues x y ≡ expansionValuesGiven v n s
+unfolding expansionValuesGiven
+expansion-values-law v n s y x c7 c g e0 e1 e2 e3 e4 = rw (e0, e1, e2, e3, e4)
+
+-- the values out of the season that was filled
+pub record-values-law : (w : List ℤ) (n : Input) (a : Need) (s t : List Float) (doy : Float) (long : Bool) (r : RecordValues)
+    → length s ≡ 156
+    → r ≡ recordValuesGiven w n a t
+    → t ≡ seasonInto doy a long s
+    → long ≡ longitudeIn w
+    → doy ≡ ofInt binary64 (n .doy)
+    → (r ≡ recordValuesOf w n a) × (t ≡ seasonInto (ofInt binary64 (n .doy)) a (longitudeIn w) s)
+record-values-law w n a s t doy long r len e0 e1 e2 e3 =
+    let filled-is : t ≡ seasonInto (ofInt binary64 (n .doy)) a (longitudeIn w) s = rw (e3, e2) at e1 in
+    let right = seasoned (ofInt binary64 (n .doy)) a (longitudeIn w) s len in
+    (e0 ∙ ap (recordValuesGiven w n a) filled-is ∙ record-in-season w n a _ right, filled-is)

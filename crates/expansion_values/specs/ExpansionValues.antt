@@ -10,6 +10,7 @@ use Rattle.setting.specs.declared.Input.{Input}
 use Rattle.setting.specs.declared.View.{View}
 use Rattle.setting.specs.State.{freshOf}
 use Rattle.views.specs.View.{viewOf}
+use Rattle.views.specs.Phases.{annualCosOf}
 use Rattle.tables.specs.Tables.{ptT, psT, pdT0, pdT1, pdT2, pdT3, pdT4, pdT5, pdT6, pdT7, pdT8, ptlT0, ptlT1, ptlT2, ptlT3, pmaT0, pmaT1, pmaT2, pmaT3, pmaT4, pmaT5, pmaT6, pmaT7, pmaT8, pmaT9}
 use Rattle.legendre.specs.Legendre.{legendreOf}
 use Rattle.activity.specs.Activity.{apdfNextOf, aptNextOf}
@@ -97,4 +98,5 @@ expansionValuesOf v n =
 
 -- what gts7 and gtd7 read of a record under a switch row, its altitude apart
 unfoldable pub recordValuesOf : List ℤ → Input → Need → RecordValues
-recordValuesOf w n a = let v = viewOf w n in record { sw = v .sw; doy = v .doy; values = expansionValuesOf v a }
+recordValuesOf w n a =
+    let v = viewOf w n in record { sw = v .sw; slat = v .slat; «cos_pt» = annualCosOf (v .doy) (ptT ‼ 13); values = expansionValuesOf v a }

@@ -1,17 +1,21 @@
 // The values of the expansions that gtd7 asks for from a fresh State, each worked out once.
 ghost use mathlib.Core.Path.{_≡_};
-ghost use Prim.Native.Nat.{_<_, _≤_};
+ghost use Prim.Native.Nat.{_+_, _*_, _<_, _≤_};
 ghost use mathlib.Core.Bool.{true, cond};
 ghost use lib.ListN.{length};
+ghost use lib.Ieee.{binary64, ofInt};
 ghost use Rattle.numbers.specs.Literals.{0·0};
 ghost use Rattle.tables.specs.Tables.{ptT, pdT0, pdT1, pdT3, pdT7, pdT8};
 ghost use Rattle.views.specs.Shared.{Shared};
-ghost use Rattle.expansion.specs.Expansion.{globe7Value, glob7sFrom};
+ghost use Rattle.expansion.specs.Expansion.{globe7Given, glob7sFromGiven};
 ghost use Rattle.numbers.specs.Arithmetic.{_‼_};
 ghost use Rattle.needed_sets.specs.NeededSets.{glob7sEnd};
+ghost use Rattle.needed_sets.specs.Sets.{globe7Set, glob7sSet};
+ghost use Rattle.season.specs.Season.{seasonsAt, longitudeSeasonsAt, seasonInto};
 ghost use Rattle.expansion_values.specs.Activities.{activityOf, activityIn, activeFrom, carrying};
-ghost use Rattle.expansion_values.specs.ExpansionValues.{legendreIn, quietOf, activeOf, wideOf, expansionValuesOf, recordValuesOf};
-ghost use Rattle.expansion_values.specs.Sets.{globe7Set, globe7Before, globe7Values, glob7sSet, glob7sBefore, glob7sValues};
+ghost use Rattle.expansion_values.specs.ExpansionValues.{legendreIn, quietOf, activeOf, recordValuesOf};
+ghost use Rattle.expansion_values.specs.Sets.{globe7Before, glob7sBefore, wideGiven, globe7ValuesGiven, glob7sValuesGiven, expansionValuesGiven, recordValuesGiven};
+ghost use Rattle.expansion_values.specs.InSeason.{longitudeIn};
 use activity::Responses;
 use activity::apdf_from;
 use activity::apt_from;
@@ -20,6 +24,7 @@ use expansion::Carried;
 use expansion::glob7s_from;
 use expansion::globe7_value;
 use expansion::turns_after;
+use expansion_parts::Seasons;
 use legendre::legendre;
 use needed_sets::Need;
 use needed_sets::glob7s_end;
@@ -27,9 +32,13 @@ use needed_sets::glob7s_needed;
 use needed_sets::globe7_needed;
 use numbers::pick;
 use plan::ExpansionValues;
+use season::longitude_seasons_at;
+use season::season_into;
+use season::seasons_at;
 use setting::Input;
 use setting::View;
 use setting::fresh;
+use switch_rows::is_one;
 use tables::pd0;
 use tables::pd1;
 use tables::pd2;
@@ -55,6 +64,7 @@ use tables::ptl0;
 use tables::ptl1;
 use tables::ptl2;
 use tables::ptl3;
+use views::day;
 use views::view_of;
 
 // What State carries before a set's magnetic activity.
@@ -173,14 +183,22 @@ pub fn legendre_in(v: View) -> [[f64; 9]; 4]
 }
 
 // globe7 from what State carries, but for apdf and apt.
-pub fn globe7_with(v: View, p: &[f64], g: [[f64; 9]; 4], c: Carried, apdf: f64, apt: f64) -> f64
+pub fn globe7_with(
+    v: View,
+    p: &[f64],
+    g: [[f64; 9]; 4],
+    c: Carried,
+    apdf: f64,
+    apt: f64,
+    d: Seasons,
+) -> f64
     requires { ⌜ (length (now p) ≡ 150) × Shared v ⌝ }
-    ensures { λ r. ⌜ r ≡ globe7Value v (now (p .entry)) g (carrying c apdf apt) ⌝ }
+    ensures { λ r. ⌜ r ≡ globe7Given v (now (p .entry)) g (carrying c apdf apt) d ⌝ }
 {
     let mut s = c;
     s.apdf = apdf;
     s.apt = apt;
-    globe7_value(v, p, g, s)
+    globe7_value(v, p, g, s, d)
 }
 
 // The set k of globe7, k from 0: PT, PD[0] to PD[8], PS. It is put where one lies; an array that a match gives is copied once more.
@@ -250,7 +268,7 @@ pub fn globe7_activity(k: usize, v: View, a: Activity) -> Activity
     a
 }
 
-// globe7 over the set k, which is p where it is needed, and 0 where not; c7 is what PD[7] leaves.
+// globe7 over the set k, which is p where it is needed, and 0 where not; c7 is what PD[7] leaves, s the season.
 pub fn globe7_at(
     on: bool,
     k: usize,
@@ -260,9 +278,10 @@ pub fn globe7_at(
     c: Carried,
     a: Activity,
     c7: Carried,
+    s: &[f64],
 ) -> f64
-    requires { ⌜ (length (now p) ≡ 150) × Shared v × (on ≡ true → now p ≡ globe7Set k) × (a ≡ activityIn v ptT) × (c7 ≡ activeOf v pdT7 c) ⌝ }
-    ensures { λ r. ⌜ r ≡ cond on (wideOf v g (globe7Before v c k) (globe7Set k)) 0·0 ⌝ }
+    requires { ⌜ (length (now p) ≡ 150) × Shared v × (on ≡ true → now p ≡ globe7Set k) × (a ≡ activityIn v ptT) × (c7 ≡ activeOf v pdT7 c) × (k < 11) × (length (now s) ≡ 156) ⌝ }
+    ensures { λ r. ⌜ r ≡ cond on (wideGiven v g (globe7Before v c k) (globe7Set k) (seasonsAt (now (s .entry)) (4 * k))) 0·0 ⌝ }
 {
     if on {
         let b = globe7_activity(k, v, a);
@@ -272,7 +291,8 @@ pub fn globe7_at(
         let before = pick(k == 9, c7.apt, c.apt);
         let r = b.g;
         let apt = apt_from(nine, p[51], p[138], latitude, r, before);
-        return globe7_with(v, p, g, c, apdf, apt);
+        let d = seasons_at(s, 4 * k);
+        return globe7_with(v, p, g, c, apdf, apt, d);
     }
     0.0
 }
@@ -285,9 +305,10 @@ pub fn globe7_values(
     c: Carried,
     a: Activity,
     c7: Carried,
+    s: &[f64],
 ) -> [f64; 11]
-    requires { ⌜ Shared v × (a ≡ activityIn v ptT) × (c7 ≡ activeOf v pdT7 c) ⌝ }
-    ensures { λ r. ⌜ r ≡ globe7Values n v g c ⌝ }
+    requires { ⌜ Shared v × (a ≡ activityIn v ptT) × (c7 ≡ activeOf v pdT7 c) × (length (now s) ≡ 156) ⌝ }
+    ensures { λ r. ⌜ r ≡ globe7ValuesGiven n v g c (now (s .entry)) ⌝ }
 {
     let mut p = [0.0; 150];
     let mut x = [0.0; 11];
@@ -295,7 +316,7 @@ pub fn globe7_values(
     while k < 11 {
         let on = globe7_needed(n, k);
         put_needed_set(on, k, &mut p);
-        x[k] = globe7_at(on, k, v, &p, g, c, a, c7);
+        x[k] = globe7_at(on, k, v, &p, g, c, a, c7, s);
         k += 1;
     }
     x
@@ -371,13 +392,16 @@ pub fn glob7s_at(
     g: [[f64; 9]; 4],
     c3: Carried,
     c8: Carried,
+    s: &[f64],
 ) -> f64
-    requires { ⌜ (100 ≤ length (now p)) × Shared v × (now p ≡ glob7sSet k) ⌝ }
-    ensures { λ r. ⌜ r ≡ cond on (glob7sFrom v (glob7sSet k) g (glob7sBefore k c3 c8)) 0·0 ⌝ }
+    requires { ⌜ (100 ≤ length (now p)) × Shared v × (now p ≡ glob7sSet k) × (k < 14) × (length (now s) ≡ 156) ⌝ }
+    ensures { λ r. ⌜ r ≡ cond on (glob7sFromGiven v (glob7sSet k) g (glob7sBefore k c3 c8) (seasonsAt (now (s .entry)) (44 + 4 * k)) (longitudeSeasonsAt (now (s .entry)) (100 + 4 * k))) 0·0 ⌝ }
 {
     if on {
         let c = glob7s_before(k, c3, c8);
-        return glob7s_from(v, p, g, c);
+        let d = seasons_at(s, 44 + 4 * k);
+        let e = longitude_seasons_at(s, 100 + 4 * k);
+        return glob7s_from(v, p, g, c, d, e);
     }
     0.0
 }
@@ -390,9 +414,10 @@ pub fn glob7s_filled(
     g: [[f64; 9]; 4],
     c3: Carried,
     c8: Carried,
+    s: &[f64],
 ) -> [f64; 14]
-    requires { ⌜ (end ≡ glob7sEnd n) × Shared v ⌝ }
-    ensures { λ r. ⌜ r ≡ glob7sValues n v g c3 c8 ⌝ }
+    requires { ⌜ (end ≡ glob7sEnd n) × Shared v × (length (now s) ≡ 156) ⌝ }
+    ensures { λ r. ⌜ r ≡ glob7sValuesGiven n v g c3 c8 (now (s .entry)) ⌝ }
 {
     let mut p = [0.0; 100];
     let mut x = [0.0; 14];
@@ -400,7 +425,7 @@ pub fn glob7s_filled(
     while k < end {
         let on = glob7s_needed(n, k);
         put_glob7s_set(k, &mut p);
-        x[k] = glob7s_at(on, k, v, &p, g, c3, c8);
+        x[k] = glob7s_at(on, k, v, &p, g, c3, c8, s);
         k += 1;
     }
     x
@@ -414,9 +439,10 @@ pub fn glob7s_values(
     c: Carried,
     a: Activity,
     c7: Carried,
+    s: &[f64],
 ) -> [f64; 14]
-    requires { ⌜ Shared v × (a ≡ activityIn v ptT) ⌝ }
-    ensures { λ r. ⌜ r ≡ glob7sValues n v g (activeOf v pdT3 c) (activeOf v pdT8 c7) ⌝ }
+    requires { ⌜ Shared v × (a ≡ activityIn v ptT) × (length (now s) ≡ 156) ⌝ }
+    ensures { λ r. ⌜ r ≡ glob7sValuesGiven n v g (activeOf v pdT3 c) (activeOf v pdT8 c7) (now (s .entry)) ⌝ }
 {
     let end = glob7s_end(n);
     if end == 0 {
@@ -426,21 +452,21 @@ pub fn glob7s_values(
     let c3 = active(v, a, p3[51], p3[138], c);
     let p8 = pd8();
     let c8 = active(v, a, p8[51], p8[138], c7);
-    glob7s_filled(end, n, v, g, c3, c8)
+    glob7s_filled(end, n, v, g, c3, c8, s)
 }
 
-// The values that are needed; the others are 0.
-pub fn expansion_values_of(v: View, n: Need) -> ExpansionValues
-    requires { ⌜ Shared v ⌝ }
-    ensures { λ r. ⌜ r ≡ expansionValuesOf v n ⌝ }
+// The values that are needed, out of a season; the others are 0.
+pub fn expansion_values_of(v: View, n: Need, s: &[f64]) -> ExpansionValues
+    requires { ⌜ Shared v × (length (now s) ≡ 156) ⌝ }
+    ensures { λ r. ⌜ r ≡ expansionValuesGiven v n (now (s .entry)) ⌝ }
 {
     let g = legendre_in(v);
     let c = quiet(v);
     let k = common(v);
     let p7 = pd7();
     let c7 = active(v, k, p7[51], p7[138], c);
-    let x = globe7_values(n, v, g, c, k, c7);
-    let y = glob7s_values(n, v, g, c, k, c7);
+    let x = globe7_values(n, v, g, c, k, c7, s);
+    let y = glob7s_values(n, v, g, c, k, c7, s);
     ExpansionValues {
         pt: x[0],
         ps: x[10],
@@ -470,23 +496,48 @@ pub fn expansion_values_of(v: View, n: Need) -> ExpansionValues
     }
 }
 
-// What gts7 and gtd7 read of a record under a switch row, its altitude apart: the switches' main effects, the day as a number, the expansions'
-// values. The View ends here, so that no more of it lies on the stack.
+// What gts7 and gtd7 read of a record under a switch row, its altitude apart: the switches' main effects, the sine of the latitude and the day's cosine
+// with PT's phase, the expansions' values. The View ends here, so that no more of it lies on the stack.
 pub struct RecordValues {
     pub sw: [f64; 24],
-    pub doy: f64,
+    pub slat: f64,
+    pub cos_pt: f64,
     pub values: ExpansionValues,
 }
 
-pub fn record_values(w: [i32; 24], n: Input, a: Need) -> RecordValues
-    ensures { λ r. ⌜ r ≡ recordValuesOf w n a ⌝ }
+// Out of a season.
+pub fn record_values_in(w: [i32; 24], n: Input, a: Need, s: &[f64]) -> RecordValues
+    requires { ⌜ length (now s) ≡ 156 ⌝ }
+    ensures { λ r. ⌜ r ≡ recordValuesGiven w n a (now (s .entry)) ⌝ }
 {
     let v = view_of(w, n);
-    let l = expansion_values_of(v, a);
+    let l = expansion_values_of(v, a, s);
     let sw = v.sw;
     RecordValues {
         sw: sw,
-        doy: v.doy,
+        slat: v.slat,
+        cos_pt: s[2],
         values: l,
     }
+}
+
+// Whether the longitude's term of glob7s reads its cosines of the day.
+pub fn longitude_in(w: [i32; 24]) -> bool
+    ensures { λ r. ⌜ r ≡ longitudeIn w ⌝ }
+{
+    let ten = is_one(w, 10);
+    let eleven = is_one(w, 11);
+    ten & eleven
+}
+
+// The same with the season of the record's day, which is left in s.
+
+pub fn record_values(w: [i32; 24], n: Input, a: Need, s: &mut [f64]) -> RecordValues
+    requires { ⌜ length (now s) ≡ 156 ⌝ }
+    ensures { λ r. ⌜ (r ≡ recordValuesOf w n a) × (now (s .exit) ≡ seasonInto (ofInt binary64 (n .doy)) a (longitudeIn w) (now (s .entry))) ⌝ }
+{
+    let doy = day(n);
+    let long = longitude_in(w);
+    season_into(doy, a, long, s);
+    record_values_in(w, n, a, s)
 }

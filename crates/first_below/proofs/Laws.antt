@@ -9,7 +9,7 @@ use lib.Dec.{eqb}
 use lib.IntN.{ℤ}
 use lib.ListN.{length, take}
 use lib.Seq.{length-take-le}
-use lib.Ieee.{Float, le}
+use lib.Ieee.{Float, le, binary64, ofInt}
 use Rattle.numbers.specs.Arithmetic.{_‼_}
 use Rattle.numbers.specs.Literals.{2500·0}
 use Rattle.setting.specs.declared.Input.{Input}
@@ -105,12 +105,12 @@ module _ (w : List ℤ) (n : Input) (h : Parts) (z : Float) (xs : List Float) (l
   grown-long = stored-in-length p (v .sw) x (expansionValuesOf v (needOf p)) xs len
 
   -- what a walk stores at an altitude
-  pub grows : (q r k : Parts) (a : Need) (u : RecordValues) (y : Site) (ys : List Float)
+  pub grows : (q r k : Parts) (a : Need) (u : RecordValues) (doy : Float) (y : Site) (ys : List Float)
       → q ≡ partsAt z → r ≡ reachedOf q h → a ≡ needOf r → u ≡ recordValuesOf w n a
-      → y ≡ siteOf (u .sw) (n .«g_lat») (u .doy) (n .f107a) → ys ≡ storedIn r (u .sw) y (u .values) xs → k ≡ eitherParts h r
+      → doy ≡ ofInt binary64 (n .doy) → y ≡ siteOf (u .sw) (n .«g_lat») doy (n .f107a) → ys ≡ storedIn r (u .sw) y (u .values) xs → k ≡ eitherParts h r
       → (k ≡ partsGrown h z) × (ys ≡ numbersGrown w n h z xs)
-  unfolding partsGrown numbersGrown recordValuesOf
-  grows q r k a u y ys eq er ea eu ey es ek = (rw (ek, er, eq), rw (es, ey, eu, ea, er, eq))
+  unfolding partsGrown numbersGrown recordValuesOf viewOf
+  grows q r k a u doy y ys eq er ea eu ed ey es ek = (rw (ek, er, eq), rw (es, ey, ed, eu, ea, er, eq))
 
 -- the row of an altitude that is served is its own
 pub row-is : (w : List ℤ) (n : Input) (h : Parts) (z : Float) (xs one : List Float) (sw0 sw15 : Float)

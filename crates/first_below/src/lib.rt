@@ -26,6 +26,7 @@ use stored_parts::no_parts;
 use stored_parts::parts_at;
 use stored_parts::reached;
 use stored_parts::serves;
+use views::day;
 
 // 4 for a row whose length len is not 11; then the column's refusals, its buffer taken to be long enough.
 pub fn checked(w: [i32; 24], n: Input, alts: &[f64], len: usize) -> Answer
@@ -45,9 +46,11 @@ pub fn grown(w: [i32; 24], n: Input, h: Parts, z: f64, numbers: &mut [f64]) -> P
     let q = parts_at(z);
     let p = reached(q, h);
     let a = need_of(p);
-    let v = record_values(w, n, a);
+    let mut season = [0.0; 156];
+    let v = record_values(w, n, a, &mut season);
     let sw = v.sw;
-    let x = site_of(sw, n.g_lat, v.doy, n.f107a);
+    let doy = day(n);
+    let x = site_of(sw, n.g_lat, doy, n.f107a);
     let l = v.values;
     store_in(p, sw, x, l, numbers);
     either_parts(h, p)

@@ -22,16 +22,20 @@ use Rattle.gts7_arithmetic.specs.declared.SixSpecies.{SixSpecies}
 use Rattle.gts7_arithmetic.specs.declared.Gts7Output.{Gts7Output}
 
 -- what gts7 and gtd7 read besides the altitude: glatf at xlat, zhf, the factor of the flux in O and O2, and the nine constants
-unfoldable pub siteWith : Parameters → List Float → Float → Float → Float → Site
-siteWith c sw lat doy f107a =
+unfoldable pub siteFrom : Parameters → List Float → Float → Float → Float → Float → Site
+siteFrom c sw lat slat cosPt f107a =
     let g = glatfOf (cond (eq (sw ‼ 2) 0·0) 45·0 lat) in
     record {
       gsurf = g .gsurf;
       re = g .re;
-      zhf = pdlT1 ‼ 24 ⊗ (1·0 ⊕ sw ‼ 5 ⊗ pdlT0 ‼ 24 ⊗ sinOf (dgtr ⊗ lat) ⊗ cosOf (dr ⊗ (doy ⊖ ptT ‼ 13)));
+      zhf = pdlT1 ‼ 24 ⊗ (1·0 ⊕ sw ‼ 5 ⊗ pdlT0 ‼ 24 ⊗ slat ⊗ cosPt);
       flux = 1·0 ⊕ sw ‼ 1 ⊗ pdlT0 ‼ 23 ⊗ (f107a ⊖ 150·0);
       nine = c;
     }
+
+-- the same of a latitude and a day
+unfoldable pub siteWith : Parameters → List Float → Float → Float → Float → Site
+siteWith c sw lat doy f107a = siteFrom c sw lat (sinOf (dgtr ⊗ lat)) (cosOf (dr ⊗ (doy ⊖ ptT ‼ 13))) f107a
 
 -- the same with the present nine
 unfoldable pub siteOf : List Float → Float → Float → Float → Site

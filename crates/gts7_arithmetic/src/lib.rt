@@ -1,7 +1,7 @@
 // The arithmetic of gts7 around its expansions and species: place, temperatures, nodes, totals.
 ghost use mathlib.Core.Path.{_≡_};
 ghost use Rattle.species.specs.Places.{spineAt, placeAt};
-ghost use Rattle.gts7_arithmetic.specs.Gts7Arithmetic.{siteWith, siteOf, variedOf, meanOf, shapeOf, anomalousOf, massOf, unitsOf, rowOf, gatherOf};
+ghost use Rattle.gts7_arithmetic.specs.Gts7Arithmetic.{siteFrom, siteWith, siteOf, variedOf, meanOf, shapeOf, anomalousOf, massOf, unitsOf, rowOf, gatherOf};
 use elementary::root::sqrt;
 use elementary::trigonometry::cos;
 use elementary::trigonometry::sin;
@@ -56,24 +56,32 @@ pub struct Gts7Output {
     pub six: SixSpecies,
 }
 
-// Gravity at the latitude, or at 45 degrees where switch 2 is off; zhf; and 1 + sw[1] * PDL[0][23] * (f107a - 150).
-pub fn site_with(c: Parameters, sw: [f64; 24], lat: f64, doy: f64, f107a: f64) -> Site
-    ensures { λ r. ⌜ r ≡ siteWith c sw lat doy f107a ⌝ }
+// Gravity at the latitude, or at 45 degrees where switch 2 is off; zhf, from the sine of the latitude and the day's cosine with PT's phase; and
+// 1 + sw[1] * PDL[0][23] * (f107a - 150).
+pub fn site_from(c: Parameters, sw: [f64; 24], lat: f64, slat: f64, cos_pt: f64, f107a: f64) -> Site
+    ensures { λ r. ⌜ r ≡ siteFrom c sw lat slat «cos_pt» f107a ⌝ }
 {
     let k = pdl0();
     let l = pdl1();
-    let p = pt();
     let xlat = pick(sw[2] == 0.0, 45.0, lat);
     let g = glatf(xlat);
-    let a = sin(DGTR * lat);
-    let b = cos(DR * (doy - p[13]));
     Site {
         gsurf: g.gsurf,
         re: g.re,
-        zhf: l[24] * (1.0 + sw[5] * k[24] * a * b),
+        zhf: l[24] * (1.0 + sw[5] * k[24] * slat * cos_pt),
         flux: 1.0 + sw[1] * k[23] * (f107a - 150.0),
         nine: c,
     }
+}
+
+// The same of a latitude and a day.
+pub fn site_with(c: Parameters, sw: [f64; 24], lat: f64, doy: f64, f107a: f64) -> Site
+    ensures { λ r. ⌜ r ≡ siteWith c sw lat doy f107a ⌝ }
+{
+    let p = pt();
+    let a = sin(DGTR * lat);
+    let b = cos(DR * (doy - p[13]));
+    site_from(c, sw, lat, a, b, f107a)
 }
 
 // The same with the present nine.

@@ -22,7 +22,7 @@ use Rattle.expansion.specs.Expansion.{stateAfter}
 use Rattle.plan.specs.Plan.{Ran, run, stepped}
 use Rattle.plan.specs.Mark.{marked-where, unmarked-leaves}
 use Rattle.gts7_arithmetic.specs.declared.Site.{Site}
-use Rattle.gts7_arithmetic.specs.Gts7Arithmetic.{siteWith}
+use Rattle.gts7_arithmetic.specs.Gts7Arithmetic.{siteFrom, siteWith}
 use Rattle.lower_atmosphere.specs.declared.Gtd7Output.{Gtd7Output}
 use Rattle.acceptance.specs.declared.Answer.{Answer}
 use Rattle.acceptance.specs.declared.Answer.the-variants.{Accepted, Refused}
@@ -86,7 +86,7 @@ on-at-72 c e = e
 -- Where switch 15 is 1 and N2's mixing does not end below 72.5 km, the mark is true after a run below 72.5 km
 pub marked-below : (c : Parameters) (w : List ℤ) (n : Input) → isOne (given w 15) ≡ true → le 72·5 (c .n2) ≡ true → lt (n .alt) 72·5 ≡ true
     → (leftWith c w n) .«dm28_set» ≡ true
-unfolding leftWith siteWith
+unfolding leftWith siteWith siteFrom
 marked-below c w n one high low =
     left-marked (viewOf w n) _ (n .alt)
     ∙ rw (view-15 w n, one, lt-asym (n .alt) 72·5 low) (on-at-72 c high)

@@ -40,6 +40,7 @@ use places::place::Spine;
 use places::thinning::Thinning;
 use plan::ExpansionValues;
 use profile::unchecked::Shape;
+use season::season_into;
 use setting::State;
 use setting::View;
 use setting::fresh;
@@ -316,7 +317,9 @@ pub fn gtd7_from_fresh(v: View, x: Site, alt: f64) -> WholeLeft
 {
     let b = need_at(alt);
     let a = with_high(b);
-    let l = expansion_values_of(v, a);
+    let mut season = [0.0; 156];
+    season_into(v.doy, a, true, &mut season);
+    let l = expansion_values_of(v, a, &season);
     let s = fresh();
     let p7 = pd7();
     let s7 = after(v, &p7, s);

@@ -6,7 +6,7 @@ use mathlib.Core.List.{List}
 use native.Mathlib.Omega.{arith}
 use borrow.Author.Tests.{eqb-false, ne-eqb}
 use borrow.Author.Count.{below-more, below-none}
-use lib.Dec.{eqb, lit≤, lit<}
+use lib.Dec.{eqb, ltb, lit≤, lit<}
 use lib.ListN.{length, set, length-set}
 use lib.Seq.{getD-set-same, getD-set-other}
 use lib.Ieee.{Float, nan}
@@ -464,3 +464,36 @@ module _ (doy : Float) (n : Need) (b : Bool) (s : List Float) (len : length s �
         lower = all-lower;
         longitude = all-longitude;
       }
+
+-- ---- a season for more serves for less
+
+pub serves : (doy : Float) (n m : Need) (b : Bool) (s : List Float)
+    → ((k : ℕ) → globe7Needed m k ≡ true → globe7Needed n k ≡ true)
+    → ((k : ℕ) → glob7sNeeded m k ≡ true → glob7sNeeded n k ≡ true)
+    → Seasoned doy n true s
+    → Seasoned doy m b s
+serves doy n m b s f g q =
+    record {
+      places = q .places;
+      third = q .third;
+      wide = λ k h e. q .wide k h (f k e);
+      lower = λ k h e. q .lower k h (g k e);
+      longitude = λ _ k h e. q .longitude refl k h (g k e);
+    }
+
+-- every set is needed
+abbrev pub allNeeded : Need
+allNeeded = record { high = true; pt = true; ps = true; nodes = true; meso = true; tropo = true }
+
+same : (b : Bool) → cond b true true ≡ true
+same true = refl
+same false = refl
+
+all-globe7 : (k : ℕ) → globe7Needed allNeeded k ≡ true
+all-globe7 k = ap (λ (x : Bool). cond (eqb k 0) true (cond (eqb k 10) true x)) (same (eqb k 2 || ltb 6 k)) ∙ ap (λ (x : Bool). cond (eqb k 0) true x) (same (eqb k 10)) ∙ same (eqb k 0)
+
+all-glob7s : (k : ℕ) → glob7sNeeded allNeeded k ≡ true
+all-glob7s k = ap (λ (x : Bool). cond (ltb k 5) true x) (same (ltb k 9)) ∙ same (ltb k 5)
+
+pub whole-serves : (doy : Float) (m : Need) (b : Bool) (s : List Float) → Seasoned doy allNeeded true s → Seasoned doy m b s
+whole-serves doy m b s q = serves doy allNeeded m b s (λ k _. all-globe7 k) (λ k _. all-glob7s k) q

@@ -27,7 +27,7 @@ use Rattle.expansion.specs.Expansion.{firstTermsOf, carriedOf, globe7Value, tur
 use Rattle.plan.specs.Plan.{Ask, one-plus-globe7, exp-globe7, one-plus-glob7s, one-minus-glob7s, onePlusGlobe7Of, expGlobe7Of, onePlusGlob7sOf, oneMinusGlob7sOf, Plan, done, ask, keep, answer, run}
 use Rattle.plan.specs.Fields.{Fields, fieldsOf, withFields}
 use Rattle.parameters.specs.declared.Parameters.{Parameters}
-use Rattle.gts7_arithmetic.specs.Gts7Arithmetic.{siteWith}
+use Rattle.gts7_arithmetic.specs.Gts7Arithmetic.{siteFrom, siteWith}
 use Rattle.shutoff.specs.Shut.{one, off, nineIsZero, shut, Alike}
 use Rattle.shutoff.specs.PlainView.{plainView}
 use Rattle.shutoff.specs.Agree.{zero-off, float-is}
@@ -440,7 +440,7 @@ module _ (w : List ℤ) (a : Input) (l fa f : Float) (like : Alike w a (changed 
 
     -- the factor of the flux in O and O2
     pub site≡ : (c : Parameters) → siteWith c (A .sw) (a .«g_lat») (A .doy) (a .f107a) ≡ siteWith c (A .sw) (a .«g_lat») (A .doy) fa
-    unfolding siteWith
+    unfolding siteWith siteFrom
     site≡ c =
         let x : 1·0 ⊕ swAt w 1 ⊗ pdlT0 ‼ 23 ⊗ (a .f107a ⊖ 150·0) ≡ 1·0 ⊕ swAt w 1 ⊗ pdlT0 ‼ 23 ⊗ (fa ⊖ 150·0) = by-cases (off w 1)
         (λ u. one-plus _ _ (rw (main-is u) (zero-times-times tt tt flux-sized dfa-a ∙ sym (zero-times-times tt tt flux-sized dfa-b))))

@@ -15,7 +15,7 @@ use Rattle.needed_sets.specs.declared.Need.{Need}
 use Rattle.needed_sets.specs.NeededSets.{needAt}
 use Rattle.expansion_values.specs.ExpansionValues.{expansionValuesOf}
 use Rattle.tables.specs.Tables.{pdlT1}
-use Rattle.gts7_arithmetic.specs.Gts7Arithmetic.{siteWith, siteOf}
+use Rattle.gts7_arithmetic.specs.Gts7Arithmetic.{siteFrom, siteWith, siteOf}
 use Rattle.parameters.specs.Parameters.{presentOf}
 use Rattle.atmosphere.specs.Atmosphere.{elevenFrom, elevenWith, elevenOf}
 use Rattle.atmosphere.proofs.Laws.{present-mass, site-mass}
@@ -100,7 +100,7 @@ eleven-at w n m z c =
     sym (eleven-covered v m (siteOf (v .sw) (n .«g_lat») (v .doy) (n .f107a)) z (site-mass presentOf (v .sw) (n .«g_lat») (v .doy) (n .f107a) _ refl present-mass) c)
 
 present-nine : (sw : List Float) (lat doy f107a : Float) → (siteOf sw lat doy f107a) .nine ≡ presentOf
-unfolding siteOf siteWith
+unfolding siteOf siteWith siteFrom
 present-nine sw lat doy f107a = refl
 
 -- The row out of the numbers stored of a record, of the parts p, is the one-altitude call's with that altitude

@@ -8,8 +8,10 @@ use Rattle.atmosphere.proofs.values_at.Tie as tie
 
 returns : tie.Need-returns
 returns c =
-    let A = c .before .before .args in
-    c .record-values .ensures ∙ ap (λ (a : Need). recordValuesOf (A .w) (A .n) a) (c .before .need-at .ensures)
+    let values = c .before in
+    let at = values .before .before in
+    let A = at .before .args in
+    values .record-values .ensures .0 ∙ ap (λ (a : Need). recordValuesOf (A .w) (A .n) a) (at .need-at .ensures)
 
 pub values-at-spec : {M : Type 1} → statement M
-values-at-spec = tie.close (tie.spec (λ c κs. search needs) (λ c κs. search needs) returns)
+values-at-spec = tie.close (tie.spec (λ c κs. search needs) (λ c. search needs) (λ c κs. search needs) returns)

@@ -1,6 +1,6 @@
 -- `globe7_activity` meets its contract.
 use mathlib.Core.Path.{_∙_}
-use Rattle.expansion_values.specs.Sets.{globe7Sets}
+use Rattle.needed_sets.specs.Sets.{globe7Sets}
 use Rattle.expansion_values.proofs.Laws.{own-activity, shared-activity}
 use borrow.Author.Needs.{needs}
 use Rattle.expansion_values.proofs.globe7_activity.Statement.{statement}

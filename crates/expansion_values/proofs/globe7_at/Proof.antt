@@ -6,17 +6,20 @@ use Rattle.expansion_values.proofs.globe7_at.Tie as tie
 
 returns : tie.Need-returns
 returns c =
-    let s = c .before .before .before .before .before .before .before .before .before .before .before .before in
+    let with = c .before .before in
+    let picked = with .before .before .before .before in
+    let activity = picked .before .before .before .before in
+    let s = activity .before .before .before .before in
     let A = s .args in
-    let on = c .before .before .before .before .before .before .before .before .before .before .if1 .taken in
-    rw on (globe7-at-law (A .k) (A .v) (A .g) (A .c) (A .c7) (c .before .before .before .before .before .before .before .before .before .globe7-activity .result) _ _ _ _ _ _ _
+    let on = activity .before .if1 .taken in
+    rw (on, ← c .before .seasons-at .ensures) (globe7-at-law (A .k) (A .v) (A .g) (A .c) (A .c7) (activity .globe7-activity .result) _ (c .before .seasons-at .result) _ _ _ _ _ _
     (c .globe7-with .ensures)
-    (c .before .apt-from .ensures)
-    (c .before .before .before .before .before .pick2 .ensures)
-    (c .before .before .before .before .before .before .pick .ensures)
-    (c .before .before .before .before .before .before .before .latitude-in .ensures)
-    (c .before .before .before .before .before .before .before .before .nine-in .ensures)
-    (c .before .before .before .before .before .before .before .before .before .globe7-activity .ensures)
+    (with .apt-from .ensures)
+    (picked .pick2 .ensures)
+    (picked .before .pick .ensures)
+    (picked .before .before .latitude-in .ensures)
+    (picked .before .before .before .nine-in .ensures)
+    (activity .globe7-activity .ensures)
     (s .pre .4)
     (s .pre .2 on))
 
@@ -28,4 +31,4 @@ globe7-at-spec =
     tie.close
     (tie.spec
     (λ c κs. search needs) (λ c κs. search needs) (λ c κs. search needs) (λ c κs. search needs) (λ c κs. search needs)
-    (λ c. search needs) (λ c. search needs) (λ c κs. search needs) (λ c κs. search needs) returns returns-2)
+    (λ c. search needs) (λ c. search needs) (λ c κs. search needs) (λ c. search needs) (λ c κs. search needs) (λ c κs. search needs) returns returns-2)

@@ -2,7 +2,7 @@
 use mathlib.Core.Path.{_∙_}
 use native.Mathlib.Omega.{arith}
 use Rattle.fixed_point.proofs.Arms.{rest-above}
-use Rattle.expansion_values.specs.Sets.{glob7sSets}
+use Rattle.needed_sets.specs.Sets.{glob7sSets}
 use Rattle.expansion_values.proofs.Laws.{glob7s-last}
 use borrow.Author.Needs.{needs}
 use Rattle.expansion_values.proofs.put_glob7s_set.Statement.{statement}

@@ -2,7 +2,7 @@
 use mathlib.Core.Path.{_∙_}
 use native.Mathlib.Omega.{arith}
 use Rattle.fixed_point.proofs.Arms.{rest-above}
-use Rattle.expansion_values.specs.Sets.{globe7Sets}
+use Rattle.needed_sets.specs.Sets.{globe7Sets}
 use Rattle.expansion_values.proofs.Laws.{globe7-last}
 use borrow.Author.Needs.{needs}
 use Rattle.expansion_values.proofs.put_globe7_set.Statement.{statement}

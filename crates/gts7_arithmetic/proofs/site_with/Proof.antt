@@ -6,9 +6,8 @@ use Rattle.gts7_arithmetic.proofs.site_with.Tie as tie
 
 returns : tie.Need-returns
 unfolding siteWith
-returns c = simp (← c .cos .ensures, ← c .before .sin .ensures, ← c .before .before .glatf .ensures, ← c .before .before .before .pick .ensures, ← c .before .before .before .before .pt .ensures, ← c .before .before .before .before .before .pdl1 .ensures, ← c .before .before .before .before .before .before .pdl0 .ensures)
+returns c = simp (← c .site-from .ensures, ← c .before .cos .ensures, ← c .before .before .sin .ensures, ← c .before .before .before .pt .ensures)
 
 pub site-with-spec : {M : Type 1} → statement M
 site-with-spec =
-    tie.close
-    (tie.spec (λ c κs. search needs) (λ c κs. search needs) (λ c κs. search needs) (λ c. search needs) (λ c κs. search needs) (λ c κs. search needs) (λ c κs. search needs) (λ c. search needs) (λ c κs. search needs) (λ c. search needs) (λ c. search needs) (λ c. search needs) (λ c. search needs) (λ c. search needs) returns)
+    tie.close (tie.spec (λ c κs. search needs) (λ c κs. search needs) (λ c. search needs) (λ c κs. search needs) (λ c κs. search needs) returns)
