@@ -2,7 +2,7 @@
 use mathlib.Core.Path.{_≡_, refl, sym, _∙_, ap}
 use mathlib.Core.Bool.{Bool, true, false, cond}
 use mathlib.Core.List.{List}
-use lib.Ieee.{Float, lt, le, eq}
+use lib.Ieee.{Float, lt, le, eq, ofBits}
 use Rattle.numbers.specs.Arithmetic.{_‼_}
 use Rattle.numbers.specs.Literals.{32·5, 72·5}
 use Rattle.numbers.specs.Booleans.{neither}
@@ -17,8 +17,9 @@ use Rattle.lower_atmosphere.specs.declared.Meso.{Meso}
 use Rattle.lower_atmosphere.specs.declared.Nodes.{Nodes}
 use Rattle.lower_atmosphere.specs.LowerAtmosphere.{mesoPlan, lowerPlan, gtd7Above, gtd7Below}
 use Rattle.footing.specs.declared.Footing.{Footing}
-use Rattle.footing.specs.Footing.{footingOf, rowBelowOf}
-use Rattle.footing.specs.Below.{row-is}
+use Rattle.footing.specs.declared.Summit.{Summit}
+use Rattle.footing.specs.Footing.{footingOf, summitOf, rowBelowOf}
+use Rattle.footing.specs.Below.{row-is, summit-is}
 use Rattle.atmosphere.specs.Atmosphere.{gtd7Plan, elevenFrom}
 
 -- one of two plans, by a test whose value is known
@@ -71,6 +72,29 @@ pub eleven-above : (sw : List Float) (x : Site) (l : ExpansionValues) (alt : Flo
     → w .row ≡ elevenFrom sw x l alt
 unfolding elevenFrom
 eleven-above sw x l alt w u altt e0 e1 e2 t = ap (λ (r : Gtd7Output). r .row) (gtd7-above sw x alt l w u altt e0 e1 e2 t)
+
+-- 72.5 km is at or above itself
+pub at-itself : le 72·5 72·5 ≡ true
+unfolding le lt eq ofBits
+at-itself = refl
+
+either-way : (b : Bool) (x : Float) → x ≡ cond b x x
+either-way true x = refl
+either-way false x = refl
+
+-- what the altitudes below 72.5 km read of gts7 there stands in the row of 72.5 km, but for N2's mixed density
+pub summit-told : (sw : List Float) (x : Site) (l : ExpansionValues) (row : List Float) (dm : Float)
+    → row ≡ elevenFrom sw x l 72·5
+    → dm ≡ (told (answerTo l) (gts7Plan sw x (cond (lt 72·5 72·5) 72·5 72·5))) .base .dm
+    → _≡_ {A = Summit} (record { known = true; he = row ‼ 0; n2 = row ‼ 2; o2 = row ‼ 3; ar = row ‼ 4; dm28 = dm }) (summitOf sw x l)
+unfolding gtd7Above
+summit-told sw x l row dm e f =
+    let u = told (answerTo l) (gts7Plan sw x 72·5) in
+    let r = e ∙ sym (eleven-above sw x l 72·5 (gtd7Above u) u 72·5 refl refl (either-way (lt 72·5 72·5) 72·5) at-itself) in
+    let d : dm ≡ u .base .dm = f ∙ ap (λ (z : Float). (told (answerTo l) (gts7Plan sw x z)) .base .dm) (sym (either-way (lt 72·5 72·5) 72·5)) in
+    ap {A = Float} {B = Summit} (λ k. record { known = true; he = row ‼ 0; n2 = row ‼ 2; o2 = row ‼ 3; ar = row ‼ 4; dm28 = k }) d
+    ∙ ap {A = List Float} {B = Summit} (λ t. record { known = true; he = t ‼ 0; n2 = t ‼ 2; o2 = t ‼ 3; ar = t ‼ 4; dm28 = u .base .dm }) r
+    ∙ summit-is sw x l
 
 -- an altitude that is not at or above another is not above it
 not-above : (x y : Float) → le x y ≡ false → lt x y ≡ false

@@ -1,13 +1,15 @@
 // gtd7 and the one-altitude call.
 ghost use mathlib.Core.Path.{_≡_};
 ghost use lib.ListN.{length};
-ghost use mathlib.Core.Bool.{true, false};
-ghost use lib.Ieee.{le, eq};
+ghost use mathlib.Core.Bool.{true, false, cond};
+ghost use lib.Ieee.{lt, le, eq};
 ghost use Rattle.numbers.specs.Arithmetic.{_‼_};
 ghost use Rattle.numbers.specs.Literals.{0·0, 72·5};
 ghost use Rattle.needed_sets.specs.NeededSets.{needAt};
 ghost use Rattle.expansion_values.specs.ExpansionValues.{recordValuesOf};
 ghost use Rattle.gts7_arithmetic.specs.Gts7Arithmetic.{HasMass, siteFrom};
+ghost use Rattle.plan.specs.Plan.{told, answerTo};
+ghost use Rattle.stages.specs.Stages.{gts7Plan};
 ghost use Rattle.atmosphere.specs.Atmosphere.{elevenFrom, elevenWith, elevenOf, answerOf, rowAfter};
 use acceptance::Answer;
 use acceptance::accepted;
@@ -16,6 +18,7 @@ use expansion_values::RecordValues;
 use expansion_values::record_values;
 use footing::footing_of;
 use footing::row_below;
+use footing::unknown;
 use gts7_arithmetic::Site;
 use gts7_arithmetic::site_from;
 use lower_atmosphere::above;
@@ -31,21 +34,35 @@ use setting::Input;
 use thermosphere::gts7_stage;
 use unmixed::unmixed_row;
 
+// A row, and N2's mixed density in gts7, which no row holds.
+pub struct RowAbove {
+    pub row: [f64; 11],
+    pub dm28: f64,
+}
+
 // The eleven numbers at or above 72.5 km: gts7's, by a shorter way where nothing is mixed.
-pub fn row_above(sw: [f64; 24], x: Site, l: ExpansionValues, alt: f64) -> [f64; 11]
+pub fn row_above(sw: [f64; 24], x: Site, l: ExpansionValues, alt: f64) -> RowAbove
     requires { ⌜ le 72·5 alt ≡ true ⌝ }
-    ensures { λ r. ⌜ r ≡ elevenFrom sw x l alt ⌝ }
+    ensures { λ r. ⌜ (r .row ≡ elevenFrom sw x l alt) × (r .dm28 ≡ (told (answerTo l) (gts7Plan sw x (cond (lt 72·5 alt) alt 72·5))) .base .dm) ⌝ }
 {
     let altt = pick(alt > 72.5, alt, 72.5);
     let c = x.nine;
     let m = mixed_at(c, sw[15], altt);
     if !some_mixed(m) {
-        return unmixed_row(sw, x, m, altt, l);
+        let row = unmixed_row(sw, x, m, altt, l);
+        return RowAbove {
+            row: row,
+            dm28: 0.0,
+        };
     }
     let u = gts7_stage(sw, x, altt, l);
+    let n = u.base;
     let b = above(u);
     let row = b.row;
-    row
+    RowAbove {
+        row: row,
+        dm28: n.dm,
+    }
 }
 
 // The main effect of switch 0. Read in a function of its own, it costs no second copy of the row.
@@ -61,7 +78,8 @@ pub fn row_lower(sw: [f64; 24], x: Site, l: ExpansionValues, alt: f64) -> [f64; 
     ensures { λ r. ⌜ r ≡ elevenFrom sw x l alt ⌝ }
 {
     let sw0 = units_switch(sw);
-    let f = footing_of(sw, x, l, alt < 32.5);
+    let q = unknown();
+    let f = footing_of(sw, x, l, alt < 32.5, q);
     row_below(sw0, f, alt)
 }
 
@@ -90,7 +108,8 @@ pub fn put_row_above(c: Parameters, n: Input, v: RecordValues, out: &mut [f64])
     let sw = v.sw;
     let x = site_from(c, sw, n.g_lat, v.slat, v.cos_pt, n.f107a);
     let l = v.values;
-    let row = row_above(sw, x, l, n.alt);
+    let r = row_above(sw, x, l, n.alt);
+    let row = r.row;
     put_row(out, row);
 }
 

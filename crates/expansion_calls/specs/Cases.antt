@@ -15,7 +15,8 @@ use Rattle.setting.specs.declared.View.{View}
 use Rattle.setting.specs.declared.Input.{Input}
 use Rattle.views.specs.View.{viewOf}
 use Rattle.legendre.specs.Legendre.{rowsOf}
-use Rattle.expansion.specs.Expansion.{carriedOf, glob7sValue, glob7sFrom, glob7sOf}
+use Rattle.expansion_parts.specs.ExpansionParts.{dayCosinesOf, longitudeCosinesOf}
+use Rattle.expansion.specs.Expansion.{carriedOf, glob7sGiven, glob7sFromGiven, glob7sFrom, glob7sOf}
 use Rattle.expansion_calls.specs.ExpansionCalls.{acceptedCall, glob7sCallOf}
 
 -- what glob7s asks of p[99]
@@ -24,8 +25,8 @@ unfolding ofBits eq ne
 at-99 x y e = ap (λ (z : Float). cond (ne (cond (eq z 0·0) 2·0 z) 2·0) (neg 1·0) y) e
 
 minus-one : (v : View) (p : List Float) (s : State) → p ‼ 99 ≡ 1·0 → glob7sOf v p s ≡ neg 1·0
-unfolding glob7sOf glob7sFrom
-minus-one v p s e = at-99 (p ‼ 99) (glob7sValue v p (rowsOf (s .plg)) (carriedOf s)) e
+unfolding glob7sOf glob7sFrom glob7sFromGiven
+minus-one v p s e = at-99 (p ‼ 99) (glob7sGiven v p (rowsOf (s .plg)) (carriedOf s) (dayCosinesOf (v .doy) p) (longitudeCosinesOf (v .doy) p)) e
 
 not-below : (m n : ℕ) → n ≤ m → ltb m n ≡ false
 not-below m n h = go (ltb m n) (ltb→lt m n)

@@ -25,8 +25,9 @@ use Rattle.mixing.specs.Mixing.{dmcOf}
 use Rattle.lower_atmosphere.specs.LowerAtmosphere.{mesoNodesPlan, unsetNodes, dm28mOf, lowerN2, fullOf, kilogramsOf}
 use Rattle.footing.specs.declared.Curves.{Curves}
 use Rattle.footing.specs.declared.Footing.{Footing}
+use Rattle.footing.specs.declared.Summit.{Summit}
 use Rattle.footing.specs.declared.Three.{Three}
-use Rattle.footing.specs.Footing.{threeOf, curvesOf, standingOf, footingOf, reachedOf, rowBelowOf}
+use Rattle.footing.specs.Footing.{threeOf, summitFrom, summitAt, summitOf, curvesOf, standingOf, footingOf, reachedOf, rowBelowOf}
 
 -- the entry that a species has, from the row that was read
 pub third : (m row : List Float) → m ≡ row → m ‼ 2 ≡ row ‼ 2
@@ -42,18 +43,28 @@ pub three-law : (sw : List Float) (h : Shape) (k : Mixed) (b28 flux xmm : Float)
 unfolding threeOf
 three-law sw h k b28 flux xmm l ar o2 he d m e0 e1 e2 e3 e4 = rw (e0, e1, e2, e3, e4)
 
-pub footing-law : (sw : List Float) (x : Site) (l : ExpansionValues) (tropo : Bool) (f : Footing) (k : Curves) (d : Float) (e : Meso) (y : Three) (b : Blend) (m : Mixed) (h : Shape)
-    → f ≡ standingOf (sw ‼ 0) x h b y d e k
-    → k ≡ curvesOf sw x d e l tropo
-    → d ≡ dm28mOf (sw ‼ 0) (b .dm)
-    → e ≡ told (answerTo l) (mesoNodesPlan sw h)
+pub summit-law : (sw : List Float) (x : Site) (h : Shape) (l : ExpansionValues) (r : Summit) (y : Three) (b : Blend) (m : Mixed)
+    → r ≡ summitFrom (sw ‼ 0) b y
     → y ≡ threeOf sw h m (b .b) (x .flux) (x .nine .xmm) l
     → b ≡ told (answerTo l) (n2Plan sw h (m .n2) 72·5 (x .zhf) (x .nine .xmm))
     → m ≡ mixedAt (x .nine) (sw ‼ 15) 72·5
+    → r ≡ summitAt sw x h l
+unfolding summitAt
+summit-law sw x h l r y b m e0 e1 e2 e3 = rw (e0, e1, e2, e3)
+
+pub summit-there : (sw : List Float) (x : Site) (h : Shape) (l : ExpansionValues) (q : Summit) → h ≡ told (answerTo l) (shapePlan sw x 72·5) → q ≡ summitOf sw x l → q ≡ summitAt sw x h l
+unfolding summitOf
+summit-there sw x h l q e f = rw e f
+
+pub footing-law : (sw : List Float) (x : Site) (l : ExpansionValues) (tropo : Bool) (k : Curves) (d : Float) (e : Meso) (u : Summit) (h : Shape)
+    → k ≡ curvesOf sw x d e l tropo
+    → d ≡ dm28mOf (sw ‼ 0) (u .dm28)
+    → e ≡ told (answerTo l) (mesoNodesPlan sw h)
+    → u ≡ summitAt sw x h l
     → h ≡ told (answerTo l) (shapePlan sw x 72·5)
-    → f ≡ footingOf sw x l tropo
-unfolding footingOf
-footing-law sw x l tropo f k d e y b m h e0 e1 e2 e3 e4 e5 e6 e7 = rw (e0, e1, e2, e3, e4, e5, e6, e7)
+    → _≡_ {A = Footing} (record { x = x; tinf = h .tinf; dm28m = d; he = u .he; n2 = u .n2; o2 = u .o2; ar = u .ar; meso = e; curves = k }) (footingOf sw x l tropo)
+unfolding footingOf standingOf summitAt summitFrom
+footing-law sw x l tropo k d e u h e0 e1 e2 e3 e4 = rw (e0, e1, e2, e3, e4)
 
 -- densm for N2, by the side of 32.5 km on which the altitude lies
 module _ (x : Site) (d : Float) (m : Meso) (k : Curves) (alt : Float) (r : Profile) where

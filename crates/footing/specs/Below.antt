@@ -28,7 +28,8 @@ use Rattle.lower_atmosphere.specs.declared.Nodes.{Nodes}
 use Rattle.lower_atmosphere.specs.LowerAtmosphere.{troposphereOf, unsetNodes, mesoNodesPlan, mesoPlan, lowerPlan, dm28mOf, zn2, zn3, lowerN2, lowerTemperature, gtd7Below}
 use Rattle.footing.specs.declared.Curves.{Curves}
 use Rattle.footing.specs.declared.Footing.{Footing}
-use Rattle.footing.specs.Footing.{threeOf, inUnitsOf, curvesOf, standingOf, footingOf, reachedOf, rowBelowOf}
+use Rattle.footing.specs.declared.Summit.{Summit}
+use Rattle.footing.specs.Footing.{threeOf, inUnitsOf, summitFrom, summitAt, summitOf, curvesOf, standingOf, footingOf, reachedOf, rowBelowOf}
 
 -- ---- densm's temperature does not depend on the gas
 
@@ -126,7 +127,7 @@ six-is sw h m z b28 flux xmm l =
     ∙ then (answerTo l) (nitrogenPlan sw h (m .n) z b28 zhm xmm) _ _ refl
     ∙ last (answerTo l) _
 
-gts7-is : (sw : List Float) (x : Site) (z : Float) (l : ExpansionValues) (h : Shape) (b : Blend)
+pub gts7-is : (sw : List Float) (x : Site) (z : Float) (l : ExpansionValues) (h : Shape) (b : Blend)
     → h ≡ told (answerTo l) (shapePlan sw x z)
     → b ≡ told (answerTo l) (n2Plan sw h ((mixedAt (x .nine) (sw ‼ 15) z) .n2) z (x .zhf) (x .nine .xmm))
     → told (answerTo l) (gts7Plan sw x z)
@@ -139,6 +140,27 @@ gts7-is sw x z l h b e f =
     ∙ then (answerTo l) (anomalousPlan sw (anomalousOf h) z) _ _ refl
     ∙ told-keep (answerTo l) _ _
     ∙ last (answerTo l) _
+
+same-densities : (he n2 o2 ar dm a b c d : Float) → he ≡ a → n2 ≡ b → o2 ≡ c → ar ≡ d
+    → _≡_ {A = Summit} (record { known = true; he = he; n2 = n2; o2 = o2; ar = ar; dm28 = dm }) (record { known = true; he = a; n2 = b; o2 = c; ar = d; dm28 = dm })
+same-densities he n2 o2 ar dm a b c d e f g h = rw (e, f, g, h)
+
+-- what the altitudes below 72.5 km read of gts7 there is what gts7 gives
+pub summit-is : (sw : List Float) (x : Site) (l : ExpansionValues)
+    → let u = told (answerTo l) (gts7Plan sw x 72·5) in
+    _≡_ {A = Summit} (record { known = true; he = u .d ‼ 0; n2 = u .d ‼ 2; o2 = u .d ‼ 3; ar = u .d ‼ 4; dm28 = u .base .dm }) (summitOf sw x l)
+unfolding summitOf summitAt summitFrom threeOf gatherOf
+summit-is sw x l =
+    let h = told (answerTo l) (shapePlan sw x 72·5) in
+    let k = mixedAt (x .nine) (sw ‼ 15) 72·5 in
+    let b = told (answerTo l) (n2Plan sw h (k .n2) 72·5 (x .zhf) (x .nine .xmm)) in
+    let s = six-is sw h k 72·5 (b .b) (x .flux) (x .nine .xmm) l in
+    ap {A = Gts7Output} {B = Summit} (λ u. record { known = true; he = u .d ‼ 0; n2 = u .d ‼ 2; o2 = u .d ‼ 3; ar = u .d ‼ 4; dm28 = u .base .dm }) (gts7-is sw x 72·5 l h b refl refl)
+    ∙ same-densities _ _ _ _ (b .dm) _ _ _ _
+    (sym (units-he (sw ‼ 0) _ _ _ _ _ _ _ _ _) ∙ ap (λ (k : SixSpecies). inUnitsOf (sw ‼ 0) (k .he .dens)) s)
+    (sym (units-n2 (sw ‼ 0) _ _ _ _ _ _ _ _ _))
+    (sym (units-o2 (sw ‼ 0) _ _ _ _ _ _ _ _ _) ∙ ap (λ (k : SixSpecies). inUnitsOf (sw ‼ 0) (k .o2 .dens)) s)
+    (sym (units-ar (sw ‼ 0) _ _ _ _ _ _ _ _ _) ∙ ap (λ (k : SixSpecies). inUnitsOf (sw ‼ 0) (k .ar .dens)) s)
 
 -- ---- the layers
 

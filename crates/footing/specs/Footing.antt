@@ -1,5 +1,5 @@
 -- What gts7 at 72.5 km gives to every altitude below it, and the row there.
-use mathlib.Core.Bool.{Bool, cond, not}
+use mathlib.Core.Bool.{Bool, true, cond, not}
 use mathlib.Core.List.{List, [], _∷_}
 use lib.Ieee.{Float, lt, ne}
 use Rattle.numbers.specs.Arithmetic.{_⊕_, _⊖_, _⊗_, _⊘_, _‼_}
@@ -23,6 +23,7 @@ use Rattle.mixing.specs.Mixing.{dmcOf}
 use Rattle.lower_atmosphere.specs.LowerAtmosphere.{mesoNodesPlan, lowerPlan, unsetNodes, dm28mOf, zn2, zn3, lowerN2, fullOf, kilogramsOf}
 use Rattle.footing.specs.declared.Curves.{Curves}
 use Rattle.footing.specs.declared.Footing.{Footing}
+use Rattle.footing.specs.declared.Summit.{Summit}
 use Rattle.footing.specs.declared.Three.{Three}
 
 -- helium, O2 and argon at 72.5 km; m says which are mixed there
@@ -38,6 +39,28 @@ threeOf sw h m b28 flux xmm l =
 -- a density in the units asked for
 unfoldable pub inUnitsOf : Float → Float → Float
 inUnitsOf sw0 d = cond (ne sw0 0·0) (d ⊗ 1·0E6) d
+
+-- what the altitudes below read of the densities at 72.5 km: of N2 b, of the others y
+unfoldable pub summitFrom : Float → Blend → Three → Summit
+summitFrom sw0 b y =
+    record {
+      known = true;
+      he = inUnitsOf sw0 (y .he .dens);
+      n2 = inUnitsOf sw0 (b .dens);
+      o2 = inUnitsOf sw0 (y .o2 .dens);
+      ar = inUnitsOf sw0 (y .ar .dens);
+      dm28 = b .dm;
+    }
+
+-- the same from the shape h of 72.5 km
+unfoldable pub summitAt : List Float → Site → Shape → ExpansionValues → Summit
+summitAt sw x h l =
+    let m = mixedAt (x .nine) (sw ‼ 15) 72·5 in
+    let b = told (answerTo l) (n2Plan sw h (m .n2) 72·5 (x .zhf) (x .nine .xmm)) in
+    summitFrom (sw ‼ 0) b (threeOf sw h m (b .b) (x .flux) (x .nine .xmm) l)
+
+unfoldable pub summitOf : List Float → Site → ExpansionValues → Summit
+summitOf sw x l = summitAt sw x (told (answerTo l) (shapePlan sw x 72·5)) l
 
 -- the layer from 72.5 km to 32.5 km, made of its nodes; and, where the troposphere is asked for, the density at 32.5 km and the layer from there
 -- down, whose nodes are those of 0 km

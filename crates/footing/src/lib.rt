@@ -1,10 +1,10 @@
 // gtd7 below 72.5 km: what gts7 at 72.5 km gives to every altitude there, worked out once, and the row of an altitude.
 ghost use mathlib.Core.Path.{_≡_};
-ghost use mathlib.Core.Bool.{true};
+ghost use mathlib.Core.Bool.{true, false};
 ghost use Rattle.numbers.specs.Literals.{72·5};
 ghost use Rattle.mixing_limits.specs.Limits.{someMixed};
 ghost use Rattle.species.specs.Places.{spineAt, placeAt, Mixes};
-ghost use Rattle.footing.specs.Footing.{inUnitsOf, threeOf, curvesOf, standingOf, footingOf, reachedOf, rowBelowOf};
+ghost use Rattle.footing.specs.Footing.{inUnitsOf, threeOf, summitFrom, summitAt, summitOf, curvesOf, footingOf, reachedOf, rowBelowOf};
 use gts7_arithmetic::Site;
 use gts7_arithmetic::mass;
 use layers::Span;
@@ -116,6 +116,31 @@ pub fn three_of(
     }
 }
 
+// What the altitudes below 72.5 km read of gts7's densities there: those of He, N2, O2 and Ar in the units asked for, and N2's mixed density. known
+// says that they are at hand.
+pub struct Summit {
+    pub known: bool,
+    pub he: f64,
+    pub n2: f64,
+    pub o2: f64,
+    pub ar: f64,
+    pub dm28: f64,
+}
+
+// None of it at hand.
+pub fn unknown() -> Summit
+    ensures { λ r. ⌜ r .known ≡ false ⌝ }
+{
+    Summit {
+        known: false,
+        he: 0.0,
+        n2: 0.0,
+        o2: 0.0,
+        ar: 0.0,
+        dm28: 0.0,
+    }
+}
+
 // A density in the units asked for.
 pub fn in_units(sw0: f64, d: f64) -> f64
     ensures { λ r. ⌜ r ≡ inUnitsOf sw0 d ⌝ }
@@ -153,17 +178,8 @@ pub fn curves_of(sw: [f64; 24], x: Site, d: f64, m: Meso, l: ExpansionValues, tr
     }
 }
 
-pub fn standing(
-    sw0: f64,
-    x: Site,
-    h: Shape,
-    b: Blend,
-    y: Three,
-    d: f64,
-    m: Meso,
-    k: Curves,
-) -> Footing
-    ensures { λ r. ⌜ r ≡ standingOf sw0 x h b y d m k ⌝ }
+pub fn summit_from(sw0: f64, b: Blend, y: Three) -> Summit
+    ensures { λ r. ⌜ r ≡ summitFrom sw0 b y ⌝ }
 {
     let a = y.he;
     let c = y.o2;
@@ -172,24 +188,24 @@ pub fn standing(
     let n2 = in_units(sw0, b.dens);
     let o2 = in_units(sw0, c.dens);
     let ar = in_units(sw0, e.dens);
-    Footing {
-        x: x,
-        tinf: h.tinf,
-        dm28m: d,
+    Summit {
+        known: true,
         he: he,
         n2: n2,
         o2: o2,
         ar: ar,
-        meso: m,
-        curves: k,
+        dm28: b.dm,
     }
 }
 
-// What the altitudes below 72.5 km share; tropo: some of them lie below 32.5 km.
-pub fn footing_of(sw: [f64; 24], x: Site, l: ExpansionValues, tropo: bool) -> Footing
-    ensures { λ r. ⌜ r ≡ footingOf sw x l tropo ⌝ }
+// The densities at 72.5 km, whose shape is h: those of q where they are known.
+pub fn summit_at(sw: [f64; 24], x: Site, h: Shape, l: ExpansionValues, q: Summit) -> Summit
+    requires { ⌜ (q .known ≡ true → q ≡ summitAt sw x h l) ⌝ }
+    ensures { λ r. ⌜ r ≡ summitAt sw x h l ⌝ }
 {
-    let h = shape_stage(sw, x, 72.5, l);
+    if q.known {
+        return q;
+    }
     let s = spine_at(h);
     let p = place_at(h, s, 72.5);
     let m = pdm2();
@@ -200,10 +216,30 @@ pub fn footing_of(sw: [f64; 24], x: Site, l: ExpansionValues, tropo: bool) -> Fo
     let t = mixing(on, p, c.xmm);
     let b = n2_stage(sw, h, g.n2, 72.5, p, v, t, x.zhf, c.xmm, l);
     let y = three_of(sw, h, s, g, p, t, b.b, x.flux, c.xmm, l);
+    summit_from(sw[0], b, y)
+}
+
+// What the altitudes below 72.5 km share, with the densities there where they are known; tropo: some of the altitudes lie below 32.5 km.
+pub fn footing_of(sw: [f64; 24], x: Site, l: ExpansionValues, tropo: bool, q: Summit) -> Footing
+    requires { ⌜ (q .known ≡ true → q ≡ summitOf sw x l) ⌝ }
+    ensures { λ r. ⌜ r ≡ footingOf sw x l tropo ⌝ }
+{
+    let h = shape_stage(sw, x, 72.5, l);
+    let u = summit_at(sw, x, h, l, q);
     let e = meso_nodes(sw, h, l);
-    let d = dm28m(sw[0], b.dm);
+    let d = dm28m(sw[0], u.dm28);
     let k = curves_of(sw, x, d, e, l, tropo);
-    standing(sw[0], x, h, b, y, d, e, k)
+    Footing {
+        x: x,
+        tinf: h.tinf,
+        dm28m: d,
+        he: u.he,
+        n2: u.n2,
+        o2: u.o2,
+        ar: u.ar,
+        meso: e,
+        curves: k,
+    }
 }
 
 // densm for N2, from its layers; at 32.5 km, where gtd7 does not set the nodes of the troposphere and still reads them, from the nodes.

@@ -22,8 +22,8 @@ use Rattle.setting.specs.ApHistory.{isMinusOne, absentOf}
 use Rattle.tables.specs.Names.{wide, narrow}
 use Rattle.legendre.specs.Legendre.{rowsOf}
 use Rattle.activity.specs.Activity.{apdfNextOf, aptNextOf, apdfFromOf, sg0Of, exp1Of}
-use Rattle.expansion_parts.specs.ExpansionParts.{dayCosinesOf, t8Of, history8Of, daily8Of, t10Of, t11Of, t12Of, history12Of, daily12Of, t8sOf, t10sOf}
-use Rattle.expansion.specs.Expansion.{firstTermsOf, carriedOf, globe7Value, turnsAfterOf, stateAfter, globe7Of, glob7sValue, glob7sFrom, glob7sOf}
+use Rattle.expansion_parts.specs.ExpansionParts.{dayCosinesOf, longitudeCosinesOf, t8Of, history8Of, daily8Of, t10Of, t11Of, t12Of, history12Of, daily12Of, t8sOf, t10sGiven, t10sOf}
+use Rattle.expansion.specs.Expansion.{firstTermsOf, carriedOf, globe7Given, globe7Value, turnsAfterOf, stateAfter, globe7Of, glob7sGiven, glob7sFromGiven, glob7sFrom, glob7sOf}
 use Rattle.plan.specs.Fields.{Fields, fieldsOf, withFields}
 use Rattle.plan.specs.Plan.{Ask, one-plus-globe7, exp-globe7, one-plus-glob7s, one-minus-glob7s, onePlusGlobe7Of, expGlobe7Of, onePlusGlob7sOf, oneMinusGlob7sOf, Plan, done, ask, keep, answer, run}
 use Rattle.shutoff.specs.Nine.{asks-minus-one}
@@ -257,7 +257,7 @@ module _ (w : List ℤ) (a b : Input) (like : AlikeBut (others w) a b) where
         (λ x. cc (e .apdf (ap-13 x u v), glong-13 u v, sec-13 u v)))
 
     pub globe7-value≡ : globe7Value (plainView w a) p (rowsOf (s .plg)) (carriedOf s) ≡ globe7Value (plainView w b) p (rowsOf (t .plg)) (carriedOf t)
-    unfolding globe7Value firstTermsOf carriedOf
+    unfolding globe7Value globe7Given firstTermsOf carriedOf
     globe7-value≡ =
         let g = rowsOf (s .plg) in
         let c = (dayCosinesOf (ofInt binary64 (a .doy)) p) .cd14 in
@@ -268,13 +268,13 @@ module _ (w : List ℤ) (a b : Input) (like : AlikeBut (others w) a b) where
     t8s≡ g = skip (on w 9) (λ v. branch (asks w) (λ _. cc (e .apt)) (λ u. branch (eq (swAt w 9) 1·0) (λ _. cc (e .apdf (ap-9 u v))) (λ _. refl)))
 
     t10s≡ : (g : List (List Float)) → t10sOf (plainView w a) p g ≡ t10sOf (plainView w b) p g
-    unfolding t10sOf
+    unfolding t10sOf t10sGiven longitudeCosinesOf
     t10s≡ g =
         skipped (eq (swAt w 10) 0·0) (eq (swAt w 11) 0·0) (le (a .«g_long») (neg 1000·0)) (le (b .«g_long») (neg 1000·0))
         (λ u v. cc (glong-s u v)) (λ u v. cc (glong-s u v, doy≡))
 
     pub glob7s≡ : glob7sOf (plainView w a) p s ≡ glob7sOf (plainView w b) p t
-    unfolding glob7sOf glob7sFrom glob7sValue carriedOf
+    unfolding glob7sOf glob7sFrom glob7sFromGiven glob7sGiven carriedOf
     glob7s≡ =
         let g = rowsOf (s .plg) in
         cc (doy≡, e .dfa, e .plg, e .ct, e .st, e .c2t, e .s2t, e .c3t, e .s3t, t8s≡ g, t10s≡ g)

@@ -23,7 +23,7 @@ use Rattle.expansion_parts.specs.ExpansionParts.{dayCosinesOf, t6Of, t7Of, t13O
 use Rattle.activity.specs.Activity.{sg0Of, aptNextOf}
 use Rattle.legendre.specs.Legendre.{rowsOf}
 use Rattle.expansion.specs.declared.Carried.{Carried}
-use Rattle.expansion.specs.Expansion.{firstTermsOf, carriedOf, globe7Value, stateAfter, globe7Of}
+use Rattle.expansion.specs.Expansion.{firstTermsOf, carriedOf, globe7Given, globe7Value, stateAfter, globe7Of}
 use Rattle.expansion_calls.specs.ExpansionCalls.{acceptedCall, refusedAt, globe7CallOf}
 
 -- two sets of 150 numbers that differ only in p[24]: equal at every index but 24
@@ -73,7 +73,7 @@ module _ (p q : List Float) (only : OnlyIn24 p q) where
 
   module _ (v : View) where
     level≡ : (g : List (List Float)) (c : Carried) → globe7Value v p g c ≡ globe7Value v q g c
-    unfolding globe7Value firstTermsOf dayCosinesOf t0Of f1Of f2Of t1Of t3Of t4Of t5Of t6Of t7Of t8Of t10Of t11Of t12Of t13Of history8Of daily8Of history12Of daily12Of diurnalOf semidiurnalOf terdiurnalOf longCosOf longSinOf utMeanOf utLongOf
+    unfolding globe7Value globe7Given firstTermsOf dayCosinesOf t0Of f1Of f2Of t1Of t3Of t4Of t5Of t6Of t7Of t8Of t10Of t11Of t12Of t13Of history8Of daily8Of history12Of daily12Of diurnalOf semidiurnalOf terdiurnalOf longCosOf longSinOf utMeanOf utLongOf
     level≡ g c = simp other
 
     module _ (low : T (le (p ‼ 24) 1·0E-4)) (low′ : T (le (q ‼ 24) 1·0E-4)) where

@@ -22,8 +22,8 @@ use Rattle.tables.specs.Tables.{pdlT0}
 use Rattle.tables.specs.Names.{Wide, Narrow, wide, narrow}
 use Rattle.terms.specs.Terms.{t0Of, f1Of, f2Of, fluxFactorOf, t1Of, localTimePartOf, activityTermOf}
 use Rattle.legendre.specs.Legendre.{flatOf, rowsOf, row0Of, row1Of}
-use Rattle.expansion_parts.specs.ExpansionParts.{dayCosinesOf, t8Of, history8Of, daily8Of, t10Of, t11Of, t12Of, history12Of, daily12Of, weightedOf, t8sOf, t10sOf}
-use Rattle.expansion.specs.Expansion.{firstTermsOf, carriedOf, globe7Value, turnsAfterOf, stateAfter, globe7Of, glob7sValue, glob7sFrom, glob7sOf}
+use Rattle.expansion_parts.specs.ExpansionParts.{dayCosinesOf, longitudeCosinesOf, t8Of, history8Of, daily8Of, t10Of, t11Of, t12Of, history12Of, daily12Of, weightedOf, t8sOf, t10sGiven}
+use Rattle.expansion.specs.Expansion.{firstTermsOf, carriedOf, globe7Given, globe7Value, turnsAfterOf, stateAfter, globe7Of, glob7sGiven, glob7sFromGiven, glob7sFrom, glob7sOf}
 use Rattle.plan.specs.Plan.{Ask, one-plus-globe7, exp-globe7, one-plus-glob7s, one-minus-glob7s, onePlusGlobe7Of, expGlobe7Of, onePlusGlob7sOf, oneMinusGlob7sOf, Plan, done, ask, keep, answer, run}
 use Rattle.plan.specs.Fields.{Fields, fieldsOf, withFields}
 use Rattle.parameters.specs.declared.Parameters.{Parameters}
@@ -174,7 +174,7 @@ sum-plain first sw x y xs ys h e = weighted-plain 14 sw (x ∷ xs) (y ∷ ys) 0 
 -- globe7's value does not read dfa of State
 other-dfa : (v : View) (p : List Float) (s : State) (x : Float)
     → globe7Value v p (rowsOf (s .plg)) (carriedOf s) ≡ globe7Value v p (rowsOf ((withDfa s x) .plg)) (carriedOf (withDfa s x))
-unfolding globe7Value carriedOf
+unfolding globe7Value globe7Given carriedOf
 other-dfa v p s x = refl
 
 -- ---- two records that are alike, and differ in lst, f107a and f107 at most
@@ -354,7 +354,7 @@ module _ (w : List ℤ) (a : Input) (l fa f : Float) (like : Alike w a (changed 
       t12≡ cd x y = refl
 
       globe7-value≈ : (s : State) → plain (globe7Value A p g (carriedOf s)) ≡ plain (globe7Value B p g (carriedOf s))
-      unfolding globe7Value firstTermsOf carriedOf
+      unfolding globe7Value globe7Given firstTermsOf carriedOf
       globe7-value≈ s =
           let c = (dayCosinesOf (A .doy) p) .cd14 in
           sum-plain (p ‼ 30) (A .sw) _ _ _ _ t0≈ (
@@ -397,7 +397,7 @@ module _ (w : List ℤ) (a : Input) (l fa f : Float) (like : Alike w a (changed 
       where
         first : (x : Float) → plain (absOf (swAt w 1) ⊗ (narrow t ‼ 21 ⊗ s .dfa)) ≡ plain (absOf (swAt w 1) ⊗ (narrow t ‼ 21 ⊗ x))
             → plain (glob7sOf A (narrow t) s) ≡ plain (glob7sOf B (narrow t) (withDfa s x))
-        first x k = unfold glob7sOf glob7sFrom glob7sValue carriedOf t8sOf t10sOf in
+        first x k = unfold glob7sOf glob7sFrom glob7sFromGiven glob7sGiven carriedOf t8sOf t10sGiven longitudeCosinesOf in
             branch-plain (ne (cond (eq (narrow t ‼ 99) 0·0) 2·0 (narrow t ‼ 99)) 2·0) _ _ _ _ refl
             (sum-plain 0·0 (A .sw) _ _ _ _ k (refl, (refl, (refl, (refl, (refl, (refl, (refl, (refl, (refl, (refl, (refl, (refl, (refl, tt))))))))))))))
 

@@ -10,9 +10,9 @@ use Rattle.setting.specs.declared.State.{State}
 use Rattle.setting.specs.declared.View.{View}
 use Rattle.setting.specs.declared.Valued.{Valued}
 use Rattle.legendre.specs.Legendre.{rowsOf}
-use Rattle.expansion_parts.specs.ExpansionParts.{t8Of, history8Of, daily8Of, t10Of, t11Of, t12Of, history12Of, daily12Of, weightedOf, weightedFrom, t8sOf, t10sOf}
+use Rattle.expansion_parts.specs.ExpansionParts.{t8Of, history8Of, daily8Of, t10Of, t11Of, t12Of, history12Of, daily12Of, weightedOf, weightedFrom, t8sOf, t10sGiven}
 use Rattle.expansion.specs.declared.Carried.{Carried}
-use Rattle.expansion.specs.Expansion.{firstTermsOf, carriedOf, globe7Value, turnsAfterOf, stateAfter, globe7Of, glob7sValue, glob7sFrom, glob7sOf}
+use Rattle.expansion.specs.Expansion.{firstTermsOf, carriedOf, globe7Given, globe7Value, turnsAfterOf, stateAfter, globe7Of, glob7sGiven, glob7sFromGiven, glob7sFrom, glob7sOf}
 use Rattle.needed_sets.specs.declared.Need.{Need}
 use Rattle.expansion_values.specs.ExpansionValues.{legendreIn, quietOf, activeOf, wideOf, expansionValuesOf}
 
@@ -74,11 +74,11 @@ narrowed-agree v sw swc e f = ap₂ (withRows v) (fourteen-agree (v .sw) sw e) (
 -- ---- a View's entries 1 to 14 alone give the same
 
 globe7-value-narrowed : (v : View) (p : List Float) (g : List (List Float)) (c : Carried) → globe7Value v p g c ≡ globe7Value (narrowed v) p g c
-unfolding globe7Value firstTermsOf weightedOf weightedFrom t8Of history8Of daily8Of t10Of t11Of t12Of history12Of daily12Of
+unfolding globe7Value globe7Given firstTermsOf weightedOf weightedFrom t8Of history8Of daily8Of t10Of t11Of t12Of history12Of daily12Of
 globe7-value-narrowed v p g c = refl
 
 glob7s-narrowed : (v : View) (p : List Float) (g : List (List Float)) (c : Carried) → glob7sFrom v p g c ≡ glob7sFrom (narrowed v) p g c
-unfolding glob7sFrom glob7sValue weightedOf weightedFrom t8sOf t10sOf
+unfolding glob7sFrom glob7sFromGiven glob7sGiven weightedOf weightedFrom t8sOf t10sGiven
 glob7s-narrowed v p g c = refl
 
 after-narrowed : (v : View) (p : List Float) (s : State) → stateAfter v p s ≡ stateAfter (narrowed v) p s
@@ -92,7 +92,7 @@ globe7-narrowed v p s =
     ∙ ap (λ (x : Float). globe7Result x (stateAfter (narrowed v) p s)) (globe7-value-narrowed v p _ _)
 
 expansion-values-narrowed : (v : View) (n : Need) → expansionValuesOf v n ≡ expansionValuesOf (narrowed v) n
-unfolding expansionValuesOf wideOf activeOf quietOf turnsAfterOf legendreIn globe7Value firstTermsOf weightedOf weightedFrom t8Of history8Of daily8Of t10Of t11Of t12Of history12Of daily12Of glob7sFrom glob7sValue t8sOf t10sOf
+unfolding expansionValuesOf wideOf activeOf quietOf turnsAfterOf legendreIn globe7Value globe7Given firstTermsOf weightedOf weightedFrom t8Of history8Of daily8Of t10Of t11Of t12Of history12Of daily12Of glob7sFrom glob7sFromGiven glob7sGiven t8sOf t10sGiven
 expansion-values-narrowed v n = refl
 
 -- ---- two Views

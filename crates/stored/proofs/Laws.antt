@@ -6,11 +6,11 @@ use mathlib.Core.List.{List, [], _++_, append-assoc, append-nil}
 use native.Mathlib.Omega.{arith}
 use borrow.Author.Tests.{not-true, not-false}
 use borrow.Rule.Slice.PartMut.{putMid}
-use lib.ListN.{length, take, drop, take-append-drop, length-drop}
+use lib.ListN.{length, take, drop, replicate, take-append-drop, length-drop}
 use lib.Seq.{length-take-le, take-append-le, take-at, drop-at, drop-drop, drop-length}
-use lib.Ieee.{Float, lt, le, eq, ofBits}
+use lib.Ieee.{Float}
 use Rattle.numbers.specs.Arithmetic.{_‼_}
-use Rattle.numbers.specs.Literals.{72·5, 100·0, 200·0, 300·0}
+use Rattle.numbers.specs.Literals.{0·0, 72·5, 100·0, 200·0, 300·0}
 use Rattle.elementary.specs.Log.{logOf}
 use Rattle.layers.specs.declared.Span.{Span}
 use Rattle.places.specs.declared.place.Spine.{Spine}
@@ -26,6 +26,7 @@ use Rattle.region.specs.declared.Roots.{Roots}
 use Rattle.region.specs.Region.{basesOf, rootsOf}
 use Rattle.footing.specs.declared.Footing.{Footing}
 use Rattle.footing.specs.Footing.{footingOf, rowBelowOf}
+use Rattle.atmosphere.specs.Atmosphere.{elevenFrom}
 use Rattle.stored_parts.specs.declared.Parts.{Parts}
 use Rattle.stored_parts.specs.Parts.{aboveSummit, fromSummit, aboveZa, belowZa, below300}
 use Rattle.stored.specs.Stored.{part, regionNumbers, spineNumbers, spanNumbers, groundNumbers, footingNumbers, spineIn, footingIn, overIn, underIn, regionStored, lowStored, footingStored, summitStored, storedOf, storedIn, lowRow, rowStored}
@@ -40,11 +41,6 @@ next done row xs out k m len e =
 
 nothing-left : (xs : List Float) (n : ℕ) → length xs ≡ n → drop n xs ≡ []
 nothing-left xs n e = ap (λ (k : ℕ). drop k xs) (sym e) ∙ drop-length xs
-
--- 72.5 km is at or above itself
-pub at-itself : le 72·5 72·5 ≡ true
-unfolding le lt eq ofBits
-at-itself = refl
 
 -- three parts that fill a slice
 pub three-laid : (out a b c : List Float) (i j k : ℕ) → length out ≡ i + j + k → length a ≡ i → length b ≡ j
@@ -118,35 +114,66 @@ five-laid r a b c d e out len =
     ∙ append-assoc (r ++ a) b (c ++ (d ++ e))
     ∙ append-assoc r a (b ++ (c ++ (d ++ e)))
 
-pub store-law : (p : Parts) (sw : List Float) (x : Site) (l : ExpansionValues) (out r1 r2 r3 r4 r5 a3 a4 a5 : List Float) (d : Bases)
+-- the row at 72.5 km, where it is asked for and where not
+module _ (on : Bool) (sw : List Float) (x : Site) (l : ExpansionValues) (row : List Float) where
+  pub no-summit : not on ≡ true → row ≡ replicate 11 0·0 → row ≡ summitStored on sw x l
+  unfolding summitStored
+  no-summit o e = rw o e
+
+  pub summit-row : not on ≡ false → row ≡ elevenFrom sw x l 72·5 → row ≡ summitStored on sw x l
+  unfolding summitStored
+  summit-row o e = rw o e
+
+-- the part below 72.5 km, before what is done
+first-laid : (out F X : List Float) → length out ≡ 234 → putMid 14 53 (take 67 out ++ X) F ≡ take 14 out ++ (F ++ X)
+first-laid out F X len =
+    let R = take 67 out in
+    let Q = R ++ X in
+    let r67 : length R ≡ 67 = length-take-le 67 out (omega (arith, len)) in
+    let start : take 14 Q ≡ take 14 out =
+    take-append-le 14 R X (rw r67 (omega arith)) ∙ sym (take-append-le 14 R (drop 67 out) (rw r67 (omega arith))) ∙ ap (λ (t : List Float). take 14 t) (take-append-drop 67 out) in
+    let r14 : length (take 14 Q) ≡ 14 = ap length start ∙ length-take-le 14 out (omega (arith, len)) in
+    next (take 14 Q) F Q Q 14 53 r14 (sym (take-append-drop 14 Q))
+    ∙ ap₂ (λ (t r : List Float). (t ++ F) ++ r) start (drop-at R X 67 r67)
+    ∙ append-assoc (take 14 out) F X
+
+-- four parts behind the first 67 numbers, with nothing left of the slice
+four-laid : (r b c d e out : List Float) → length out ≡ 234 → ((((r ++ b) ++ c) ++ d) ++ e) ++ drop 234 out ≡ r ++ (b ++ (c ++ (d ++ e)))
+four-laid r b c d e out len =
+    ap (λ (t : List Float). ((((r ++ b) ++ c) ++ d) ++ e) ++ t) (nothing-left out 234 len)
+    ∙ append-nil ((((r ++ b) ++ c) ++ d) ++ e)
+    ∙ append-assoc ((r ++ b) ++ c) d e
+    ∙ append-assoc (r ++ b) c (d ++ e)
+    ∙ append-assoc r b (c ++ (d ++ e))
+
+pub store-law : (p : Parts) (sw : List Float) (x : Site) (l : ExpansionValues) (out r1 r2 r3 r4 r5 a3 a4 : List Float) (d : Bases)
     → length out ≡ 234
     → r1 ≡ footingStored (p .below) sw x l (p .tropo)
     → r2 ≡ lowStored (p .low) sw x l d
-    → r3 ≡ a3 → r4 ≡ a4 → r5 ≡ a5
+    → r3 ≡ a3 → r4 ≡ a4
+    → r5 ≡ summitStored (p .summit) sw x l
     → a3 ≡ regionStored (p .mid) sw x l d 200·0
     → a4 ≡ regionStored (p .top) sw x l d 300·0
-    → a5 ≡ summitStored (p .summit) sw x l
     → d ≡ basesOf (sw ‼ 21) l
-    → putMid 223 11 (putMid 187 36 (putMid 151 36 (putMid 67 84 (putMid 14 53 out r1) r2) r3) r4) r5 ≡ take 14 out ++ storedOf p sw x l
+    → putMid 14 53 (putMid 223 11 (putMid 187 36 (putMid 151 36 (putMid 67 84 out r2) r3) r4) r5) r1 ≡ take 14 out ++ storedOf p sw x l
 unfolding storedOf
-store-law p sw x l out r1 r2 r3 r4 r5 a3 a4 a5 d len e1 e2 f3 f4 f5 e3 e4 e5 ed =
+store-law p sw x l out r1 r2 r3 r4 r5 a3 a4 d len e1 e2 f3 f4 e5 e3 e4 ed =
     let F = footingStored (p .below) sw x l (p .tropo) in
     let L = lowStored (p .low) sw x l (basesOf (sw ‼ 21) l) in
     let M = regionStored (p .mid) sw x l (basesOf (sw ‼ 21) l) 200·0 in
     let U = regionStored (p .top) sw x l (basesOf (sw ‼ 21) l) 300·0 in
     let S = summitStored (p .summit) sw x l in
-    let R = take 14 out in
-    let r14 : length R ≡ 14 = length-take-le 14 out (omega (arith, len)) in
-    let r67 = grown R F 14 53 r14 (footing-length (p .below) sw x l (p .tropo)) in
-    let r151 = grown (R ++ F) L 67 84 r67 (low-length (p .low) sw x l (basesOf (sw ‼ 21) l)) in
-    let r187 = grown ((R ++ F) ++ L) M 151 36 r151 (region-length (p .mid) sw x l (basesOf (sw ‼ 21) l) 200·0) in
-    let r223 = grown (((R ++ F) ++ L) ++ M) U 187 36 r187 (region-length (p .top) sw x l (basesOf (sw ‼ 21) l) 300·0) in
-    let one = next R F out out 14 53 r14 (sym (take-append-drop 14 out)) in
-    let two = next (R ++ F) L out _ 67 84 r67 one in
-    let three = next ((R ++ F) ++ L) M out _ 151 36 r151 two in
-    let four = next (((R ++ F) ++ L) ++ M) U out _ 187 36 r187 three in
-    rw (e1, e2, f3, f4, f5, e3, e4, e5, ed)
-    (next ((((R ++ F) ++ L) ++ M) ++ U) S out _ 223 11 r223 four ∙ five-laid R F L M U S out len)
+    let R = take 67 out in
+    let r67 : length R ≡ 67 = length-take-le 67 out (omega (arith, len)) in
+    let r151 = grown R L 67 84 r67 (low-length (p .low) sw x l (basesOf (sw ‼ 21) l)) in
+    let r187 = grown (R ++ L) M 151 36 r151 (region-length (p .mid) sw x l (basesOf (sw ‼ 21) l) 200·0) in
+    let r223 = grown ((R ++ L) ++ M) U 187 36 r187 (region-length (p .top) sw x l (basesOf (sw ‼ 21) l) 300·0) in
+    let two = next R L out out 67 84 r67 (sym (take-append-drop 67 out)) in
+    let three = next (R ++ L) M out _ 151 36 r151 two in
+    let four = next ((R ++ L) ++ M) U out _ 187 36 r187 three in
+    let five = next (((R ++ L) ++ M) ++ U) S out _ 223 11 r223 four ∙ four-laid R L M U S out len in
+    rw (e1, e2, f3, f4, e5, e3, e4, ed)
+    (ap (λ (t : List Float). putMid 14 53 t F) five ∙ first-laid out F (L ++ (M ++ (U ++ S))) len)
 
 -- a part that is not asked for stays, another is put
 pub unasked : (on : Bool) (f xs : List Float) → not on ≡ true → xs ≡ cond on f xs

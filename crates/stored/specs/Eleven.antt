@@ -94,10 +94,10 @@ module _ (p : Parts) (z : Float) (h : PartsHold p (partsAt z)) where
 -- nothing of the View and the Site depends on the record's own altitude
 eleven-at : (w : List ℤ) (n : Input) (m : Need) (z : Float) → NeedCovers m (needAt z)
     → elevenFrom ((viewOf w n) .sw) (siteOf ((viewOf w n) .sw) (n .«g_lat») ((viewOf w n) .doy) (n .f107a)) (expansionValuesOf (viewOf w n) m) z ≡ elevenOf w (withAltOf n z)
-unfolding elevenOf elevenWith siteOf withAltOf viewOf turnedOf
+unfolding elevenOf elevenWith siteOf siteWith withAltOf viewOf turnedOf
 eleven-at w n m z c =
     let v = viewOf w n in
-    sym (eleven-covered v m (siteOf (v .sw) (n .«g_lat») (v .doy) (n .f107a)) z (site-mass presentOf (v .sw) (n .«g_lat») (v .doy) (n .f107a) _ refl present-mass) c)
+    sym (eleven-covered v m (siteOf (v .sw) (n .«g_lat») (v .doy) (n .f107a)) z (site-mass presentOf (v .sw) (n .«g_lat») _ _ (n .f107a) _ refl present-mass) c)
 
 present-nine : (sw : List Float) (lat doy f107a : Float) → (siteOf sw lat doy f107a) .nine ≡ presentOf
 unfolding siteOf siteWith siteFrom

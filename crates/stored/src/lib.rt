@@ -5,20 +5,23 @@ ghost use mathlib.Core.Bool.{true, cond};
 ghost use mathlib.Core.List.{_++_};
 ghost use Prim.Native.Nat.{_+_, _≤_};
 ghost use lib.ListN.{length, take, drop};
-ghost use Rattle.footing.specs.Footing.{rowBelowOf};
+ghost use Rattle.footing.specs.Footing.{rowBelowOf, summitOf};
 ghost use Rattle.stored.specs.Stored.{needOf, regionNumbers, spineNumbers, spanNumbers, groundNumbers, fiveIn, shapeIn, rootIn, rootsIn, spineIn, spanIn, footingIn, regionStored, lowStored, footingStored, summitStored, storedOf, storedIn, overIn, underIn, rowStored};
 use atmosphere::row_above;
 use elementary::logarithm::log;
 use footing::Curves;
 use footing::Footing;
+use footing::Summit;
 use footing::footing_of;
 use footing::row_below;
+use footing::unknown;
 use gts7_arithmetic::Site;
 use gts7_arithmetic::anomalous;
 use layers::Span;
 use lower_atmosphere::Meso;
 use needed_sets::Need;
 use numbers::RGAS;
+use numbers::put_row;
 use parameters::present;
 use places::place::Spine;
 use plan::ExpansionValues;
@@ -393,15 +396,17 @@ pub fn put_low(on: bool, sw: [f64; 24], x: Site, l: ExpansionValues, d: Bases, o
     put(&mut out[60..84], &c);
 }
 
+// q has the densities at 72.5 km where they are known.
 pub fn put_footing(
     on: bool,
     sw: [f64; 24],
     x: Site,
     l: ExpansionValues,
     tropo: bool,
+    q: Summit,
     out: &mut [f64],
 )
-    requires { ⌜ length (now out) ≡ 53 ⌝ }
+    requires { ⌜ (length (now out) ≡ 53) × (q .known ≡ true → q ≡ summitOf sw x l) ⌝ }
     ensures { λ _. ⌜ now (out .exit) ≡ footingStored on sw x l tropo ⌝ }
 {
     if !on {
@@ -409,7 +414,7 @@ pub fn put_footing(
         put(out, &zeros);
         return;
     }
-    let f = footing_of(sw, x, l, tropo);
+    let f = footing_of(sw, x, l, tropo, q);
     let a = ground_numbers(f);
     put(&mut out[0..17], &a);
     let k = f.curves;
@@ -421,30 +426,41 @@ pub fn put_footing(
     put(&mut out[35..53], &c);
 }
 
-// The row at 72.5 km, the one altitude whose temperatures have no part of PT and PS.
-pub fn summit_stored(on: bool, sw: [f64; 24], x: Site, l: ExpansionValues) -> [f64; 11]
-    ensures { λ r. ⌜ r ≡ summitStored on sw x l ⌝ }
+// The row at 72.5 km, the one altitude whose temperatures have no part of PT and PS. What the altitudes below read of it comes back.
+pub fn put_summit(on: bool, sw: [f64; 24], x: Site, l: ExpansionValues, out: &mut [f64]) -> Summit
+    requires { ⌜ length (now out) ≡ 11 ⌝ }
+    ensures { λ r. ⌜ (now (out .exit) ≡ summitStored on sw x l) × (r .known ≡ true → r ≡ summitOf sw x l) ⌝ }
 {
     if !on {
-        return [0.0; 11];
+        put_row(out, [0.0; 11]);
+        return unknown();
     }
-    row_above(sw, x, l, 72.5)
+    let a = row_above(sw, x, l, 72.5);
+    let r = a.row;
+    put_row(out, r);
+    Summit {
+        known: true,
+        he: r[0],
+        n2: r[2],
+        o2: r[3],
+        ar: r[4],
+        dm28: a.dm28,
+    }
 }
 
-// All of it behind the first fourteen numbers, which are the record's.
+// All of it behind the first fourteen numbers, which are the record's. What lies below 72.5 km comes last: it reads densities of the row there.
 pub fn store(p: Parts, sw: [f64; 24], x: Site, l: ExpansionValues, out: &mut [f64])
     requires { ⌜ length (now out) ≡ 234 ⌝ }
     ensures { λ _. ⌜ now (out .exit) ≡ take 14 (now (out .entry)) ++ storedOf p sw x l ⌝ }
 {
     let d = bases_of(sw[21], l);
-    put_footing(p.below, sw, x, l, p.tropo, &mut out[14..67]);
     put_low(p.low, sw, x, l, d, &mut out[67..151]);
     let b = region_stored(p.mid, sw, x, l, d, 200.0);
     put(&mut out[151..187], &b);
     let c = region_stored(p.top, sw, x, l, d, 300.0);
     put(&mut out[187..223], &c);
-    let a = summit_stored(p.summit, sw, x, l);
-    put(&mut out[223..234], &a);
+    let q = put_summit(p.summit, sw, x, l, &mut out[223..234]);
+    put_footing(p.below, sw, x, l, p.tropo, q, &mut out[14..67]);
 }
 
 // ---- the same among numbers that are there: a part that is asked for, into its own place
@@ -463,7 +479,8 @@ pub fn footing_in(
     if !on {
         return;
     }
-    put_footing(true, sw, x, l, tropo, out);
+    let q = unknown();
+    put_footing(true, sw, x, l, tropo, q, out);
 }
 
 pub fn low_in(on: bool, sw: [f64; 24], x: Site, l: ExpansionValues, d: Bases, out: &mut [f64])
@@ -502,8 +519,7 @@ pub fn summit_in(on: bool, sw: [f64; 24], x: Site, l: ExpansionValues, out: &mut
     if !on {
         return;
     }
-    let r = summit_stored(true, sw, x, l);
-    put(out, &r);
+    put_summit(true, sw, x, l, out);
 }
 
 // The parts p, each into its own place; what is there of the others stays.

@@ -1,30 +1,53 @@
 -- `store` meets its contract.
 use native.Mathlib.Omega.{arith}
-use Rattle.stored.proofs.Laws.{store-law}
 use borrow.Author.Needs.{needs}
+use Rattle.stored.proofs.Laws.{store-law}
 use Rattle.stored.proofs.store.Statement.{statement}
 use Rattle.stored.proofs.store.Tie as tie
 
-part-put-end : tie.Need-part-put-end
-part-put-end c = omega (arith, c .before .before .out2 .given .1, c .before .before .before .before .before .before .out .given .1, c .before .before .before .before .before .before .before .before .before .before .before .pre)
+part-put-footing-end : tie.Need-part-put-footing-end
+part-put-footing-end c =
+    let summit = c .before in
+    let top = summit .before .before .before .before in
+    let mid = top .before .before .before .before .before .before in
+    let low = mid .before .before .before .before .before .before in
+    omega (arith, summit .out4 .given .1, top .out3 .given .1, mid .out2 .given .1, low .out .given .1, low .before .before .before .before .before .pre)
 
-part-put-end-2 : tie.Need-part-put-end-2
-part-put-end-2 c = omega (arith, c .before .before .out3 .given .1, c .before .before .before .before .before .before .before .before .out2 .given .1, c .before .before .before .before .before .before .before .before .before .before .before .before .out .given .1, c .before .before .before .before .before .before .before .before .before .before .before .before .before .before .before .before .before .pre)
-
-part-put-end-3 : tie.Need-part-put-end-3
-part-put-end-3 c = omega (arith, c .before .before .out4 .given .1, c .before .before .before .before .before .before .before .before .out3 .given .1, c .before .before .before .before .before .before .before .before .before .before .before .before .before .before .out2 .given .1, c .before .before .before .before .before .before .before .before .before .before .before .before .before .before .before .before .before .before .out .given .1, c .before .before .before .before .before .before .before .before .before .before .before .before .before .before .before .before .before .before .before .before .before .before .before .pre)
+put-footing-requires : tie.Need-put-footing-requires
+put-footing-requires c κs = (search needs, c .before .before .before .put-summit .ensures .1)
 
 same-length : tie.Need-same-length
-same-length c = omega (arith, c .before .out5 .given .1, c .before .before .before .before .before .before .before .out4 .given .1, c .before .before .before .before .before .before .before .before .before .before .before .before .before .out3 .given .1, c .before .before .before .before .before .before .before .before .before .before .before .before .before .before .before .before .before .before .before .out2 .given .1, c .before .before .before .before .before .before .before .before .before .before .before .before .before .before .before .before .before .before .before .before .before .before .before .out .given .1)
+same-length c =
+    let footing = c .before in
+    let summit = footing .before .before .before .before in
+    let top = summit .before .before .before .before in
+    let mid = top .before .before .before .before .before .before in
+    let low = mid .before .before .before .before .before .before in
+    omega (arith, footing .out5 .given .1, summit .out4 .given .1, top .out3 .given .1, mid .out2 .given .1, low .out .given .1)
 
 returns : tie.Need-returns
-returns c = store-law (c .before .before .before .before .before .before .before .before .before .before .before .before .before .before .before .before .before .before .before .before .before .before .before .before .before .before .before .before .args .p) (c .before .before .before .before .before .before .before .before .before .before .before .before .before .before .before .before .before .before .before .before .before .before .before .before .before .before .before .before .args .t2) (c .before .before .before .before .before .before .before .before .before .before .before .before .before .before .before .before .before .before .before .before .before .before .before .before .before .before .before .before .args .x) (c .before .before .before .before .before .before .before .before .before .before .before .before .before .before .before .before .before .before .before .before .before .before .before .before .before .before .before .before .args .l) (c .before .before .before .before .before .before .before .before .before .before .before .before .before .before .before .before .before .before .before .before .before .before .before .before .before .before .before .before .args .out .now) _ _ _ _ _ (c .before .before .before .before .before .before .before .before .before .before .before .before .before .before .before .before .before .region-stored .result) (c .before .before .before .before .before .before .before .before .before .before .before .region-stored2 .result) (c .before .before .before .before .before .summit-stored .result) (c .before .before .before .before .before .before .before .before .before .before .before .before .before .before .before .before .before .before .before .before .before .before .before .before .before .before .bases-of .result) (c .before .before .before .before .before .before .before .before .before .before .before .before .before .before .before .before .before .before .before .before .before .before .before .before .before .before .before .before .pre) (c .before .before .before .before .before .before .before .before .before .before .before .before .before .before .before .before .before .before .before .before .before .before .before .before .put-footing .ensures) (c .before .before .before .before .before .before .before .before .before .before .before .before .before .before .before .before .before .before .before .before .put-low .ensures) (c .before .before .before .before .before .before .before .before .before .before .before .before .before .before .put .ensures) (c .before .before .before .before .before .before .before .before .put2 .ensures) (c .before .before .put3 .ensures) (c .before .before .before .before .before .before .before .before .before .before .before .before .before .before .before .before .before .region-stored .ensures) (c .before .before .before .before .before .before .before .before .before .before .before .region-stored2 .ensures) (c .before .before .before .before .before .summit-stored .ensures) (c .before .before .before .before .before .before .before .before .before .before .before .before .before .before .before .before .before .before .before .before .before .before .before .before .before .before .bases-of .ensures)
+returns c =
+    let footing = c .before .before in
+    let summit = footing .before .before .before .before in
+    let top = summit .before .before .before .before in
+    let upper = top .before .before .before in
+    let mid = upper .before .before .before in
+    let lower = mid .before .before .before in
+    let low = lower .before .before .before in
+    let bases = low .before .before in
+    let start = bases .before .before in
+    let A = start .args in
+    store-law (A .p) (A .t2) (A .x) (A .l) (A .out .now) _ _ _ _ _ (lower .region-stored .result) (upper .region-stored2 .result) (bases .bases-of .result) (start .pre)
+    (footing .put-footing .ensures) (low .put-low .ensures) (mid .put .ensures) (top .put2 .ensures) (summit .put-summit .ensures .0)
+    (lower .region-stored .ensures) (upper .region-stored2 .ensures) (bases .bases-of .ensures)
 
 pub store-spec : {M : Type 1} → statement M
 store-spec =
     tie.close
-    (tie.spec (λ c. search needs) (λ c κs. search needs) (λ c. search needs) (λ c. search needs) (λ c. search needs) (λ c κs. search needs)
-    (λ c. search needs) (λ c. search needs) (λ c. omega (arith, c .before .out .given .1, c .before .before .before .before .before .before .pre))
-    (λ c κs. search needs) (λ c κs. search needs) (λ c. search needs) (λ c. search needs) part-put-end (λ c. search needs) (λ c κs. search needs)
-    (λ c κs. search needs) (λ c. search needs) (λ c. search needs) part-put-end-2 (λ c. search needs) (λ c κs. search needs) (λ c κs. search needs)
-    (λ c. search needs) (λ c. search needs) part-put-end-3 (λ c. search needs) (λ c κs. search needs) same-length returns)
+    (tie.spec
+    (λ c. search needs) (λ c κs. search needs)
+    (λ c. search needs) (λ c. search needs) (λ c. search needs) (λ c κs. search needs)
+    (λ c κs. search needs) (λ c. search needs) (λ c. search needs) (λ c. search needs) (λ c. search needs) (λ c κs. search needs)
+    (λ c κs. search needs) (λ c. search needs) (λ c. search needs) (λ c. search needs) (λ c. search needs) (λ c κs. search needs)
+    (λ c. search needs) (λ c. search needs) (λ c. search needs) (λ c κs. search needs)
+    (λ c. search needs) (λ c. search needs) part-put-footing-end put-footing-requires same-length returns)
