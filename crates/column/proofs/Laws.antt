@@ -106,13 +106,13 @@ pub rows-are : (w : List ℤ) (n : Input) (alts numbers sw xs : List Float)
     → rowsStored (sw ‼ 0) (sw ‼ 15) numbers alts ++ xs ≡ columnRows w n alts ++ xs
 rows-are w n alts numbers sw xs es en e = ap (λ (r : List Float). r ++ xs) (rows-of w n (sw ‼ 0) (sw ‼ 15) numbers alts (each-row w n alts numbers sw es en e))
 
-pub stored-are : (w : List ℤ) (n : Input) (alts xs s numbers : List Float) (v : RecordValues) (x : Site) (doy : Float) (p : Parts) (a : Need)
+pub stored-are : (w : List ℤ) (n : Input) (alts xs s t numbers : List Float) (v : RecordValues) (x : Site) (doy : Float) (p : Parts) (a : Need)
     → length xs ≡ 234 → v ≡ recordValuesOf w n a → x ≡ siteOf (v .sw) (n .«g_lat») doy (n .f107a) → doy ≡ ofInt binary64 (n .doy)
-    → p ≡ partsFrom noParts alts → a ≡ needOf p
+    → p ≡ partsFrom noParts alts → a ≡ needOf p → s ≡ t
     → numbers ≡ take 14 (putMid 14 156 xs s) ++ storedOf p (v .sw) x (v .values)
     → (v .sw ≡ (viewOf w n) .sw) × (numbers ≡ take 14 xs ++ storedFor w n alts)
 unfolding storedFor recordValuesOf viewOf
-stored-are w n alts xs s numbers v x doy p a len ev ex ed ep ea en =
+stored-are w n alts xs s t numbers v x doy p a len ev ex ed ep ea _ en =
     let record-stays : take 14 (putMid 14 156 xs s) ≡ take 14 xs = take-at (take 14 xs) _ 14 (length-take-le 14 xs (omega (arith, len))) in
     (ap (λ (u : RecordValues). u .sw) ev, rw (en, record-stays, ex, ed, ev, ea, ep))
 

@@ -2,9 +2,10 @@
 use mathlib.Core.Path.{_≡_, refl, sym, ap, ap₂, _∙_}
 use mathlib.Core.Bool.{Bool, true, false, cond, not}
 use mathlib.Core.List.{List}
+use lib.ListN.{replicate}
 use lib.Ieee.{Float, lt, le}
 use Rattle.numbers.specs.Arithmetic.{_⊗_, _‼_}
-use Rattle.numbers.specs.Literals.{32·5, 72·5, 300·0}
+use Rattle.numbers.specs.Literals.{0·0, 32·5, 72·5, 300·0}
 use Rattle.elementary.specs.Root.{sqrtOf}
 use Rattle.setting.specs.declared.State.{State}
 use Rattle.setting.specs.declared.View.{View}
@@ -15,6 +16,10 @@ use Rattle.plan.specs.Fields.{Fields, fieldsOf, withFields, setGravity, setDd, 
 use Rattle.plan.specs.Plan.{Plan, Ask, either, _>>=_, ends, told, fieldsAfter, answerTo, run, stepped, stepped-done, stepped-keep, stepped-then}
 use Rattle.needed_sets.specs.declared.Need.{Need}
 use Rattle.needed_sets.specs.NeededSets.{needAt, withHigh}
+use Rattle.season.specs.Season.{seasonInto}
+use Rattle.season.specs.Filled.{seasoned, serves}
+use Rattle.expansion_values.specs.Sets.{expansionValuesGiven}
+use Rattle.expansion_values.specs.InSeason.{longitudeOn, in-season}
 use Rattle.expansion_values.specs.ExpansionValues.{expansionValuesOf}
 use Rattle.mixing_limits.specs.Limits.{mixedAt}
 use Rattle.mixing_limits.specs.declared.Mixed.{Mixed}
@@ -214,15 +219,19 @@ gtd7-steps-below sw x alt l s s1 s2 s3 s4 s5 w n m u altt e0 e1 e2 e3 e4 e5 e6 t
     ∙ ap (λ (r : Gtd7Output). ends r (withFields s4 (setDd (r .dd) (fieldsOf s4)))) (sym e1)
     ∙ ap (λ (c : State). ends w c) (sym e0)
 
-pub from-fresh : (v : View) (x : Site) (alt : Float) (w : Gtd7Output) (t s8 s7 s : State) (p8 p7 : List Float) (l : ExpansionValues) (a b : Need)
+pub from-fresh : (v : View) (x : Site) (alt : Float) (w : Gtd7Output) (t s8 s7 s : State) (p8 p7 season : List Float) (l : ExpansionValues) (a b : Need)
     → stepped (answerTo l) (gtd7Plan (v .sw) x alt) s8 ≡ ends w t
     → s8 ≡ stateAfter v p8 s7
     → p8 ≡ pdT8
     → s7 ≡ stateAfter v p7 s
     → p7 ≡ pdT7
     → s ≡ freshOf
-    → l ≡ expansionValuesOf v a
+    → l ≡ expansionValuesGiven v a season
+    → season ≡ seasonInto (v .doy) a true (replicate 156 0·0)
     → a ≡ withHigh b
     → b ≡ needAt alt
     → run v (gtd7Plan (v .sw) x alt) freshOf ≡ ends w t
-from-fresh v x alt w t s8 s7 s p8 p7 l a b e0 e1 e2 e3 e4 e5 e6 e7 e8 = gtd7-left v x alt ∙ (rw (e6, e7, e8, e1, e2, e3, e4, e5) at e0)
+from-fresh v x alt w t s8 s7 s p8 p7 season l a b e0 e1 e2 e3 e4 e5 e6 e7 e8 e9 =
+    let right = serves (v .doy) a a (longitudeOn v) _ (λ k h. h) (λ k h. h) (seasoned (v .doy) a true (replicate 156 0·0) refl) in
+    let values : l ≡ expansionValuesOf v a = e6 ∙ ap (expansionValuesGiven v a) e7 ∙ in-season v a _ right in
+    gtd7-left v x alt ∙ (rw (values, e8, e9, e1, e2, e3, e4, e5) at e0)

@@ -274,7 +274,7 @@ module _ (w : List ℤ) (a b : Input) (like : AlikeBut (others w) a b) where
         (λ u v. cc (glong-s u v)) (λ u v. cc (glong-s u v, doy≡))
 
     pub glob7s≡ : glob7sOf (plainView w a) p s ≡ glob7sOf (plainView w b) p t
-    unfolding glob7sOf glob7sFrom glob7sFromGiven glob7sGiven carriedOf
+    unfolding glob7sOf glob7sFrom glob7sFromGiven glob7sGiven t10sOf carriedOf
     glob7s≡ =
         let g = rowsOf (s .plg) in
         cc (doy≡, e .dfa, e .plg, e .ct, e .st, e .c2t, e .s2t, e .c3t, e .s3t, t8s≡ g, t10s≡ g)

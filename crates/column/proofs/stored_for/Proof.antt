@@ -1,5 +1,4 @@
 -- `stored_for` meets its contract.
-use lib.ListN.{take}
 use Rattle.column.proofs.Laws.{stored-are}
 use borrow.Author.Needs.{needs}
 use Rattle.column.proofs.stored_for.Statement.{statement}
@@ -9,14 +8,15 @@ returns : tie.Need-returns
 returns c =
     let stored = c .before .before in
     let at = stored .before .before .before in
-    let made = at .before .before in
-    let read = made .before .before in
+    let made = at .before .before .before .before .before in
+    let read = made .before .before .before in
     let start = read .before .before .before in
-    stored-are (start .args .w) (start .args .n) (start .args .alts .now) (take 14 (start .args .numbers .now)) _ (made .record-values .result) (at .site-of .result)
-    (read .parts-of .result) (made .before .need-of .result) (made .record-values .ensures) (at .site-of .ensures) (read .parts-of .ensures)
-    (made .before .need-of .ensures) (stored .store .ensures)
+    stored-are (start .args .w) (start .args .n) (start .args .alts .now) (start .args .numbers .now) _ _ _ (made .record-values .result) (at .site-of .result)
+    (at .before .day .result) (read .parts-of .result) (made .before .before .need-of .result) (start .pre) (made .record-values .ensures .0) (at .site-of .ensures)
+    (at .before .day .ensures) (read .parts-of .ensures) (made .before .before .need-of .ensures) (made .record-values .ensures .1) (stored .store .ensures)
 
 pub stored-for-spec : {M : Type 1} → statement M
 stored-for-spec =
     tie.close
-    (tie.spec (λ c κs. search needs) (λ c κs. search needs) (λ c κs. search needs) (λ c κs. search needs) (λ c κs. search needs) (λ c. search needs) returns)
+    (tie.spec (λ c κs. search needs) (λ c κs. search needs) (λ c. search needs) (λ c. search needs) (λ c. search needs) (λ c κs. search needs) (λ c κs. search needs) (λ c κs. search needs)
+    (λ c κs. search needs) (λ c. search needs) returns)
