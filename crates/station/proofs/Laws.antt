@@ -1,13 +1,13 @@
 -- The outcomes of a station's calls.
-use Prim.Native.Nat.{ℕ}
+use Prim.Native.Nat.{ℕ, _≤_}
 use mathlib.Core.Path.{_≡_, refl, sym, ap, _∙_}
-use mathlib.Core.Bool.{Bool, true, false}
+use mathlib.Core.Bool.{Bool, true, false, cond}
 use mathlib.Core.List.{List, [], _++_, append-assoc, append-nil}
 use native.Mathlib.Omega.{arith}
 use borrow.Author.Tests.{eq-eqb, ne-eqb}
 use borrow.Rule.Slice.PartMut.{putMid}
 use lib.IntN.{ℤ}
-use lib.ListN.{length, take, drop}
+use lib.ListN.{length, take, drop, length-drop}
 use lib.Dec.{lit≤}
 use lib.Seq.{take-at, drop-at, drop-drop, drop-length, take-take, length-take-le}
 use lib.Ieee.{Float}
@@ -25,15 +25,16 @@ use Rattle.expansion_values.specs.declared.RecordValues.{RecordValues}
 use Rattle.expansion_values.specs.ExpansionValues.{expansionValuesOf, recordValuesOf}
 use Rattle.plan.specs.declared.ExpansionValues.{ExpansionValues}
 use Rattle.gts7_arithmetic.specs.declared.Site.{Site}
-use Rattle.station_values.specs.StationValues.{expansionNumbers, expansionValuesIn, siteUnder}
+use Rattle.station_values.specs.StationValues.{expansionNumbers, expansionValuesIn, globe7Sets, siteUnder}
 use Rattle.stored_parts.specs.declared.Parts.{Parts}
 use Rattle.stored_parts.specs.Parts.{allParts}
 use Rattle.stored.specs.Stored.{needOf, part, storedOf, rowStored}
+use Rattle.stored.specs.Rows.{grown}
 use Rattle.drag_sum.specs.DragSum.{draggedOf}
 use Rattle.station_record.specs.Record.{stationWhole, recordNumbers, recordIn, unitsIn, mixingIn}
 use Rattle.station_answer.specs.Answers.{Change, changeOf, stationAnswer, altitudeAnswer, changeAnswer, switchesAnswer, rowTaken}
-use Rattle.station.specs.Station.{heldOf, refilledOf, stationNumbers, wholeAfter, stationNumbersAfter, altitudeRow, altitudeDrag, replacedOf, changedNumbers, renewedOf, switchedWhole, switchedNumbers}
-use Rattle.station.specs.Renewed.{record-fourteen, refilled-is}
+use Rattle.station.specs.Station.{heldOf, refilledOf, stationNumbers, valuesPut, secFilled, wholeAfter, stationNumbersAfter, altitudeRow, altitudeDrag, refilledBy, changedNumbers, renewedOf, switchedWhole, switchedNumbers}
+use Rattle.station.specs.Renewed.{record-fourteen, twenty-five, refilled-from, refilled-is}
 
 -- the first 234 of a list and what is stored in them
 pub refill-law : (w : List ℤ) (n : Input) (xs s : List Float) (f : Flags) (x : Site) (l : ExpansionValues) (p : Parts)
@@ -48,29 +49,72 @@ refill-law w n xs s f x l p e0 e1 e2 e3 e4 =
     let made : storedOf p (f .sw) x l ≡ storedOf allParts (swOf w) (siteUnder (swOf w) n) (expansionValuesIn (part 234 25 xs)) = rw (e1, e2, e3, e4) in
     rw (e0, made, take-take 14 234 xs (lit≤ tt)) (append-assoc (take 14 xs) _ (drop 234 xs))
 
--- the record's numbers and the expansions' values in their places
-pub fill-law : (w : List ℤ) (n : Input) (xs zs r s t k : List Float) (v : RecordValues) (a : Need) (p : Parts)
+-- ---- the expansions' values in their places
+
+pub all-put : (w : List ℤ) (n : Input) (a : Need) (xs k t : List Float) (v : RecordValues)
+    → length xs ≡ 259 → t ≡ k → k ≡ expansionNumbers (v .values) → v ≡ recordValuesOf w n a → a .nodes ≡ true → putMid 234 25 xs t ≡ valuesPut w n a xs
+unfolding valuesPut recordValuesOf
+all-put w n a xs k t v len e0 e1 e2 f =
+    let K = expansionNumbers (expansionValuesOf (viewOf w n) a) in
+    let nothing : drop 25 (drop 234 xs) ≡ [] = drop-drop 25 234 xs ∙ ap (λ (i : ℕ). drop i xs) (sym len) ∙ drop-length xs in
+    let put : putMid 234 25 xs t ≡ take 234 xs ++ K = rw (e0, e1, e2, nothing) (ap (λ (u : List Float). take 234 xs ++ u) (append-nil K)) in
+    put ∙ ap (λ (b : Bool). take 234 xs ++ cond b K (take 11 K ++ drop 245 xs)) (sym f)
+
+pub some-put : (w : List ℤ) (n : Input) (a : Need) (xs k t : List Float) (v : RecordValues)
+    → t ≡ take 11 k → k ≡ expansionNumbers (v .values) → v ≡ recordValuesOf w n a → a .nodes ≡ false → putMid 234 11 xs t ≡ valuesPut w n a xs
+unfolding valuesPut recordValuesOf
+some-put w n a xs k t v e0 e1 e2 f =
+    let K = expansionNumbers (expansionValuesOf (viewOf w n) a) in
+    let put : putMid 234 11 xs t ≡ take 234 xs ++ (take 11 K ++ drop 245 xs) = rw (e0, e1, e2) (ap (λ (u : List Float). take 234 xs ++ (take 11 K ++ u)) (drop-drop 11 234 xs)) in
+    put ∙ ap (λ (b : Bool). take 234 xs ++ cond b K (take 11 K ++ drop 245 xs)) (sym f)
+
+-- ---- the record's numbers before them, and between the two what no altitude changes
+
+behind : (n : Input) (vs : List Float) → drop 234 (recordNumbers n ++ drop 14 vs) ≡ drop 234 vs
+behind n vs =
+    sym (drop-drop 220 14 (recordNumbers n ++ drop 14 vs)) ∙ ap (drop 220) (drop-at (recordNumbers n) (drop 14 vs) 14 (record-fourteen n)) ∙ drop-drop 220 14 vs
+
+values-behind : (xs k : List Float) → length xs ≡ 259 → drop 234 (take 234 xs ++ k) ≡ k
+values-behind xs k len = drop-at (take 234 xs) k 234 (length-take-le 234 xs (omega (arith, len)))
+
+pub fill-law : (w : List ℤ) (n : Input) (xs vs zs r s : List Float) (a : Need) (p : Parts)
     → length xs ≡ 259
-    → zs ≡ refilledOf w n (putMid 0 14 (putMid 234 25 xs t) s)
+    → zs ≡ refilledOf w n (putMid 0 14 vs s)
     → s ≡ r
     → r ≡ recordNumbers n
-    → t ≡ k
-    → k ≡ expansionNumbers (v .values)
-    → v ≡ recordValuesOf w n a
+    → vs ≡ valuesPut w n a xs
     → a ≡ needOf p
     → p ≡ allParts
     → zs ≡ stationNumbers w n
-unfolding stationNumbers recordValuesOf
-fill-law w n xs zs r s t k v a p len e0 e1 e2 e3 e4 e5 e6 e7 =
-    let held : v .values ≡ expansionValuesOf (viewOf w n) (needOf allParts) = rw (e5, e6, e7) in
-    let K : List Float = expansionNumbers (expansionValuesOf (viewOf w n) (needOf allParts)) in
-    let ys : List Float = putMid 234 25 xs K in
-    let written : putMid 0 14 (putMid 234 25 xs t) s ≡ recordNumbers n ++ drop 14 ys = rw (e1, e2, e3, e4, held) in
-    let nothing : drop 25 (drop 234 xs) ≡ [] = drop-drop 25 234 xs ∙ ap (λ (i : ℕ). drop i xs) (sym len) ∙ drop-length xs in
-    let behind : drop 234 (recordNumbers n ++ drop 14 ys) ≡ K =
-    sym (drop-drop 220 14 (recordNumbers n ++ drop 14 ys)) ∙ ap (drop 220) (drop-at (recordNumbers n) (drop 14 ys) 14 (record-fourteen n)) ∙ drop-drop 220 14 ys
-    ∙ drop-at (take 234 xs) _ 234 (length-take-le 234 xs (omega (arith, len))) ∙ ap (λ (u : List Float). K ++ u) nothing ∙ append-nil K in
-    e0 ∙ ap (refilledOf w n) written ∙ refilled-is w n _ _ (take-at (recordNumbers n) (drop 14 ys) 14 (record-fourteen n)) behind
+unfolding stationNumbers valuesPut needOf allParts
+fill-law w n xs vs zs r s a p len e0 e1 e2 e3 e4 e5 =
+    let l = expansionValuesOf (viewOf w n) (needOf allParts) in
+    let put : vs ≡ take 234 xs ++ expansionNumbers l = rw (e4, e5) at e3 in
+    let written : putMid 0 14 vs s ≡ recordNumbers n ++ drop 14 vs = rw (e1, e2) in
+    e0 ∙ ap (refilledOf w n) written
+    ∙ refilled-is w n _ l (take-at (recordNumbers n) (drop 14 vs) 14 (record-fourteen n)) (behind n vs ∙ ap (drop 234) put ∙ values-behind xs (expansionNumbers l) len)
+
+eleven-and-fourteen : (l : ExpansionValues) (xs : List Float) → length xs ≡ 259 → length (take 11 (expansionNumbers l) ++ drop 245 xs) ≡ 25
+eleven-and-fourteen l xs len =
+    let long : 11 ≤ length (expansionNumbers l) = rw (twenty-five l) (lit≤ tt) in
+    grown (take 11 (expansionNumbers l)) (drop 245 xs) 11 14 (length-take-le 11 (expansionNumbers l) long) (length-drop 245 xs ∙ omega (arith, len))
+
+pub fill-sec-law : (w : List ℤ) (n : Input) (xs vs zs r s : List Float) (a : Need)
+    → length xs ≡ 259
+    → zs ≡ refilledOf w n (putMid 0 14 vs s)
+    → s ≡ r
+    → r ≡ recordNumbers n
+    → vs ≡ valuesPut w n a xs
+    → a ≡ globe7Sets
+    → zs ≡ secFilled w n xs
+unfolding secFilled valuesPut globe7Sets
+fill-sec-law w n xs vs zs r s a len e0 e1 e2 e3 e4 =
+    let l = expansionValuesOf (viewOf w n) globe7Sets in
+    let k : List Float = take 11 (expansionNumbers l) ++ drop 245 xs in
+    let put : vs ≡ take 234 xs ++ k = rw e4 at e3 in
+    let written : putMid 0 14 vs s ≡ recordNumbers n ++ drop 14 vs = rw (e1, e2) in
+    e0 ∙ ap (refilledOf w n) written
+    ∙ refilled-from w n _ k (take-at (recordNumbers n) (drop 14 vs) 14 (record-fourteen n)) (behind n vs ∙ ap (drop 234) put ∙ values-behind xs k len) (eleven-and-fourteen l xs len)
 
 -- ---- preparing
 
@@ -91,13 +135,13 @@ module _ (w : List ℤ) (n : Input) (ys : List ℤ) (xs : List Float) where
 
 -- ---- changes
 
-pub not-changed : (w : List ℤ) (n : Input) (xs : List Float) (a : Answer) (v : Bool) → a ≡ judgedOf w n → v ≡ acceptedOf a → v ≡ false → (a ≡ judgedOf w n) × (xs ≡ replacedOf w n xs)
-unfolding replacedOf
-not-changed w n xs a v e f t = (e, simp (← e, ← f) (simp t))
+pub not-changed : (w : List ℤ) (n : Input) (xs to : List Float) (a : Answer) (v : Bool) → a ≡ judgedOf w n → v ≡ acceptedOf a → v ≡ false
+    → (a ≡ judgedOf w n) × (xs ≡ cond (acceptedOf (judgedOf w n)) to xs)
+not-changed w n xs to a v e f t = (e, simp (← e, ← f) (simp t))
 
-pub is-changed : (w : List ℤ) (n : Input) (xs ys : List Float) (a : Answer) (v : Bool) → a ≡ judgedOf w n → v ≡ acceptedOf a → v ≡ true → ys ≡ stationNumbers w n → (a ≡ judgedOf w n) × (ys ≡ replacedOf w n xs)
-unfolding replacedOf
-is-changed w n xs ys a v e f t g =
+pub is-changed : (w : List ℤ) (n : Input) (xs ys to : List Float) (a : Answer) (v : Bool) → a ≡ judgedOf w n → v ≡ acceptedOf a → v ≡ true → ys ≡ to
+    → (a ≡ judgedOf w n) × (ys ≡ cond (acceptedOf (judgedOf w n)) to xs)
+is-changed w n xs ys to a v e f t g =
     let o : acceptedOf (judgedOf w n) ≡ true = ap acceptedOf (sym e) ∙ sym f ∙ t in
     (e, rw o g)
 
@@ -118,8 +162,8 @@ module _ (c : Change) (whole : List ℤ) (xs : List Float) where
   change-no-numbers e h = kept (Refused 4 259) (simp (eq-eqb _ _ e, ne-eqb _ _ h)) refl
 
   pub change-met : length whole ≡ 27 → length xs ≡ 259 → (w : List ℤ) (m : Input) (a : Answer) (ys : List Float)
-      → w ≡ drop 3 whole → m ≡ changeOf c (recordIn whole xs) → a ≡ judgedOf w m → ys ≡ replacedOf w m xs → Changed a ys
-  unfolding changeAnswer changedNumbers replacedOf
+      → w ≡ drop 3 whole → m ≡ changeOf c (recordIn whole xs) → a ≡ judgedOf w m → ys ≡ cond (acceptedOf (judgedOf w m)) (refilledBy c w m xs) xs → Changed a ys
+  unfolding changeAnswer changedNumbers
   change-met e f w m a ys ew em ea ey =
       let s : changeAnswer c whole xs ≡ judgedOf (drop 3 whole) (changeOf c (recordIn whole xs)) = simp (eq-eqb _ _ e, eq-eqb _ _ f) in
       let k : a ≡ judgedOf (drop 3 whole) (changeOf c (recordIn whole xs)) = rw (em, ew) at ea in

@@ -35,8 +35,8 @@ use Rattle.shutoff.specs.Theorems.{judged-first, known, row-written, alike-at, 
 use Rattle.station_record.specs.Record.{markOf, historyIn, stationWhole, recordNumbers, recordIn}
 use Rattle.station_answer.specs.Answers.{stationAnswer, altitudeAnswer, withSecOf, withLstOf, withLongOf, withFluxesOf, Change, toSec, toLst, toLong, toFluxes, toMove, changeOf, changeAnswer, switchesAnswer}
 use Rattle.station_values.specs.StationValues.{siteUnder}
-use Rattle.station.specs.Station.{heldOf, stationNumbers, wholeAfter, stationNumbersAfter, altitudeRow, changedNumbers, switchedWhole, switchedNumbers}
-use Rattle.station.specs.Renewed.{record-fourteen, numbers-long, numbers-front, renewed-told}
+use Rattle.station.specs.Station.{heldOf, stationNumbers, wholeAfter, stationNumbersAfter, altitudeRow, refilledBy, changedNumbers, switchedWhole, switchedNumbers}
+use Rattle.station.specs.Renewed.{record-fourteen, numbers-long, numbers-front, renewed-told, sec-told}
 
 -- ---- stations that were given: prepared, then any number of changes and new rows, refused ones among them
 
@@ -170,11 +170,18 @@ pub change-refused : (c : Change) (whole : List ℤ) (xs : List Float) → accep
 unfolding changedNumbers
 change-refused c whole xs e = rw e
 
+refilled-by : (w : List ℤ) (n : Input) (c : Change) → refilledBy c w (changeOf c n) (stationNumbers w n) ≡ stationNumbers w (changeOf c n)
+refilled-by w n (toSec s) = sec-told w n s
+refilled-by w n (toLst l) = refl
+refilled-by w n (toLong g) = refl
+refilled-by w n (toFluxes a f) = refl
+refilled-by w n (toMove s l g) = refl
+
 change-told : (w : List ℤ) (n : Input) (c : Change) → Held w n
     → changedNumbers c (stationWhole w n) (stationNumbers w n) ≡ stationNumbers w (cond (acceptedOf (judgedOf w (changeOf c n))) (changeOf c n) n)
 unfolding changedNumbers
 change-told w n c h =
-    rw (change-met w n c h, dropped w n, record-back w n h)
+    rw (change-met w n c h, dropped w n, record-back w n h, refilled-by w n c)
     (chosen-numbers w (acceptedOf (judgedOf w (changeOf c n))) (changeOf c n) n)
 
 -- ---- a new row

@@ -3,13 +3,14 @@ ghost use mathlib.Core.Path.{_≡_};
 ghost use lib.ListN.{length};
 ghost use Rattle.acceptance.specs.Acceptance.{judgedOf};
 ghost use Rattle.station_answer.specs.Answers.{toSec, toLst, toLong, toFluxes, toMove, stationAnswer, altitudeAnswer, changeAnswer, switchesAnswer};
-ghost use Rattle.station.specs.Station.{refilledOf, stationNumbers, wholeAfter, stationNumbersAfter, altitudeRow, altitudeDrag, replacedOf, changedNumbers, renewedOf, switchedWhole, switchedNumbers};
+ghost use Rattle.station.specs.Station.{refilledOf, stationNumbers, valuesPut, secFilled, wholeAfter, stationNumbersAfter, altitudeRow, altitudeDrag, replacedOf, replacedSec, changedNumbers, renewedOf, switchedWhole, switchedNumbers};
 use acceptance::Answer;
 use acceptance::accepted;
 use acceptance::judge;
 use acceptance::with_alt;
 use drag_sum::drag_on;
 use expansion_values::record_values;
+use needed_sets::Need;
 use setting::Input;
 use setting::switches::tselec;
 use station_answer::altitude_answer;
@@ -28,6 +29,7 @@ use station_record::row_in;
 use station_record::units_in;
 use station_values::expansion_numbers;
 use station_values::expansion_values_in;
+use station_values::globe7_sets;
 use station_values::site_under;
 use stored::need_of;
 use stored::put;
@@ -51,6 +53,20 @@ pub fn refill(w: [i32; 24], n: Input, numbers: &mut [f64])
     store(p, sw, x, l, &mut numbers[0..234]);
 }
 
+// The expansions' values of a record under a switch row into their places: globe7's eleven, and glob7s' fourteen where a asks for their sets.
+pub fn put_values(w: [i32; 24], n: Input, a: Need, numbers: &mut [f64])
+    requires { ⌜ length (now numbers) ≡ 259 ⌝ }
+    ensures { λ _. ⌜ now (numbers .exit) ≡ valuesPut w n a (now (numbers .entry)) ⌝ }
+{
+    let v = record_values(w, n, a);
+    let k = expansion_numbers(v.values);
+    if a.nodes {
+        put(&mut numbers[234..259], &k);
+        return;
+    }
+    put(&mut numbers[234..245], &k[0..11]);
+}
+
 // What a record and a switch row give, into the numbers of a station.
 pub fn fill(w: [i32; 24], n: Input, numbers: &mut [f64])
     requires { ⌜ length (now numbers) ≡ 259 ⌝ }
@@ -58,9 +74,19 @@ pub fn fill(w: [i32; 24], n: Input, numbers: &mut [f64])
 {
     let p = all_parts();
     let a = need_of(p);
-    let v = record_values(w, n, a);
-    let k = expansion_numbers(v.values);
-    put(&mut numbers[234..259], &k);
+    put_values(w, n, a, numbers);
+    let r = record_numbers(n);
+    put(&mut numbers[0..14], &r);
+    refill(w, n, numbers);
+}
+
+// The same where sec alone is another: glob7s reads no sec, and its fourteen values stay.
+pub fn fill_sec(w: [i32; 24], n: Input, numbers: &mut [f64])
+    requires { ⌜ length (now numbers) ≡ 259 ⌝ }
+    ensures { λ _. ⌜ now (numbers .exit) ≡ secFilled w n (now (numbers .entry)) ⌝ }
+{
+    let a = globe7_sets();
+    put_values(w, n, a, numbers);
     let r = record_numbers(n);
     put(&mut numbers[0..14], &r);
     refill(w, n, numbers);
@@ -128,6 +154,19 @@ pub fn changed(w: [i32; 24], n: Input, numbers: &mut [f64]) -> Answer
     a
 }
 
+// The same where sec alone is another.
+pub fn changed_sec(w: [i32; 24], n: Input, numbers: &mut [f64]) -> Answer
+    requires { ⌜ length (now numbers) ≡ 259 ⌝ }
+    ensures { λ r. ⌜ (r ≡ judgedOf w n) × (now (numbers .exit) ≡ replacedSec w n (now (numbers .entry))) ⌝ }
+{
+    let verdict = judge(w, n);
+    if !accepted(verdict) {
+        return verdict;
+    }
+    fill_sec(w, n, numbers);
+    verdict
+}
+
 pub fn change_sec(whole: &[i32], numbers: &mut [f64], sec: f64) -> Answer
     ensures { λ r. ⌜ (r ≡ changeAnswer (toSec sec) (now (whole .entry)) (now (numbers .entry))) × (now (numbers .exit) ≡ changedNumbers (toSec sec) (now (whole .entry)) (now (numbers .entry))) ⌝ }
 {
@@ -139,7 +178,7 @@ pub fn change_sec(whole: &[i32], numbers: &mut [f64], sec: f64) -> Answer
     }
     let w = row_in(whole);
     let m = to_sec(whole, numbers, sec);
-    changed(w, m, numbers)
+    changed_sec(w, m, numbers)
 }
 
 pub fn change_lst(whole: &[i32], numbers: &mut [f64], lst: f64) -> Answer

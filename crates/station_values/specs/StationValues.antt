@@ -1,9 +1,11 @@
 -- The expansions' values in the numbers of a station, and gravity, zhf and flux factor of a row and a record.
 use mathlib.Core.Path.{_≡_, refl}
+use mathlib.Core.Bool.{true, false}
 use mathlib.Core.List.{List, [], _∷_}
 use lib.Ieee.{Float, binary64, ofInt}
 use Rattle.numbers.specs.Arithmetic.{_‼_}
 use Rattle.setting.specs.declared.Input.{Input}
+use Rattle.needed_sets.specs.declared.Need.{Need}
 use Rattle.plan.specs.declared.ExpansionValues.{ExpansionValues}
 use Rattle.gts7_arithmetic.specs.declared.Site.{Site}
 use Rattle.gts7_arithmetic.specs.Gts7Arithmetic.{siteOf}
@@ -48,6 +50,10 @@ expansionValuesIn xs =
 pub expansion-values-back : (l : ExpansionValues) → expansionValuesIn (expansionNumbers l) ≡ l
 unfolding expansionValuesIn expansionNumbers
 expansion-values-back l = refl
+
+-- globe7's sets, without glob7s'
+unfoldable pub globe7Sets : Need
+globe7Sets = record { high = true; pt = true; ps = true; nodes = false; meso = false; tropo = false }
 
 -- sw the main effects of the row
 unfoldable pub siteUnder : List Float → Input → Site

@@ -1,10 +1,11 @@
-// What a new switch row of a station is carried over with: the expansions' values in the station's numbers, and what the row and the record make
-// of gravity, zhf and the flux factor.
+// What a change and a new switch row of a station are carried over with: the expansions' values in the station's numbers, and what the row and the
+// record make of gravity, zhf and the flux factor.
 ghost use mathlib.Core.Path.{_≡_};
 ghost use lib.ListN.{length};
-ghost use Rattle.station_values.specs.StationValues.{expansionNumbers, expansionValuesIn, siteUnder};
+ghost use Rattle.station_values.specs.StationValues.{expansionNumbers, expansionValuesIn, globe7Sets, siteUnder};
 use gts7_arithmetic::Site;
 use gts7_arithmetic::site_of;
+use needed_sets::Need;
 use plan::ExpansionValues;
 use setting::Input;
 use views::day;
@@ -72,6 +73,20 @@ pub fn expansion_values_in(s: &[f64]) -> ExpansionValues
         pma7: s[22],
         pma8: s[23],
         pma9: s[24],
+    }
+}
+
+// globe7's sets, without glob7s'.
+pub fn globe7_sets() -> Need
+    ensures { λ r. ⌜ r ≡ globe7Sets ⌝ }
+{
+    Need {
+        high: true,
+        pt: true,
+        ps: true,
+        nodes: false,
+        meso: false,
+        tropo: false,
     }
 }
 

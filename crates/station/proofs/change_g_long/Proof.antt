@@ -1,5 +1,6 @@
 -- `change_g_long` meets its contract.
 use Rattle.station_answer.specs.Answers.{toLong}
+use Rattle.station.specs.Station.{replacedOf}
 use Rattle.station.proofs.Laws.{change-no-whole, change-no-numbers, change-met}
 use borrow.Author.Needs.{needs}
 use Rattle.station.proofs.change_g_long.Statement.{statement}
@@ -12,6 +13,7 @@ returns-2 : tie.Need-returns-2
 returns-2 c = change-no-numbers (toLong (c .before .before .before .args .g-long)) _ _ (c .before .if1 .left) (c .if2 .taken)
 
 returns-3 : tie.Need-returns-3
+unfolding replacedOf
 returns-3 c =
     let met = c .before .before in
     let changed = met .before .before in
