@@ -58,7 +58,8 @@ pub fn put_values(w: [i32; 24], n: Input, a: Need, numbers: &mut [f64])
     requires { ⌜ length (now numbers) ≡ 259 ⌝ }
     ensures { λ _. ⌜ now (numbers .exit) ≡ valuesPut w n a (now (numbers .entry)) ⌝ }
 {
-    let v = record_values(w, n, a);
+    let mut season = [0.0; 156];
+    let v = record_values(w, n, a, &mut season);
     let k = expansion_numbers(v.values);
     if a.nodes {
         put(&mut numbers[234..259], &k);

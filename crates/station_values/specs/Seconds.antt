@@ -5,8 +5,8 @@ use mathlib.Core.Bool.{true}
 use lib.ListN.{take, drop}
 use lib.Ieee.{Float}
 use Rattle.setting.specs.declared.View.{View}
-use Rattle.expansion_parts.specs.ExpansionParts.{weightedOf, weightedFrom, t8sOf, t10sOf}
-use Rattle.expansion.specs.Expansion.{turnsAfterOf, glob7sValue, glob7sFrom}
+use Rattle.expansion_parts.specs.ExpansionParts.{weightedOf, weightedFrom, t8sOf, t10sGiven}
+use Rattle.expansion.specs.Expansion.{turnsAfterOf, glob7sGiven, glob7sFromGiven, glob7sFrom}
 use Rattle.needed_sets.specs.declared.Need.{Need}
 use Rattle.expansion_values.specs.ExpansionValues.{legendreIn, quietOf, activeOf, expansionValuesOf}
 use Rattle.station_values.specs.StationValues.{expansionNumbers, globe7Sets}
@@ -47,7 +47,7 @@ withSeconds v sec ut long =
 
 -- the values of glob7s at another sec
 pub glob7s-kept : (v : View) (sec ut long : Float) (n : Need) → drop 11 (expansionNumbers (expansionValuesOf v n)) ≡ drop 11 (expansionNumbers (expansionValuesOf (withSeconds v sec ut long) n))
-unfolding expansionNumbers expansionValuesOf activeOf quietOf turnsAfterOf legendreIn glob7sFrom glob7sValue weightedOf weightedFrom t8sOf t10sOf
+unfolding expansionNumbers expansionValuesOf activeOf quietOf turnsAfterOf legendreIn glob7sFrom glob7sFromGiven glob7sGiven weightedOf weightedFrom t8sOf t10sGiven
 glob7s-kept v sec ut long n = refl
 
 -- the values of globe7, with glob7s' sets or without
