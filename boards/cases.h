@@ -2,6 +2,7 @@
 #ifndef CASES_H
 #define CASES_H
 
+#include "generator.h"
 #include "potirehu.h"
 
 #include <string.h>
@@ -96,6 +97,56 @@ static void give_first(void) {
     given.n.table = POTIREHU_BANDS;
     given.n.seconds_1 = given.n.bits_1 = given.n.seconds_2 = given.n.bits_2 = 20;
     given.n.report = 512;
+}
+
+/* ---- by the generator */
+
+/* any altitude, the lower ones and the edges of the model oftener */
+static inline double altitude(void) {
+    static const double edges[] = {0, 32.5, 72.5, 62.5, 120, 123.435, 500, 1000, 2500, 15, 90};
+    switch (below(16)) {
+    case 0: return edges[below(sizeof edges / sizeof *edges)];
+    case 1:
+    case 2:
+    case 3: return between(0, 72.5);
+    case 4:
+    case 5:
+    case 6: return between(72.5, 125);
+    case 7: return between(0, 2500);
+    default: return between(100, 1000);
+    }
+}
+
+static inline void give_row(int32_t *switches) {
+    const uint64_t kind = below(4);
+    for (int i = 0; i < 24; i++) switches[i] = kind < 2 ? 1 : kind == 2 ? (int32_t)below(3) : (int32_t)below(4) - 1;
+    if (below(8)) switches[15] = 1;
+    if (below(8)) switches[9] = (int32_t)below(3) - 1;
+}
+
+/* A record that is accepted, save where the row asks for a history that is not there, or for N2 that is not mixed. */
+static inline void give_record(void) {
+    give_first();
+    given.doy = 1 + (int32_t)below(366);
+    given.fields[0] = between(0, 86400);
+    given.fields[1] = altitude();
+    given.fields[2] = between(-90, 90);
+    given.fields[3] = between(-180, 360);
+    given.fields[4] = between(0, 24);
+    given.fields[5] = between(60, 400);
+    given.fields[6] = between(60, 400);
+    given.fields[7] = between(0, 400);
+    for (int i = 0; i < 7; i++) given.ap_array[i] = between(0, 400);
+    given.n.ap_array = below(4) ? 7 : 0;
+    give_row(given.switches);
+}
+
+static inline void give_altitudes(int rising) {
+    given.n.altitudes = below(17);
+    given.n.rows = 11 * given.n.altitudes;
+    given.n.list = given.n.altitudes;
+    for (uint64_t i = 0; i < given.n.altitudes; i++) given.altitudes[i] = rising ? (i ? given.altitudes[i - 1] + between(0, 120) : between(0, 120)) : altitude();
+    given.level = from_bits((1023 - below(60)) << 52 | next() >> 12);
 }
 
 #endif

@@ -2,7 +2,6 @@
    NaN is written as one. Prints, of each part, how many calls there were, how many were refused, and where in the file it ends. A new call is a function
    here and a line in 'calls'; what it may be refused for goes into 'vary'. SHARE divides the counts of those by the generator. */
 #include "cases.h"
-#include "generator.h"
 
 #include <stdio.h>
 #include <stdlib.h>
@@ -354,62 +353,20 @@ static void samples(void) {
 
 /* ---- by the generator */
 
-static double altitude(void) {
-    static const double edges[] = {0, 32.5, 72.5, 62.5, 120, 123.435, 500, 1000, 2500, 15, 90};
-    switch (below(16)) {
-    case 0: return edges[below(sizeof edges / sizeof *edges)];
-    case 1:
-    case 2:
-    case 3: return between(0, 72.5);
-    case 4:
-    case 5:
-    case 6: return between(72.5, 125);
-    case 7: return between(0, 2500);
-    default: return between(100, 1000);
-    }
-}
-
-static void give_row(int32_t *switches) {
-    const uint64_t kind = below(4);
-    for (int i = 0; i < 24; i++) switches[i] = kind < 2 ? 1 : kind == 2 ? (int32_t)below(3) : (int32_t)below(4) - 1;
-    if (below(8)) switches[15] = 1;
-    if (below(8)) switches[9] = (int32_t)below(3) - 1;
-}
-
 /* A record; one of sixteen has a field that is odd. */
-static void give_record(void) {
-    give_first();
-    given.doy = 1 + (int32_t)below(366);
-    given.fields[0] = between(0, 86400);
-    given.fields[1] = altitude();
-    given.fields[2] = between(-90, 90);
-    given.fields[3] = between(-180, 360);
-    given.fields[4] = between(0, 24);
-    given.fields[5] = between(60, 400);
-    given.fields[6] = between(60, 400);
-    given.fields[7] = between(0, 400);
-    for (int i = 0; i < 7; i++) given.ap_array[i] = between(0, 400);
-    given.n.ap_array = below(4) ? 7 : 0;
-    give_row(given.switches);
+static void give_any_record(void) {
+    give_record();
     if (below(16) == 0) given.fields[below(8)] = strange(below(ODD + 3));
-}
-
-static void give_altitudes(int rising) {
-    given.n.altitudes = below(17);
-    given.n.rows = 11 * given.n.altitudes;
-    given.n.list = given.n.altitudes;
-    for (uint64_t i = 0; i < given.n.altitudes; i++) given.altitudes[i] = rising ? (i ? given.altitudes[i - 1] + between(0, 120) : between(0, 120)) : altitude();
-    given.level = from_bits((1023 - below(60)) << 52 | next() >> 12);
 }
 
 static void records(void) {
     for (long k = 0; k < COUNT(100000); k++) {
-        give_record();
+        give_any_record();
         gtd7();
     }
     part("records");
     for (long k = 0; k < COUNT(10000); k++) {
-        give_record();
+        give_any_record();
         gtd7d();
         which_count();
         given.known = 0x3ffu & ~(uint32_t)(below(2) ? 0 : 1u << below(10));
@@ -422,13 +379,13 @@ static void records(void) {
 
 static void columns(void) {
     for (long k = 0; k < COUNT(10000); k++) {
-        give_record();
+        give_any_record();
         give_altitudes(0);
         column();
     }
     part("columns");
     for (long k = 0; k < COUNT(2000); k++) {
-        give_record();
+        give_any_record();
         give_altitudes(1);
         crossings();
         first_below();
@@ -439,7 +396,7 @@ static void columns(void) {
 static void stations(void) {
     static void (*const changes[])(void) = {station_sec, station_lst, station_g_long, station_fluxes, station_move, station_switches};
     for (long k = 0; k < COUNT(10000); k++) {
-        give_record();
+        give_any_record();
         memset(whole, 7, sizeof whole);
         fill_doubles(numbers, POTIREHU_STATION_NUMBERS + 1);
         station();
@@ -465,7 +422,7 @@ static void stations(void) {
 
 static void descents(void) {
     for (long k = 0; k < COUNT(1000); k++) {
-        give_record();
+        give_any_record();
         given.start = 200000000 + (int64_t)below(800000000);
         given.n.settings = given.n.losses = below(33);
         for (int i = 0; i < 33; i++) given.settings[i] = 1 + (int32_t)below(4);
@@ -493,7 +450,7 @@ static void give_bands(void) {
 
 static void banded(void) {
     for (long k = 0; k < COUNT(2000); k++) {
-        give_record();
+        give_any_record();
         give_bands();
         memset(table, 7, sizeof table);
         bands();
