@@ -1,5 +1,6 @@
-/* budget.c: each call once for its instructions, or many times for its stack (-DSTACK), on any board. Instructions are counted by boards/budget in the emulator's trace, between two
-   calls of 'mark'; the stack by painting what lies below the caller and looking how far down it was written. A new call is a function here and a line in 'measured' and in 'calls'. */
+/* budget.c: each call once for its instructions, or many times for its stack (-DSTACK), on any board. Instructions are counted by boards/budget in the
+   emulator's trace, between two calls of 'mark'; the stack by painting what lies below the caller and looking how far down it was written. A new call is a
+   line with CALL, one in 'measured' and one in 'calls'. */
 #include "cases.h"
 
 #include <stdio.h>

@@ -145,7 +145,9 @@ static inline void give_altitudes(int rising) {
     given.n.altitudes = below(17);
     given.n.rows = 11 * given.n.altitudes;
     given.n.list = given.n.altitudes;
-    for (uint64_t i = 0; i < given.n.altitudes; i++) given.altitudes[i] = rising ? (i ? given.altitudes[i - 1] + between(0, 120) : between(0, 120)) : altitude();
+    for (uint64_t i = 0; i < given.n.altitudes; i++) {
+        given.altitudes[i] = rising ? (i ? given.altitudes[i - 1] : 0) + between(0, 120) : altitude();
+    }
     given.level = from_bits((1023 - below(60)) << 52 | next() >> 12);
 }
 

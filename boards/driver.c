@@ -1,6 +1,6 @@
-/* driver.c: runs every call of potirehu.h on the same inputs on each board and writes all that they answer and lend into driver.out, for a comparison byte for byte; any
-   NaN is written as one. Prints, of each part, how many calls there were, how many were refused, and where in the file it ends. A new call is a function
-   here and a line in 'calls'; what it may be refused for goes into 'vary'. SHARE divides the counts of those by the generator. */
+/* driver.c: runs every call of potirehu.h on the same inputs on each board and writes all that they answer and lend into driver.out, for a comparison byte
+   for byte; any NaN is written as one. Prints, of each part, how many calls there were, how many were refused, and where in the file it ends. A new call is a
+   function here and a line in 'calls'; what it may be refused for goes into 'vary'. SHARE divides the counts of those by the generator. */
 #include "cases.h"
 
 #include <stdio.h>

@@ -1,5 +1,5 @@
-/* runtime.S: what the archive for the Cortex-M7 needs from outside, in fewer instructions than libgcc's and newlib's: whole numbers to doubles, copies and fills. They
-   use no stack, and of the FPU's registers d0 to d7, which any called function may change. To be linked before -lc and -lgcc. */
+/* runtime.S: what the archive for the Cortex-M7 needs from outside, in fewer instructions than libgcc's and newlib's: whole numbers to doubles, copies and
+   fills. They use no stack, and of the FPU's registers d0 to d7, which any called function may change. To be linked before -lc and -lgcc. */
     .syntax unified
     .cpu cortex-m7
     .fpu fpv5-d16
@@ -15,8 +15,8 @@
     .endr
     .endm
 
-/* double __aeabi_ul2d(uint64_t), double __aeabi_l2d(int64_t): the upper half times 2^32, which is exact, plus the lower half: one rounding. In r0 and r1 both ways. The
-   library calls the first; libgcc has both in one object, so that a program which calls the second would link that beside this. */
+/* double __aeabi_ul2d(uint64_t), double __aeabi_l2d(int64_t): the upper half times 2^32, which is exact, plus the lower half: one rounding. In r0 and r1 both
+   ways. The library calls the first; libgcc has both in one object, so that a program which calls the second would link that beside this. */
     .macro to_double name, upper
     .section .text.\name, "ax", %progbits
     .balign 8

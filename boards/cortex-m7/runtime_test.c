@@ -1,5 +1,5 @@
-/* runtime_test.c: each function of runtime.S on every kind of argument: conversions against whole-number arithmetic and against libgcc's, copies and fills at every alignment and length with
-   the bytes around them. */
+/* runtime_test.c: each function of runtime.S on every kind of argument: conversions against whole-number arithmetic and against libgcc's, copies and fills at
+   every alignment and length with the bytes around them. */
 #include "generator.h"
 
 #include <stdio.h>
@@ -118,7 +118,8 @@ static void fills(void) {
             for (int kind = 0; kind < 7; kind++) {
                 for (int k = 0; k < 6; k++) {
                     const int byte = kind < 4 ? bytes[k] : 0;
-                    if ((kind % 4 == 2 && at % 4) || (kind % 4 == 3 && at % 8) || (kind == 5 && at % 4) || (kind == 6 && at % 8) || (kind >= 4 && k > 0)) continue;
+                    const int aligned_to = kind == 2 || kind == 5 ? 4 : kind == 3 || kind == 6 ? 8 : 1;
+                    if (at % (size_t)aligned_to || (kind >= 4 && k > 0)) continue;
                     begin();
                     for (int i = 0; i < ROOM; i++) {
                         before[i] = to[i];

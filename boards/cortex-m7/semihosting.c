@@ -1,5 +1,5 @@
-/* semihosting.c: main on the emulated machine: opens newlib's files on the machine that emulates, runs the program, which is compiled with -Dmain=program, and ends the
-   emulation. For tests alone. */
+/* semihosting.c: main on the emulated machine: opens newlib's files on the machine that emulates, runs the program, which is compiled with -Dmain=program, and
+   ends the emulation. For tests alone. */
 #include <stdio.h>
 #include <stdlib.h>
 

@@ -1,5 +1,5 @@
-/* start.c: from reset to main on a Cortex-M7: the FPU on, .data and .bss as C wants them. A start-up file of your own needs the first of these three; link runtime.S
-   beside it either way. */
+/* start.c: from reset to main on a Cortex-M7: the FPU on, .data and .bss as C wants them. A start-up file of your own needs the first of these three; link
+   runtime.S beside it either way. */
 #include <stdint.h>
 
 #if !defined(__ARM_FP) || !(__ARM_FP & 8)
