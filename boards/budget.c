@@ -84,7 +84,9 @@ static void measure(const char *name, void (*call)(void)) {
     mark();
     call();
     mark();
-    printf("%s\n", name);
+    printf("%s", name);
+    if (call == ask_first_below) printf(", at index %lu", POTIREHU_PLACE(answer));
+    printf("\n");
     if (POTIREHU_REFUSED(answer)) accepted = 0;
 }
 
@@ -111,7 +113,7 @@ static void measured(void) {
         {"a station's new row, entry 7 another", ask_station_switches},
         {"a station's new row, entry 16 another", ask_station_switches},
         {"a table of three bands read", ask_bands},
-        {"in bands, 400 km", ask_bands_gtd7},
+        {"in bands, 400 km, entries 7 to 10 and 14 off", ask_bands_gtd7},
         {"logs of 20 and 20", ask_logs},
         {"exp(0.7)", ask_exp},
         {"log(0.7)", ask_log},
