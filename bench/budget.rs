@@ -2,11 +2,11 @@
 // an expansion.
 // `count` runs each call between two requests to callgrind, which writes one file a call; `table` reads these files in the same order;
 // `stack` paints the stack below a call and looks how far it was written.
-#[path = "../oracle/host.rs"]
-mod host;
+#[path = "../oracle/calls.rs"]
+mod calls;
 #[path = "../oracle/random.rs"]
 mod random;
-use host::{crossings, first_below, numbers, ours, ours_column, station, station_change, station_gtd7, station_switches, Change, NUMBERS, WHOLE};
+use calls::{crossings, first_below, numbers, ours, ours_column, station, station_change, station_gtd7, station_switches, Change, NUMBERS, WHOLE};
 use random::Random;
 use std::arch::asm;
 use std::collections::{BTreeSet, HashMap};

@@ -1,7 +1,10 @@
-/* What libhost.a offers: NRLMSISE-00 at one altitude, also for drag, with constants of the caller's and for a record known in part, at a column of altitudes,
-   where its density passes a level and where it is first thin enough, in bands of switch rows, from a prepared station and orbit by orbit in a descent, two
-   boards' logs held against each other, and the elementary functions it is built on. Nothing is kept between calls; only memcpy and memset are needed from
-   outside. docs/RULES.md has every rule.
+/* What libpotirehu.a offers: NRLMSISE-00 at one altitude, also for drag, with constants of the caller's and for a record known in part, at a column of
+   altitudes, where its density passes a level and where it is first thin enough, in bands of switch rows, from a prepared station and orbit by orbit in a
+   descent, two boards' logs held against each other, and the elementary functions it is built on. Nothing is kept between calls; only memcpy and memset are
+   needed from outside. docs/RULES.md has every rule.
+
+   The archive of 'rt staticlib potirehu' is for x86-64 Linux; boards/build makes those for other processors, and docs/BOARDS.md has them. Lengths are
+   uint64_t on every processor.
 
    An answer of 2^32 or more is a refusal: its number times 2^32 plus a place, which is cut to its lower 32 bits (only 18, of more than 2^32 settings, has a
    place that this changes). potirehu_struct.h has each call once more, over structs with named members.
@@ -14,7 +17,7 @@
 #ifndef POTIREHU_H
 #define POTIREHU_H
 
-#include <stddef.h>
+#include <stddef.h> /* NULL */
 #include <stdint.h>
 
 #ifdef __cplusplus
@@ -147,16 +150,16 @@ enum potirehu_switch {
    A field that the switches shut off must still be finite and in range: write 0. An accepted row can hold NaN: at exactly 32.5 km, and with
    extreme fluxes or an entry 9 of the switches far from -1, 0 and 1. */
 POTIREHU_CHECKED
-uint64_t potirehu_gtd7(int32_t year, int32_t doy, const double *fields, size_t n_fields, const double *ap_array, size_t n_ap,
-                       const int32_t *switches, size_t n_switches, double *row, size_t n_row);
+uint64_t potirehu_gtd7(int32_t year, int32_t doy, const double *fields, uint64_t n_fields, const double *ap_array, uint64_t n_ap,
+                       const int32_t *switches, uint64_t n_switches, double *row, uint64_t n_row);
 
 /* The same at n altitudes (km), 0 to 512 of them, the record's own altitude not looked at: each altitude's eleven numbers go into their own
    part of rows, and what lies behind them stays. Altitudes that lie inside rows give wrong rows. After the lengths of fields, ap_array and switches:
    5 at 512 for more than 512 altitudes; 4 at 11 n for a shorter buffer; the record as above; each altitude 2, else 3, at 17 plus its index; once all
    have passed those, 10 at 17 plus the lowest index below 72.5 km where switch 15 is not 1. */
 POTIREHU_CHECKED
-uint64_t potirehu_gtd7_column(int32_t year, int32_t doy, const double *fields, size_t n_fields, const double *ap_array, size_t n_ap,
-                              const int32_t *switches, size_t n_switches, const double *altitudes, size_t n, double *rows, size_t n_rows);
+uint64_t potirehu_gtd7_column(int32_t year, int32_t doy, const double *fields, uint64_t n_fields, const double *ap_array, uint64_t n_ap,
+                              const int32_t *switches, uint64_t n_switches, const double *altitudes, uint64_t n, double *rows, uint64_t n_rows);
 
 /* Where the mass density of a column passes a level: at or above it at one altitude and below it at the next, or the other way round. The level is in
    kg/m^3 where switch 0 is 1, else in g/cm^3. The n altitudes (km), 0 to 512 of them, must rise strictly; the record's own
@@ -167,9 +170,9 @@ uint64_t potirehu_gtd7_column(int32_t year, int32_t doy, const double *fields, s
    72.5 km where switch 15 is not 1; 8 at the lowest index whose altitude is not above the one
    before it; 9 at the length needed, for a list that does not fit. A refusal is 2^32 or more, the list's length below. */
 POTIREHU_CHECKED
-uint64_t potirehu_crossings(int32_t year, int32_t doy, const double *fields, size_t n_fields, const double *ap_array, size_t n_ap,
-                            const int32_t *switches, size_t n_switches, const double *altitudes, size_t n, double level, uint64_t *list,
-                            size_t n_list);
+uint64_t potirehu_crossings(int32_t year, int32_t doy, const double *fields, uint64_t n_fields, const double *ap_array, uint64_t n_ap,
+                            const int32_t *switches, uint64_t n_switches, const double *altitudes, uint64_t n, double level, uint64_t *list,
+                            uint64_t n_list);
 
 /* The first of n altitudes (km), 0 to 512 of them, whose mass density is below a level, for a caller who has no time for the rest: all are checked,
    then none behind the first is worked out. They need not rise; the record's own altitude is not looked at; the level is in kg/m^3 where switch 0 is 1,
@@ -180,15 +183,15 @@ uint64_t potirehu_crossings(int32_t year, int32_t doy, const double *fields, siz
    those, 10 at 17 plus the lowest index below 72.5 km where switch 15 is not 1. */
 #define POTIREHU_NOWHERE 4294967295
 POTIREHU_CHECKED
-uint64_t potirehu_first_below(int32_t year, int32_t doy, const double *fields, size_t n_fields, const double *ap_array, size_t n_ap,
-                              const int32_t *switches, size_t n_switches, const double *altitudes, size_t n, double level, double *row,
-                              size_t n_row);
+uint64_t potirehu_first_below(int32_t year, int32_t doy, const double *fields, uint64_t n_fields, const double *ap_array, uint64_t n_ap,
+                              const int32_t *switches, uint64_t n_switches, const double *altitudes, uint64_t n, double level, double *row,
+                              uint64_t n_row);
 
 /* potirehu_gtd7 for drag: row[5], the mass density, is summed again with the anomalous oxygen in it (16 times row[8]), which counts above 500 km.
    Answers, refusals and the other ten numbers are those of potirehu_gtd7. */
 POTIREHU_CHECKED
-uint64_t potirehu_gtd7d(int32_t year, int32_t doy, const double *fields, size_t n_fields, const double *ap_array, size_t n_ap,
-                        const int32_t *switches, size_t n_switches, double *row, size_t n_row);
+uint64_t potirehu_gtd7d(int32_t year, int32_t doy, const double *fields, uint64_t n_fields, const double *ap_array, uint64_t n_ap,
+                        const int32_t *switches, uint64_t n_switches, double *row, uint64_t n_row);
 
 /* potirehu_gtd7 with nine constants of the caller's in place of the model's own, for research: nine has the gas constant (831.4), the mass of mixed
    air (28.95), and the altitudes in km as far as which gts7 mixes He (200), O (300), N2 (160), O2 (250), Ar (240), H (320) and N (450). With the
@@ -200,8 +203,8 @@ uint64_t potirehu_gtd7d(int32_t year, int32_t doy, const double *fields, size_t 
    Constants far from the present ones can give NaN and infinities where those give numbers. */
 #define POTIREHU_NINE 9
 POTIREHU_CHECKED
-uint64_t potirehu_gtd7_with(const double *nine, size_t n_nine, int32_t year, int32_t doy, const double *fields, size_t n_fields,
-                            const double *ap_array, size_t n_ap, const int32_t *switches, size_t n_switches, double *row, size_t n_row);
+uint64_t potirehu_gtd7_with(const double *nine, uint64_t n_nine, int32_t year, int32_t doy, const double *fields, uint64_t n_fields,
+                            const double *ap_array, uint64_t n_ap, const int32_t *switches, uint64_t n_switches, double *row, uint64_t n_row);
 
 /* Which fields count under a switch row: fields, 17 numbers, gets 1 where the field of that number (POTIREHU_FIELD_..) counts and 0 where the row shuts it
    off; of the history POTIREHU_FIELD_AP_DAILY never counts. Two accepted records that agree in the fields marked 1 give the same row. Answers 0; or
@@ -235,35 +238,35 @@ uint64_t potirehu_gtd7_known(uint32_t known, int32_t year, int32_t doy, const do
    fields, ap_array or switches of another length, in this order, then what potirehu_gtd7 refuses of the record, and leaves whole and numbers as
    they were. */
 POTIREHU_CHECKED
-uint64_t potirehu_station(int32_t year, int32_t doy, const double *fields, size_t n_fields, const double *ap_array, size_t n_ap,
-                          const int32_t *switches, size_t n_switches, int32_t *whole, size_t n_whole, double *numbers, size_t n_numbers);
+uint64_t potirehu_station(int32_t year, int32_t doy, const double *fields, uint64_t n_fields, const double *ap_array, uint64_t n_ap,
+                          const int32_t *switches, uint64_t n_switches, int32_t *whole, uint64_t n_whole, double *numbers, uint64_t n_numbers);
 
 /* The station's air at one altitude (km): the row that potirehu_gtd7 gives on record and row as the station now has them, with this altitude. Answers 0
    and writes the row; or 4 at the length needed, for row, whole or numbers of another length, in this order, then 2 at 3 for the altitude, 3 at 1 where the
    station's doy is outside 1 to 366, as in arrays of zeros that were never prepared, 3 or 10 at 3 for the altitude, and leaves row as it was. */
 POTIREHU_CHECKED
-uint64_t potirehu_station_gtd7(const int32_t *whole, size_t n_whole, const double *numbers, size_t n_numbers, double alt, double *row, size_t n_row);
+uint64_t potirehu_station_gtd7(const int32_t *whole, uint64_t n_whole, const double *numbers, uint64_t n_numbers, double alt, double *row, uint64_t n_row);
 
 /* The same for drag: the row that potirehu_gtd7d gives on that record. Answers and refusals are those of potirehu_station_gtd7. */
 POTIREHU_CHECKED
-uint64_t potirehu_station_gtd7d(const int32_t *whole, size_t n_whole, const double *numbers, size_t n_numbers, double alt, double *row, size_t n_row);
+uint64_t potirehu_station_gtd7d(const int32_t *whole, uint64_t n_whole, const double *numbers, uint64_t n_numbers, double alt, double *row, uint64_t n_row);
 
 /* Changes sec, the seconds of the day. Answers 0; or 4 at the length needed, for whole or numbers, then what potirehu_gtd7 refuses of the changed
    record, its altitude not looked at, and leaves the station as it was. */
 POTIREHU_CHECKED
-uint64_t potirehu_station_sec(const int32_t *whole, size_t n_whole, double *numbers, size_t n_numbers, double sec);
+uint64_t potirehu_station_sec(const int32_t *whole, uint64_t n_whole, double *numbers, uint64_t n_numbers, double sec);
 
 /* Changes lst, the local time, as potirehu_station_sec changes sec; lst does not follow sec or g_long by itself. */
 POTIREHU_CHECKED
-uint64_t potirehu_station_lst(const int32_t *whole, size_t n_whole, double *numbers, size_t n_numbers, double lst);
+uint64_t potirehu_station_lst(const int32_t *whole, uint64_t n_whole, double *numbers, uint64_t n_numbers, double lst);
 
 /* Changes g_long, the longitude, in the same way. */
 POTIREHU_CHECKED
-uint64_t potirehu_station_g_long(const int32_t *whole, size_t n_whole, double *numbers, size_t n_numbers, double g_long);
+uint64_t potirehu_station_g_long(const int32_t *whole, uint64_t n_whole, double *numbers, uint64_t n_numbers, double g_long);
 
 /* Changes f107a and f107 together, in the same way. */
 POTIREHU_CHECKED
-uint64_t potirehu_station_fluxes(const int32_t *whole, size_t n_whole, double *numbers, size_t n_numbers, double f107a, double f107);
+uint64_t potirehu_station_fluxes(const int32_t *whole, uint64_t n_whole, double *numbers, uint64_t n_numbers, double f107a, double f107);
 
 /* Moves the station: sec, lst and g_long in one change, in the same way, so that it is never of two times or places at once; refused, all three stay. What
    has no change, doy, g_lat, ap and the history, is prepared anew; that takes as long as a change (docs/FIGURES.md). */
@@ -274,7 +277,7 @@ uint64_t potirehu_station_move(const int32_t *whole, uint64_t n_whole, double *n
    gives. Where the two rows mean the same in entries 1 to 14, no expansion is worked out again. Answers 0; or 4 at the length needed, for whole,
    numbers or switches, in this order, then 1 at 10 where the row asks for a history that the record has not, and leaves the station as it was. */
 POTIREHU_CHECKED
-uint64_t potirehu_station_switches(int32_t *whole, size_t n_whole, double *numbers, size_t n_numbers, const int32_t *switches, size_t n_switches);
+uint64_t potirehu_station_switches(int32_t *whole, uint64_t n_whole, double *numbers, uint64_t n_numbers, const int32_t *switches, uint64_t n_switches);
 
 /* Simulates a descent, orbit by orbit: start in whole millimetres, a setting of 1 to 4 for each orbit. The density d[5] is potirehu_gtd7's at millimetres
    / 1E6 km with switch 0 taken as 1, the record's own altitude not looked at. Each orbit loses the whole part of (d[5] * 1E15) * setting millimetres; it
@@ -286,9 +289,9 @@ uint64_t potirehu_station_switches(int32_t *whole, size_t n_whole, double *numbe
    for more settings than that, else at the length needed for losses shorter than settings. All settings are read before 19 can be answered, however many
    there are; losses that lie over settings or over end give wrong losses. */
 POTIREHU_CHECKED
-uint64_t potirehu_descent(int32_t year, int32_t doy, const double *fields, size_t n_fields, const double *ap_array, size_t n_ap,
-                          const int32_t *switches, size_t n_switches, int64_t start, const int32_t *settings, size_t n_settings, int64_t *losses,
-                          size_t n_losses, int64_t *end, size_t n_end);
+uint64_t potirehu_descent(int32_t year, int32_t doy, const double *fields, uint64_t n_fields, const double *ap_array, uint64_t n_ap,
+                          const int32_t *switches, uint64_t n_switches, int64_t start, const int32_t *settings, uint64_t n_settings, int64_t *losses,
+                          uint64_t n_losses, int64_t *end, uint64_t n_end);
 
 /* A table of bands has a switch row for each height band: an array of the caller's, of this length. What it holds is the library's own; it may
    be copied and moved, and need not be given back. What is said here of a table holds for one that potirehu_bands gave. */
@@ -301,14 +304,14 @@ uint64_t potirehu_descent(int32_t year, int32_t doy, const double *fields, size_
    gap, FROM above it; 13 at one past the last line where the table ends short. Lines are counted from 1. n_text counts the text's bytes: with a C string's
    closing NUL it is one too many, and its last line no band. */
 POTIREHU_CHECKED
-uint64_t potirehu_bands(const uint8_t *text, size_t n_text, int32_t *table, size_t n_table);
+uint64_t potirehu_bands(const uint8_t *text, uint64_t n_text, int32_t *table, uint64_t n_table);
 
 /* potirehu_gtd7 at a whole metre, with the row of the band in which it lies, at metre / 1000 km; fields has its eight, the altitude among them is
    not looked at. Answers 0 and writes the row; or leaves it as it was and answers 4 at the length needed, for row, table, fields or ap_array of
    another length, in this order; 3 at 3 for a metre outside 0 to 2,500,000; then what potirehu_gtd7 refuses with that row. */
 POTIREHU_CHECKED
-uint64_t potirehu_bands_gtd7(const int32_t *table, size_t n_table, int64_t metre, int32_t year, int32_t doy, const double *fields, size_t n_fields,
-                             const double *ap_array, size_t n_ap, double *row, size_t n_row);
+uint64_t potirehu_bands_gtd7(const int32_t *table, uint64_t n_table, int64_t metre, int32_t year, int32_t doy, const double *fields, uint64_t n_fields,
+                             const double *ap_array, uint64_t n_ap, double *row, uint64_t n_row);
 
 /* Two boards' logs held against each other: of each board its seconds, strictly rising, and its densities d[5] by their 64 bits, up to 256
    entries. Of the two front entries, those no further apart than tolerance pair up, else the earlier stands alone; once a log is used up, the
@@ -318,8 +321,8 @@ uint64_t potirehu_bands_gtd7(const int32_t *table, size_t n_table, int64_t metre
    whose log is over 256 entries or whose seconds and densities differ in number; then 15 at the index of the first entry not above the one
    before it in board 1, else at 256 plus that in board 2. */
 POTIREHU_CHECKED
-uint64_t potirehu_logs(const uint64_t *seconds_1, size_t n_seconds_1, const uint64_t *bits_1, size_t n_bits_1, const uint64_t *seconds_2,
-                       size_t n_seconds_2, const uint64_t *bits_2, size_t n_bits_2, uint64_t tolerance, uint32_t *report, size_t n_report);
+uint64_t potirehu_logs(const uint64_t *seconds_1, uint64_t n_seconds_1, const uint64_t *bits_1, uint64_t n_bits_1, const uint64_t *seconds_2,
+                       uint64_t n_seconds_2, const uint64_t *bits_2, uint64_t n_bits_2, uint64_t tolerance, uint32_t *report, uint64_t n_report);
 
 /* The elementary functions of docs/ELEMENTARY.md: total, never refused. */
 double elementary_exp(double x);

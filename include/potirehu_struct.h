@@ -53,7 +53,7 @@ static inline struct potirehu_parameters potirehu_present(void) {
 /* A board's log: n seconds, and n densities by their bits. */
 struct potirehu_log {
     const uint64_t *seconds, *bits;
-    size_t n;
+    uint64_t n;
 };
 
 /* ---- what comes out */
@@ -71,14 +71,14 @@ struct potirehu_answer {
 /* The same with how many there are; 0 where it is refused. */
 struct potirehu_count_answer {
     unsigned long number, place;
-    size_t count;
+    uint64_t count;
 };
 
 /* The same with an index where found is 1. Where it is refused or nowhere, found is 0 and index no index. */
 struct potirehu_index_answer {
     unsigned long number, place;
     int found;
-    size_t index;
+    uint64_t index;
 };
 
 /* Which fields count: field[POTIREHU_FIELD_..] is 1 or 0. */
@@ -122,7 +122,7 @@ static inline struct potirehu_answer potirehu_answer_of(uint64_t answer) {
 }
 
 static inline struct potirehu_count_answer potirehu_count_of(uint64_t answer) {
-    struct potirehu_count_answer of = {0, 0, (size_t)answer};
+    struct potirehu_count_answer of = {0, 0, (uint64_t)answer};
     if (POTIREHU_REFUSED(answer)) {
         of.number = POTIREHU_NUMBER(answer);
         of.place = POTIREHU_PLACE(answer);
@@ -132,13 +132,13 @@ static inline struct potirehu_count_answer potirehu_count_of(uint64_t answer) {
 }
 
 static inline struct potirehu_index_answer potirehu_index_of(uint64_t answer) {
-    struct potirehu_index_answer of = {0, 0, 0, (size_t)-1};
+    struct potirehu_index_answer of = {0, 0, 0, UINT64_MAX};
     if (POTIREHU_REFUSED(answer)) {
         of.number = POTIREHU_NUMBER(answer);
         of.place = POTIREHU_PLACE(answer);
     } else if (answer != POTIREHU_NOWHERE) {
         of.found = 1;
-        of.index = (size_t)answer;
+        of.index = (uint64_t)answer;
     }
     return of;
 }
@@ -190,21 +190,21 @@ static inline struct potirehu_answer potirehu_struct_counts(const struct potireh
 /* rows and n_rows count rows; the place of 4 counts numbers, 11 a row. */
 POTIREHU_CHECKED
 static inline struct potirehu_answer potirehu_struct_gtd7_column(const struct potirehu_record *record, const struct potirehu_switches *switches,
-                                                                 const double *altitudes, size_t n, struct potirehu_row *rows, size_t n_rows) {
+                                                                 const double *altitudes, uint64_t n, struct potirehu_row *rows, uint64_t n_rows) {
     const double fields[8] = POTIREHU_FIELDS_OF(record);
     return potirehu_answer_of(potirehu_gtd7_column(POTIREHU_RECORD_OF(record), switches->entry, 24, altitudes, n, (double *)rows, 11 * n_rows));
 }
 
 POTIREHU_CHECKED
 static inline struct potirehu_count_answer potirehu_struct_crossings(const struct potirehu_record *record, const struct potirehu_switches *switches,
-                                                                     const double *altitudes, size_t n, double level, uint64_t *list, size_t n_list) {
+                                                                     const double *altitudes, uint64_t n, double level, uint64_t *list, uint64_t n_list) {
     const double fields[8] = POTIREHU_FIELDS_OF(record);
     return potirehu_count_of(potirehu_crossings(POTIREHU_RECORD_OF(record), switches->entry, 24, altitudes, n, level, list, n_list));
 }
 
 POTIREHU_CHECKED
 static inline struct potirehu_index_answer potirehu_struct_first_below(const struct potirehu_record *record, const struct potirehu_switches *switches,
-                                                                       const double *altitudes, size_t n, double level, struct potirehu_row *row) {
+                                                                       const double *altitudes, uint64_t n, double level, struct potirehu_row *row) {
     const double fields[8] = POTIREHU_FIELDS_OF(record);
     return potirehu_index_of(potirehu_first_below(POTIREHU_RECORD_OF(record), switches->entry, 24, altitudes, n, level, (double *)row, 11));
 }
@@ -265,15 +265,15 @@ static inline struct potirehu_answer potirehu_struct_station_switches(struct pot
 
 POTIREHU_CHECKED
 static inline struct potirehu_answer potirehu_struct_descent(const struct potirehu_record *record, const struct potirehu_switches *switches,
-                                                             int64_t start, const int32_t *settings, size_t n_settings, int64_t *losses,
-                                                             size_t n_losses, struct potirehu_end *end) {
+                                                             int64_t start, const int32_t *settings, uint64_t n_settings, int64_t *losses,
+                                                             uint64_t n_losses, struct potirehu_end *end) {
     const double fields[8] = POTIREHU_FIELDS_OF(record);
     return potirehu_answer_of(potirehu_descent(POTIREHU_RECORD_OF(record), switches->entry, 24, start, settings, n_settings, losses, n_losses,
                                                (int64_t *)end, 3));
 }
 
 POTIREHU_CHECKED
-static inline struct potirehu_answer potirehu_struct_bands(const uint8_t *text, size_t n_text, struct potirehu_band_table *table) {
+static inline struct potirehu_answer potirehu_struct_bands(const uint8_t *text, uint64_t n_text, struct potirehu_band_table *table) {
     return potirehu_answer_of(potirehu_bands(text, n_text, table->numbers, POTIREHU_BANDS));
 }
 

@@ -129,7 +129,7 @@ static void many_altitudes(const struct both *b) {
         bare = potirehu_first_below(SLICES(b), ROW(b), altitudes, ALTITUDES, level, rows, 11);
         struct potirehu_index_answer first = potirehu_struct_first_below(&b->record, &b->switches, altitudes, ALTITUDES, level, named);
         same("first_below", bare, first.number, first.place, rows, named, sizeof *named);
-        if (first.found ? first.number || first.index != bare : bare < POTIREHU_NOWHERE || first.index != (size_t)-1)
+        if (first.found ? first.number || first.index != bare : bare < POTIREHU_NOWHERE || first.index != UINT64_MAX)
             same("first_below's index", 0, 1, 1, rows, rows, 8);
     }
 }

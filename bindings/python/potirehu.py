@@ -211,7 +211,7 @@ def _load():
     named = os.environ.get("POTIREHU_SO")
     path = pathlib.Path(named) if named else pathlib.Path(__file__).resolve().parents[2] / "target" / "python" / "libpotirehu.so"
     if not path.is_file():
-        raise ImportError(f"potirehu: {path} is missing: run 'rt staticlib host' and then 'bindings/python/build', or name the library in POTIREHU_SO.")
+        raise ImportError(f"potirehu: {path} is missing: run 'rt staticlib potirehu' and then 'bindings/python/build', or name the library in POTIREHU_SO.")
     library = ctypes.CDLL(str(path.resolve()))
     calls = {name: getattr(library, "potirehu_" + name) for name in _CALLS}
     for call in calls.values():
@@ -228,7 +228,7 @@ def _call(name, *arguments):
     for argument in arguments:
         passed.append(argument)
         if isinstance(argument, ctypes.Array):
-            passed.append(ctypes.c_size_t(len(argument)))
+            passed.append(ctypes.c_uint64(len(argument)))
     answer = _calls[name](*passed)
     if answer >> 32:
         raise Refusal(answer >> 32, answer & 0xFFFFFFFF)

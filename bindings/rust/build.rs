@@ -1,4 +1,4 @@
-// Links libhost.a, from the folder POTIREHU_LIB or from the repository's target/staticlib.
+// Links libpotirehu.a, from the folder POTIREHU_LIB or from the repository's target/staticlib.
 use std::path::{Path, PathBuf};
 use std::{env, process};
 
@@ -10,11 +10,11 @@ fn main() {
         Some(folder) => PathBuf::from(folder),
         None => Path::new(&crate_folder).join("../../target/staticlib"),
     };
-    let library = folder.join("libhost.a");
+    let library = folder.join("libpotirehu.a");
     println!("cargo:rerun-if-changed={}", library.display());
     if !library.is_file() {
         eprintln!(
-            "There is no {}: run `rt staticlib host` in the root of the repository, or set POTIREHU_LIB to the folder that has libhost.a.",
+            "There is no {}: run `rt staticlib potirehu` in the root of the repository, or set POTIREHU_LIB to the folder that has libpotirehu.a.",
             library.display()
         );
         process::exit(1);
@@ -22,5 +22,5 @@ fn main() {
     // A relative folder would be read anew where a dependent crate is linked.
     let folder = folder.canonicalize().unwrap_or(folder);
     println!("cargo:rustc-link-search=native={}", folder.display());
-    println!("cargo:rustc-link-lib=static=host");
+    println!("cargo:rustc-link-lib=static=potirehu");
 }

@@ -20,7 +20,7 @@ extern "C" {
 }
 
 // The header's POTIREHU_BANDS.
-const TABLE: usize = super::host::header("#define POTIREHU_BANDS ");
+const TABLE: usize = super::calls::header("#define POTIREHU_BANDS ");
 
 // Numbers that stand before and behind a lent slice.
 const GUARD: usize = 8;

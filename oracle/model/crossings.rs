@@ -1,5 +1,5 @@
 // Where d[5] of a column passes a level: our call against a list made from the routed Rust's rows, and time per altitude.
-use crate::host::{crossings as ours, numbers};
+use crate::calls::{crossings as ours, numbers};
 use crate::random::Random;
 use crate::{altitude, altitudes_refused, record_refused, row_and_record, sample, slices_refused, to_routed, Input};
 use std::time::Instant;

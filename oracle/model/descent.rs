@@ -1,5 +1,5 @@
 // Descents orbit by orbit: our call against a simulation on the routed Rust's densities, and time per orbit.
-use crate::host::{descent as ours, numbers};
+use crate::calls::{descent as ours, numbers};
 use crate::random::Random;
 use crate::{record_refused, row_and_record, sample, slices_refused, to_routed, Input};
 use std::time::Instant;

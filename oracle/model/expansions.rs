@@ -21,7 +21,7 @@ type Call = unsafe extern "C" fn(
 ) -> u64;
 
 // A call: its value and the State after it go into numbers, the refusal comes back packed.
-crate::host::of_a_record! {
+crate::calls::of_a_record! {
     expansion_globe7(p: *const f64, n_p: usize, state: *const f64, n_state: usize, numbers: *mut f64, n_numbers: usize);
     expansion_glob7s(p: *const f64, n_p: usize, state: *const f64, n_state: usize, numbers: *mut f64, n_numbers: usize);
 }

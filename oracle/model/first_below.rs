@@ -1,6 +1,6 @@
 // The first altitude of a column whose d[5] is below a level: our call against the routed Rust's rows, and time to a hit.
 use crate::crossings::level;
-use crate::host::{first_below as ours, numbers, ours_column, NOWHERE};
+use crate::calls::{first_below as ours, numbers, ours_column, NOWHERE};
 use crate::random::Random;
 use crate::{altitude, altitudes_refused, record_refused, row_and_record, same, sample, slices_refused, to_routed, Input};
 use std::time::Instant;

@@ -1,6 +1,6 @@
 // Which fields count under a switch row, and the one-altitude call for a record known in part: against the routed Rust with 0 in the fields that are not
 // known, by a reading of the shut-off list of its own.
-use crate::host::{counts as ours_counts, gtd7_known as ours, header, numbers};
+use crate::calls::{counts as ours_counts, gtd7_known as ours, header, numbers};
 use crate::parameters::{equal, longer, one, random_memory, GUARD};
 use crate::random::Random;
 use crate::{judged, record, row_and_record, row_of, same, set_field, slices_refused, timed, to_routed, unmixed, Input};

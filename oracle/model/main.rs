@@ -6,8 +6,8 @@ mod crossings;
 mod descent;
 mod expansions;
 mod first_below;
-#[path = "../host.rs"]
-mod host;
+#[path = "../calls.rs"]
+mod calls;
 mod known;
 mod lines;
 mod logs;
@@ -15,14 +15,14 @@ mod parameters;
 #[path = "../random.rs"]
 mod random;
 mod stations;
-use host::{numbers, one_altitude, ours, ours_column, potirehu_gtd7, potirehu_gtd7d, OneAltitude};
+use calls::{numbers, one_altitude, ours, ours_column, potirehu_gtd7, potirehu_gtd7d, OneAltitude};
 use known::shut_off;
 use random::Random;
 use std::time::Instant;
 
 type Input = untouched::astro::atmosphere::NrlmsiseInput;
 
-host::of_a_record! {
+calls::of_a_record! {
     state_after_gtd7(numbers: *mut f64, n_numbers: usize);
 }
 

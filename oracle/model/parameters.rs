@@ -1,5 +1,5 @@
 // The one-altitude call with nine constants: against the varied copy of the Rust, and with the present nine against gtd7.
-use crate::host::{gtd7_with as ours, numbers, one_altitude, potirehu_gtd7};
+use crate::calls::{gtd7_with as ours, numbers, one_altitude, potirehu_gtd7};
 use crate::random::Random;
 use crate::{judged, row_and_record, same, slices_refused, to_routed, to_varied, Input};
 use varied::varied::{set, PRESENT};

@@ -1,6 +1,6 @@
 // Prepared stations: histories of altitudes, also for drag, changes and new switch rows against the routed Rust on the record and the row as they then are;
 // stations with any contents, which need only answer; and time per altitude, preparing, change and new row.
-use super::host::{station, station_change, station_gtd7, station_gtd7d, station_switches, Change, NUMBERS, WHOLE};
+use super::calls::{station, station_change, station_gtd7, station_gtd7d, station_switches, Change, NUMBERS, WHOLE};
 use super::{altitude, judged, numbers, ours_column, record, row_of, same, sample, spoiled, timed, unmixed, Input, Random, GTD7, GTD7D};
 use std::hint::black_box;
 use std::time::Instant;

@@ -33,7 +33,7 @@ impl Bands {
     pub fn read(text: &[u8]) -> Result<Bands, Refusal> {
         let mut table = [0; ffi::BANDS];
         // SAFETY: each pointer goes with the length of the slice it is of; table is ours alone.
-        let answer = unsafe { ffi::potirehu_bands(text.as_ptr(), text.len(), table.as_mut_ptr(), table.len()) };
+        let answer = unsafe { ffi::potirehu_bands(text.as_ptr(), text.len() as u64, table.as_mut_ptr(), table.len() as u64) };
         accepted(answer).map(|_| Bands { table })
     }
 
@@ -46,16 +46,16 @@ impl Bands {
         let answer = unsafe {
             ffi::potirehu_bands_gtd7(
                 self.table.as_ptr(),
-                self.table.len(),
+                self.table.len() as u64,
                 metre,
                 input.year,
                 input.doy,
                 fields.as_ptr(),
-                fields.len(),
+                fields.len() as u64,
                 ap.as_ptr(),
-                ap.len(),
+                ap.len() as u64,
                 row.as_mut_ptr(),
-                ROW,
+                ROW as u64,
             )
         };
         accepted(answer).map(|_| row)

@@ -1,4 +1,4 @@
-//! The calls of `libhost.a` as `include/potirehu.h` declares them; `tests/header.rs` holds the two against each other.
+//! The calls of `libpotirehu.a` as `include/potirehu.h` declares them; `tests/header.rs` holds the two against each other.
 //!
 //! What makes a call sound: each pointer is good for as many values as the length behind it says, and what stands behind a `*mut` is
 //! lent for the call alone. The library then reads and writes within these lengths only, whatever the values are, keeps no pointer and
@@ -14,68 +14,68 @@ pub const NOWHERE: u64 = 4294967295;
 /// A one-altitude call.
 #[rustfmt::skip]
 pub type OneAltitude = unsafe extern "C" fn(
-    year: i32, doy: i32, fields: *const f64, n_fields: usize, ap_array: *const f64, n_ap: usize, switches: *const i32, n_switches: usize,
-    row: *mut f64, n_row: usize) -> u64;
+    year: i32, doy: i32, fields: *const f64, n_fields: u64, ap_array: *const f64, n_ap: u64, switches: *const i32, n_switches: u64,
+    row: *mut f64, n_row: u64) -> u64;
 
 /// A station's altitude.
 #[rustfmt::skip]
 pub type StationAltitude = unsafe extern "C" fn(
-    whole: *const i32, n_whole: usize, numbers: *const f64, n_numbers: usize, alt: f64, row: *mut f64, n_row: usize) -> u64;
+    whole: *const i32, n_whole: u64, numbers: *const f64, n_numbers: u64, alt: f64, row: *mut f64, n_row: u64) -> u64;
 
 /// A change of one number of a station.
 #[rustfmt::skip]
 pub type StationChange = unsafe extern "C" fn(
-    whole: *const i32, n_whole: usize, numbers: *mut f64, n_numbers: usize, value: f64) -> u64;
+    whole: *const i32, n_whole: u64, numbers: *mut f64, n_numbers: u64, value: f64) -> u64;
 
 #[rustfmt::skip]
 extern "C" {
     pub fn potirehu_gtd7(
-        year: i32, doy: i32, fields: *const f64, n_fields: usize, ap_array: *const f64, n_ap: usize, switches: *const i32,
-        n_switches: usize, row: *mut f64, n_row: usize) -> u64;
+        year: i32, doy: i32, fields: *const f64, n_fields: u64, ap_array: *const f64, n_ap: u64, switches: *const i32,
+        n_switches: u64, row: *mut f64, n_row: u64) -> u64;
     pub fn potirehu_gtd7_column(
-        year: i32, doy: i32, fields: *const f64, n_fields: usize, ap_array: *const f64, n_ap: usize, switches: *const i32,
-        n_switches: usize, altitudes: *const f64, n: usize, rows: *mut f64, n_rows: usize) -> u64;
+        year: i32, doy: i32, fields: *const f64, n_fields: u64, ap_array: *const f64, n_ap: u64, switches: *const i32,
+        n_switches: u64, altitudes: *const f64, n: u64, rows: *mut f64, n_rows: u64) -> u64;
     pub fn potirehu_crossings(
-        year: i32, doy: i32, fields: *const f64, n_fields: usize, ap_array: *const f64, n_ap: usize, switches: *const i32,
-        n_switches: usize, altitudes: *const f64, n: usize, level: f64, list: *mut u64, n_list: usize) -> u64;
+        year: i32, doy: i32, fields: *const f64, n_fields: u64, ap_array: *const f64, n_ap: u64, switches: *const i32,
+        n_switches: u64, altitudes: *const f64, n: u64, level: f64, list: *mut u64, n_list: u64) -> u64;
     pub fn potirehu_first_below(
-        year: i32, doy: i32, fields: *const f64, n_fields: usize, ap_array: *const f64, n_ap: usize, switches: *const i32,
-        n_switches: usize, altitudes: *const f64, n: usize, level: f64, row: *mut f64, n_row: usize) -> u64;
+        year: i32, doy: i32, fields: *const f64, n_fields: u64, ap_array: *const f64, n_ap: u64, switches: *const i32,
+        n_switches: u64, altitudes: *const f64, n: u64, level: f64, row: *mut f64, n_row: u64) -> u64;
     pub fn potirehu_gtd7d(
-        year: i32, doy: i32, fields: *const f64, n_fields: usize, ap_array: *const f64, n_ap: usize, switches: *const i32,
-        n_switches: usize, row: *mut f64, n_row: usize) -> u64;
+        year: i32, doy: i32, fields: *const f64, n_fields: u64, ap_array: *const f64, n_ap: u64, switches: *const i32,
+        n_switches: u64, row: *mut f64, n_row: u64) -> u64;
     pub fn potirehu_gtd7_with(
-        nine: *const f64, n_nine: usize, year: i32, doy: i32, fields: *const f64, n_fields: usize, ap_array: *const f64, n_ap: usize,
-        switches: *const i32, n_switches: usize, row: *mut f64, n_row: usize) -> u64;
+        nine: *const f64, n_nine: u64, year: i32, doy: i32, fields: *const f64, n_fields: u64, ap_array: *const f64, n_ap: u64,
+        switches: *const i32, n_switches: u64, row: *mut f64, n_row: u64) -> u64;
     pub fn potirehu_counts(switches: *const i32, n_switches: u64, fields: *mut i32, n_fields: u64) -> u64;
     pub fn potirehu_gtd7_known(
         known: u32, year: i32, doy: i32, fields: *const f64, n_fields: u64, ap_array: *const f64, n_ap: u64, switches: *const i32,
         n_switches: u64, row: *mut f64, n_row: u64) -> u64;
     pub fn potirehu_station(
-        year: i32, doy: i32, fields: *const f64, n_fields: usize, ap_array: *const f64, n_ap: usize, switches: *const i32,
-        n_switches: usize, whole: *mut i32, n_whole: usize, numbers: *mut f64, n_numbers: usize) -> u64;
+        year: i32, doy: i32, fields: *const f64, n_fields: u64, ap_array: *const f64, n_ap: u64, switches: *const i32,
+        n_switches: u64, whole: *mut i32, n_whole: u64, numbers: *mut f64, n_numbers: u64) -> u64;
     pub fn potirehu_station_gtd7(
-        whole: *const i32, n_whole: usize, numbers: *const f64, n_numbers: usize, alt: f64, row: *mut f64, n_row: usize) -> u64;
+        whole: *const i32, n_whole: u64, numbers: *const f64, n_numbers: u64, alt: f64, row: *mut f64, n_row: u64) -> u64;
     pub fn potirehu_station_gtd7d(
-        whole: *const i32, n_whole: usize, numbers: *const f64, n_numbers: usize, alt: f64, row: *mut f64, n_row: usize) -> u64;
-    pub fn potirehu_station_sec(whole: *const i32, n_whole: usize, numbers: *mut f64, n_numbers: usize, sec: f64) -> u64;
-    pub fn potirehu_station_lst(whole: *const i32, n_whole: usize, numbers: *mut f64, n_numbers: usize, lst: f64) -> u64;
-    pub fn potirehu_station_g_long(whole: *const i32, n_whole: usize, numbers: *mut f64, n_numbers: usize, g_long: f64) -> u64;
+        whole: *const i32, n_whole: u64, numbers: *const f64, n_numbers: u64, alt: f64, row: *mut f64, n_row: u64) -> u64;
+    pub fn potirehu_station_sec(whole: *const i32, n_whole: u64, numbers: *mut f64, n_numbers: u64, sec: f64) -> u64;
+    pub fn potirehu_station_lst(whole: *const i32, n_whole: u64, numbers: *mut f64, n_numbers: u64, lst: f64) -> u64;
+    pub fn potirehu_station_g_long(whole: *const i32, n_whole: u64, numbers: *mut f64, n_numbers: u64, g_long: f64) -> u64;
     pub fn potirehu_station_fluxes(
-        whole: *const i32, n_whole: usize, numbers: *mut f64, n_numbers: usize, f107a: f64, f107: f64) -> u64;
+        whole: *const i32, n_whole: u64, numbers: *mut f64, n_numbers: u64, f107a: f64, f107: f64) -> u64;
     pub fn potirehu_station_move(
         whole: *const i32, n_whole: u64, numbers: *mut f64, n_numbers: u64, sec: f64, lst: f64, g_long: f64) -> u64;
     pub fn potirehu_station_switches(
-        whole: *mut i32, n_whole: usize, numbers: *mut f64, n_numbers: usize, switches: *const i32, n_switches: usize) -> u64;
+        whole: *mut i32, n_whole: u64, numbers: *mut f64, n_numbers: u64, switches: *const i32, n_switches: u64) -> u64;
     pub fn potirehu_descent(
-        year: i32, doy: i32, fields: *const f64, n_fields: usize, ap_array: *const f64, n_ap: usize, switches: *const i32,
-        n_switches: usize, start: i64, settings: *const i32, n_settings: usize, losses: *mut i64, n_losses: usize, end: *mut i64,
-        n_end: usize) -> u64;
-    pub fn potirehu_bands(text: *const u8, n_text: usize, table: *mut i32, n_table: usize) -> u64;
+        year: i32, doy: i32, fields: *const f64, n_fields: u64, ap_array: *const f64, n_ap: u64, switches: *const i32,
+        n_switches: u64, start: i64, settings: *const i32, n_settings: u64, losses: *mut i64, n_losses: u64, end: *mut i64,
+        n_end: u64) -> u64;
+    pub fn potirehu_bands(text: *const u8, n_text: u64, table: *mut i32, n_table: u64) -> u64;
     pub fn potirehu_bands_gtd7(
-        table: *const i32, n_table: usize, metre: i64, year: i32, doy: i32, fields: *const f64, n_fields: usize, ap_array: *const f64,
-        n_ap: usize, row: *mut f64, n_row: usize) -> u64;
+        table: *const i32, n_table: u64, metre: i64, year: i32, doy: i32, fields: *const f64, n_fields: u64, ap_array: *const f64,
+        n_ap: u64, row: *mut f64, n_row: u64) -> u64;
     pub fn potirehu_logs(
-        seconds_1: *const u64, n_seconds_1: usize, bits_1: *const u64, n_bits_1: usize, seconds_2: *const u64, n_seconds_2: usize,
-        bits_2: *const u64, n_bits_2: usize, tolerance: u64, report: *mut u32, n_report: usize) -> u64;
+        seconds_1: *const u64, n_seconds_1: u64, bits_1: *const u64, n_bits_1: u64, seconds_2: *const u64, n_seconds_2: u64,
+        bits_2: *const u64, n_bits_2: u64, tolerance: u64, report: *mut u32, n_report: u64) -> u64;
 }

@@ -1,4 +1,4 @@
-//! NRLMSISE-00, the air-density model of low satellites, from the proved library `libhost.a`, behind the names of the Rust
+//! NRLMSISE-00, the air-density model of low satellites, from the proved library `libpotirehu.a`, behind the names of the Rust
 //! `astro::atmosphere`: `NrlmsiseInput`, `Flags`, `gtd7` and its other calls stay as they are written, and only the `use` line changes.
 //!
 //! ```

@@ -47,16 +47,16 @@ pub fn compare_logs(board_1: &Log<'_>, board_2: &Log<'_>, tolerance: u64) -> Res
     let answer = unsafe {
         ffi::potirehu_logs(
             board_1.seconds.as_ptr(),
-            board_1.seconds.len(),
+            board_1.seconds.len() as u64,
             board_1.bits.as_ptr(),
-            board_1.bits.len(),
+            board_1.bits.len() as u64,
             board_2.seconds.as_ptr(),
-            board_2.seconds.len(),
+            board_2.seconds.len() as u64,
             board_2.bits.as_ptr(),
-            board_2.bits.len(),
+            board_2.bits.len() as u64,
             tolerance,
             report.as_mut_ptr(),
-            report.len(),
+            report.len() as u64,
         )
     };
     let n = accepted(answer)?;

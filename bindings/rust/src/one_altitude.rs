@@ -12,13 +12,13 @@ fn one_altitude(call: ffi::OneAltitude, input: &NrlmsiseInput, flags: &Flags) ->
             input.year,
             input.doy,
             fields.as_ptr(),
-            fields.len(),
+            fields.len() as u64,
             ap.as_ptr(),
-            ap.len(),
+            ap.len() as u64,
             switches.as_ptr(),
-            switches.len(),
+            switches.len() as u64,
             row.as_mut_ptr(),
-            ROW,
+            ROW as u64,
         )
     };
     accepted(answer).map(|_| row)
@@ -130,17 +130,17 @@ pub fn gtd7_with(parameters: &Parameters, input: &NrlmsiseInput, flags: &Flags) 
     let answer = unsafe {
         ffi::potirehu_gtd7_with(
             nine.as_ptr(),
-            nine.len(),
+            nine.len() as u64,
             input.year,
             input.doy,
             fields.as_ptr(),
-            fields.len(),
+            fields.len() as u64,
             ap.as_ptr(),
-            ap.len(),
+            ap.len() as u64,
             switches.as_ptr(),
-            switches.len(),
+            switches.len() as u64,
             row.as_mut_ptr(),
-            ROW,
+            ROW as u64,
         )
     };
     accepted(answer).map(|_| row)

@@ -187,7 +187,7 @@ pub(crate) fn accepted(answer: u64) -> Result<usize, Refusal> {
     }
     match KINDS.get(number - 1) {
         Some(&kind) => Err(Refusal { kind, place }),
-        None => panic!("libhost.a refuses with {number}, which this crate does not know"),
+        None => panic!("libpotirehu.a refuses with {number}, which this crate does not know"),
     }
 }
 

@@ -40,15 +40,15 @@ impl Station {
                 input.year,
                 input.doy,
                 fields.as_ptr(),
-                fields.len(),
+                fields.len() as u64,
                 ap.as_ptr(),
-                ap.len(),
+                ap.len() as u64,
                 switches.as_ptr(),
-                switches.len(),
+                switches.len() as u64,
                 whole.as_mut_ptr(),
-                whole.len(),
+                whole.len() as u64,
                 numbers.as_mut_ptr(),
-                numbers.len(),
+                numbers.len() as u64,
             )
         };
         accepted(answer).map(|_| Station { whole, numbers })
@@ -83,8 +83,9 @@ impl Station {
     pub fn set_fluxes(&mut self, f107a: f64, f107: f64) -> Result<(), Refusal> {
         let (whole, numbers) = (&self.whole, &mut self.numbers);
         // SAFETY: each pointer goes with the length of the array it is of; numbers is lent to us alone.
-        let answer =
-            unsafe { ffi::potirehu_station_fluxes(whole.as_ptr(), whole.len(), numbers.as_mut_ptr(), numbers.len(), f107a, f107) };
+        let answer = unsafe {
+            ffi::potirehu_station_fluxes(whole.as_ptr(), whole.len() as u64, numbers.as_mut_ptr(), numbers.len() as u64, f107a, f107)
+        };
         accepted(answer).map(|_| ())
     }
 
@@ -104,11 +105,11 @@ impl Station {
         let answer = unsafe {
             ffi::potirehu_station_switches(
                 whole.as_mut_ptr(),
-                whole.len(),
+                whole.len() as u64,
                 numbers.as_mut_ptr(),
-                numbers.len(),
+                numbers.len() as u64,
                 switches.as_ptr(),
-                switches.len(),
+                switches.len() as u64,
             )
         };
         accepted(answer).map(|_| ())
@@ -118,14 +119,15 @@ impl Station {
         let (whole, numbers) = (&self.whole, &self.numbers);
         let mut row = NrlmsiseOutput::default();
         // SAFETY: each pointer goes with the length of the array it is of; row has ROW numbers and is ours alone.
-        let answer = unsafe { call(whole.as_ptr(), whole.len(), numbers.as_ptr(), numbers.len(), alt, row.as_mut_ptr(), ROW) };
+        let answer =
+            unsafe { call(whole.as_ptr(), whole.len() as u64, numbers.as_ptr(), numbers.len() as u64, alt, row.as_mut_ptr(), ROW as u64) };
         accepted(answer).map(|_| row)
     }
 
     fn change(&mut self, call: ffi::StationChange, value: f64) -> Result<(), Refusal> {
         let (whole, numbers) = (&self.whole, &mut self.numbers);
         // SAFETY: each pointer goes with the length of the array it is of; numbers is lent to us alone.
-        let answer = unsafe { call(whole.as_ptr(), whole.len(), numbers.as_mut_ptr(), numbers.len(), value) };
+        let answer = unsafe { call(whole.as_ptr(), whole.len() as u64, numbers.as_mut_ptr(), numbers.len() as u64, value) };
         accepted(answer).map(|_| ())
     }
 }

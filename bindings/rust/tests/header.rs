@@ -21,7 +21,6 @@ fn rust_type(c: &str) -> &'static str {
         "uint32_t" => "u32",
         "uint64_t" => "u64",
         "double" => "f64",
-        "size_t" => "usize",
         "const uint8_t *" => "*const u8",
         "const int32_t *" => "*const i32",
         "const uint64_t *" => "*const u64",

@@ -22,7 +22,7 @@ pub gtd7-from-fresh-spec : {M : Type 1} → statement M
 gtd7-from-fresh-spec =
     tie.close
     (tie.spec
-    (λ c κs. search needs) (λ c κs. search needs) (λ c. search needs) (λ c κs. search needs) (λ c. search needs) (λ c κs. (c .before .before .before .before .before .before .before .pre, search needs))
+    (λ c κs. search needs) (λ c κs. search needs) (λ c. search needs) (λ c κs. search needs) (λ c. search needs) (λ c κs. (c .before .before .before .before .before .before .pre, search needs))
     (λ c κs. search needs) (λ c κs. search needs) (λ c. search needs) (λ c κs. search needs) (λ c κs. search needs) (λ c. search needs)
     (λ c κs. search needs) (λ c κs. search needs)
     returns)

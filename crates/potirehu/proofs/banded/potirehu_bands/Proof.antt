@@ -1,0 +1,12 @@
+-- `potirehu_bands` meets its contract.
+use mathlib.Core.Path.{ap, _∙_}
+use borrow.Author.Needs.{needs}
+use Rattle.host_record.specs.Record.{codeOf}
+use Rattle.potirehu.proofs.banded.potirehu_bands.Statement.{statement}
+use Rattle.potirehu.proofs.banded.potirehu_bands.Tie as tie
+
+returns : tie.Need-returns
+returns c = let a = c .before .before .bands in (c .code .ensures ∙ ap codeOf (a .ensures .0), a .ensures .1)
+
+pub potirehu-bands-spec : {M : Type 1} → statement M
+potirehu-bands-spec = tie.close (tie.spec (λ c κs. search needs) (λ c κs. search needs) (λ c. search needs) returns)
