@@ -29,10 +29,11 @@ module _ (w days : List ℤ) (f l : List Float) where
     where
       none : j < 0 → ⊥
       none u = omega arith
-  answer-told (suc n) xs j h e = go (eqb j n) refl
+  answer-told (suc n) xs j h e = go (eqb j n) refl (λ g. answer-told n xs j g (omega (arith, e)))
     where
-      go : (b : Bool) → eqb j n ≡ b → getD (set (answersTo w days f l n xs) n (codeOf (recordAnswer w (recordAt days f l n)))) j 0 ≡ codeOf (recordAnswer w (recordAt days f l j))
-      go true q =
+      go : (b : Bool) → eqb j n ≡ b → (j < n → getD (answersTo w days f l n xs) j 0 ≡ codeOf (recordAnswer w (recordAt days f l j)))
+          → getD (set (answersTo w days f l n xs) n (codeOf (recordAnswer w (recordAt days f l n)))) j 0 ≡ codeOf (recordAnswer w (recordAt days f l j))
+      go true q r =
           let s : j ≡ n = eqb-true j n q in
           rw s (getD-set-same (answersTo w days f l n xs) n _ 0 (rw (answers-length n xs) (omega (arith, e))))
-      go false q = getD-set-other (answersTo w days f l n xs) n j _ 0 (eqb-false j n q) ∙ answer-told n xs j (let k = eqb-false j n q in omega (arith, h, k)) (omega (arith, e))
+      go false q r = getD-set-other (answersTo w days f l n xs) n j _ 0 (eqb-false j n q) ∙ r (let k = eqb-false j n q in omega (arith, h, k))
