@@ -122,14 +122,23 @@ pub struct AnswerAndSeason {
     pub kept: KeptSeason,
 }
 
-pub fn answered(w: [i32; 24], n: Input, k: KeptSeason, s: &mut [f64], out: &mut [f64]) -> AnswerAndSeason
+pub fn answered(
+    w: [i32; 24],
+    n: Input,
+    k: KeptSeason,
+    s: &mut [f64],
+    out: &mut [f64],
+) -> AnswerAndSeason
     requires { ⌜ KeptRight w k (now s) × (length (now out) ≡ 11) ⌝ }
     ensures { λ r. ⌜ (r .code ≡ codeOf (recordAnswer w n)) × (now (out .exit) ≡ rowAfter w n (now (out .entry))) × KeptRight w (r .kept) (now (s .exit)) ⌝ }
 {
     let r = record_answer(w, n);
     let number = code(r);
     if !accepted(r) {
-        return AnswerAndSeason { code: number, kept: k };
+        return AnswerAndSeason {
+            code: number,
+            kept: k,
+        };
     }
     let a = need_at(n.alt);
     season_for(w, n, a, k, s);
