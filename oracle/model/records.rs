@@ -164,9 +164,11 @@ pub fn records(g: &mut Random, count: u64) -> u64 {
         if answer != want || answers != expect_answers || !told {
             bad += 1;
             if bad <= 3 {
-                let other = |k: &usize| answers[GUARD + k] != expect_answers[GUARD + k] || (0..11).any(|i| !same(rows[GUARD + 11 * k + i], expect_rows[GUARD + 11 * k + i]));
-                let first = (0..n).filter(|_| want == (0, 0)).find(other);
-                println!("records differ: answer {answer:?}, wanted {want:?}, {n} records, the first that differs {first:?}: {:?} {w:?}", first.map(|k| &list[k.saturating_sub(1)..=k]));
+                let row_differs = |at: usize| (at..at + 11).any(|i| !same(rows[i], expect_rows[i]));
+                let differs = |k: &usize| answers[GUARD + k] != expect_answers[GUARD + k] || row_differs(GUARD + 11 * k);
+                let first = (0..n).filter(|_| short.is_none()).find(differs);
+                println!("records differ: answer {answer:?}, wanted {want:?}, {n} records under {w:?}");
+                println!("  the first that differs, {first:?}, behind the one before it: {:?}", first.map(|k| &list[k.saturating_sub(1)..=k]));
             }
         }
         made += n as u64;
@@ -176,7 +178,8 @@ pub fn records(g: &mut Random, count: u64) -> u64 {
     let refused: Vec<String> = (1..11).filter(|k| by_number[*k] > 0).map(|k| format!("{} with {k}", by_number[k])).collect();
     let lengths: Vec<String> = SLICES.iter().zip(wrong).map(|(slice, n)| format!("{n} for {slice}")).collect();
     println!(
-        "records: {made} in {lists} lists, {} accepted ({nan} with a NaN, {behind} behind one of the same day), refused {}; lists refused {}; {VAST} counts beyond 2^32; {bad} differences",
+        "records: {made} in {lists} lists, {} accepted ({nan} with a NaN, {behind} behind one of the same day), refused {}; \
+         lists refused {}; {VAST} counts beyond 2^32; {bad} differences",
         by_number[0],
         refused.join(", "),
         lengths.join(", ")
