@@ -1,5 +1,5 @@
 /* Each call of potirehu.h once more, over structs with named members: potirehu_struct_X is potirehu_X, with its rules, numbers and places. A latitude and a
-   longitude cannot change places here, lengths that are fixed are not given, and an answer cannot be cut to 32 bits. All of it is static inline, for C99
+   longitude cannot change places here, lengths that are fixed are not given, and a call's answer cannot be cut to 32 bits. All of it is static inline, for C99
    and C++, and is compiled away. In C fill a struct by its names, {.doy = 172, .alt = 400.0}: what is not named is 0, a history absent. */
 #ifndef POTIREHU_STRUCT_H
 #define POTIREHU_STRUCT_H
