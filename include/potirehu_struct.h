@@ -200,8 +200,8 @@ static inline struct potirehu_answer potirehu_struct_counts(const struct potireh
 
 /* ---- many records */
 
-/* answers[i] and rows[i] are the i-th record's; potirehu_answer_of(answers[i]) has its number and place. n_rows counts rows; the place of 4 counts numbers, 11 a
-   row. */
+/* answers[i] and rows[i] are the i-th record's; potirehu_answer_of(answers[i]) has its number and place. n_rows counts rows; the place of 4 counts numbers, 11
+   a row. */
 POTIREHU_CHECKED
 static inline struct potirehu_answer potirehu_struct_gtd7_records(const struct potirehu_records *records, const struct potirehu_switches *switches,
                                                                   uint64_t *answers, uint64_t n_answers, struct potirehu_row *rows, uint64_t n_rows) {

@@ -160,7 +160,8 @@ static void many_records(const struct both *b, const struct both *next) {
         for (size_t answer_room = RECORDS - 1; answer_room <= RECORDS + 1; answer_room++) {
             fill(rows, named, sizeof rows);
             fill(answers, other_answers, sizeof answers);
-            uint64_t bare = potirehu_gtd7_records(days, RECORDS, fields, 8 * RECORDS, ap_arrays, RECORDS * b->n_ap, ROW(b), answers, answer_room, rows, 11 * room);
+            uint64_t bare = potirehu_gtd7_records(days, RECORDS, fields, 8 * RECORDS, ap_arrays, RECORDS * b->n_ap, ROW(b), answers, answer_room, rows,
+                                                  11 * room);
             struct potirehu_answer answer = potirehu_struct_gtd7_records(&records, &b->switches, other_answers, answer_room, named, room);
             same("gtd7_records", bare, answer.number, answer.place, rows, named, sizeof rows);
             same("gtd7_records' answers", bare, answer.number, answer.place, answers, other_answers, sizeof answers);

@@ -183,7 +183,8 @@ _WORDS = {
 
 
 class Refusal(ValueError):
-    """What a call does not answer: number and place as in docs/RULES.md, section 3, and words that name the field. what names the slice of a 4 where its length does not."""
+    """What a call does not answer: number and place as in docs/RULES.md, section 3, and words that name the field. what names the slice of a 4 whose length
+    does not tell which it is."""
 
     def __init__(self, number, place, what=None):
         super().__init__(number, place, what)
@@ -376,8 +377,9 @@ def gtd7_with(nine, record=None, switches=ON, **fields):
 
 
 def records(sequence, switches=ON):
-    """A Row for each Record of a sequence, or the Refusal that gtd7 would raise for it. Records that follow each other on one day, at altitudes of one kind (below 32.5 km, to
-    72.5, to 123.435, to 300, or above) and all with ap_array or all without, share what the day gives: sort them so. records_into takes them out of memory as it lies."""
+    """A Row for each Record of a sequence, or the Refusal that gtd7 would raise for it. Records that follow each other on one day, at altitudes of one kind
+    (below 32.5 km, to 72.5, to 123.435, to 300, or above) and all with ap_array or all without, share what the day gives: sort them so. records_into takes
+    them out of memory as it lies."""
     switches = _switches(switches)
     parts = [(n, list(part)) for n, part in itertools.groupby((_record(one, {}) for one in sequence), lambda one: len(one[3]))]
     out = []
@@ -395,9 +397,10 @@ def records(sequence, switches=ON):
 
 
 def records_into(days, fields, ap_arrays, answers, rows, switches=ON):
-    """records on memory of the caller's, array.array, numpy arrays or any other buffers, with nothing copied that may be written to: days has the doy of each record (int32), fields
-    its sec, alt, g_lat, g_long, lst, f107a, f107 and ap (float64, 8 a record), ap_arrays its history (float64, 7 a record), or None. answers (uint64) gets 0 for each record, or
-    what refusal reads, and rows (float64) its eleven numbers; a refused record's stay as they were, and so does what lies behind. None of it is raised but lengths that do not fit."""
+    """records on memory of the caller's: array.array, numpy arrays or any other buffers. days has the doy of each record (int32), fields its sec, alt, g_lat,
+    g_long, lst, f107a, f107 and ap (float64, 8 a record), ap_arrays its history (float64, 7 a record), or None where the histories are absent. answers (uint64)
+    gets 0 for each record, or what refusal reads, and rows (float64) its eleven numbers; a refused record's stay as they were, and so does what lies behind.
+    No record's refusal is raised, only lengths that do not fit. Nothing is copied but what may not be written to."""
     lent = {
         "days": _lent(days, "days", ctypes.c_int32, "il", "int32"),
         "fields": _lent(fields, "fields", ctypes.c_double, "d", "float64"),
