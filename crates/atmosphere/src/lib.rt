@@ -65,7 +65,7 @@ pub fn row_above(sw: [f64; 24], x: Site, l: ExpansionValues, alt: f64) -> RowAbo
     }
 }
 
-// The main effect of switch 0. Read in a function of its own, it costs no second copy of the row.
+// The main effect of switch 0. Read in a function of its own, it costs its caller no second copy of the 24.
 pub fn units_switch(sw: [f64; 24]) -> f64
     ensures { λ r. ⌜ r ≡ sw ‼ 0 ⌝ }
 {
@@ -99,8 +99,8 @@ pub fn takes_upper_way(alt: f64) -> bool
     alt >= 72.5
 }
 
-// The row of a record out of that, with nine constants, at or above 72.5 km. This way and the other are each called twice, so that both stay
-// functions of their own when compiled and no frame holds what both need.
+// The row of a record out of that, with nine constants, at or above 72.5 km. row_of and row_with choose between this and the other way themselves: a
+// function that chose for both would hold copies of what either way reads, under either.
 pub fn put_row_above(c: Parameters, n: Input, v: RecordValues, out: &mut [f64])
     requires { ⌜ (length (now out) ≡ 11) × (le 72·5 (n .alt) ≡ true) ⌝ }
     ensures { λ _. ⌜ now (out .exit) ≡ elevenFrom (v .sw) (siteFrom c (v .sw) (n .«g_lat») (v .slat) (v .«cos_pt») (n .f107a)) (v .values) (n .alt) ⌝ }

@@ -1,4 +1,5 @@
--- The definitions that the contracts of this crate cite, and what holds of a station (Stations) and of a descent (DescentTheorems) from C.
+-- The definitions that the contracts of this crate cite, and what holds of a station (Stations), of a descent (DescentTheorems) and of many
+-- records (RecordTheorems) from C.
 pub mod Potirehu
 pub mod Stations
 pub mod Crossings
@@ -9,3 +10,5 @@ pub mod Descents
 pub mod DescentTheorems
 pub mod FirstBelow
 pub mod KnownInPart
+pub mod Records
+pub mod RecordTheorems

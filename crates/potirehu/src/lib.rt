@@ -6,6 +6,7 @@ pub mod constants;
 pub mod descents;
 pub mod known_in_part;
 pub mod listing;
+pub mod many_records;
 pub mod stations;
 pub mod thin;
 

@@ -1,7 +1,7 @@
 -- Tests of lengths by quotient and remainder, and the place of a refusal from 32 bits of the count.
 use Prim.Native.Nat.{ℕ, _+_, _-_, _*_, _/_, _%_, _<_, _≤_}
 use mathlib.Core.Path.{_≡_, refl, sym, ap, _∙_}
-use mathlib.Core.Bool.{Bool, true, false, not, _&&_, _||_, false≢true}
+use mathlib.Core.Bool.{Bool, true, false, cond, not, _&&_, _||_, false≢true}
 use mathlib.Core.List.{List}
 use native.Mathlib.Omega.{arith}
 use native.Mathlib.Nat.{mul-add-mod-self-left}
@@ -11,8 +11,11 @@ use lib.IntN.{ℤ, pos}
 use lib.ListN.{length, getD, take, drop}
 use lib.Ieee.{Float}
 use Rattle.setting.specs.declared.Input.{Input}
+use Rattle.acceptance.specs.declared.Answer.{Answer}
+use Rattle.acceptance.specs.declared.Answer.the-variants.{Accepted, Refused}
+use Rattle.acceptance.specs.Acceptance.{acceptedOf}
 use Rattle.host_record.specs.Record.{packedOf, codeOf, recordOf}
-use Rattle.record_list.specs.RecordList.{recordAt, lengthsAnswer}
+use Rattle.record_list.specs.RecordList.{Listed, recordAt, lengthsAnswer}
 
 pub eleven-each : (len count : ℕ) → ltb (len / 11) count ≡ ltb len (11 * count)
 eleven-each len count = go (ltb (len / 11) count) refl
@@ -112,3 +115,40 @@ module _ (days : List ℤ) (fields histories : List Float) (k : ℕ) where
       let eight : 8 * k + 8 - 8 * k ≡ 8 = omega arith in
       let seven : 7 * k + 7 - 7 * k ≡ 7 = omega arith in
       rw (ne-eqb (length histories) 0 h) (rw (d, eight, seven) at e)
+
+-- ---- where no length is refused
+
+refused-not-0 : (k : ℕ) → codeOf (Refused 4 k) ≡ 0 → ⊥
+unfolding codeOf
+refused-not-0 k e = omega (arith, e)
+
+-- what all five tests say
+abbrev Met : ℕ → ℕ → ℕ → ℕ → ℕ → ℕ → Type 0
+Met count fields histories switches answers rows = Listed count fields histories × (count ≤ answers) × (11 * count ≤ rows) × (switches ≡ 24)
+
+pub lengths-met : (count fields histories switches answers rows : ℕ) → codeOf (lengthsAnswer count fields histories switches answers rows) ≡ 0
+    → (lengthsAnswer count fields histories switches answers rows ≡ Accepted) × Met count fields histories switches answers rows
+unfolding lengthsAnswer
+lengths-met count fields histories switches answers rows =
+    go (ltb rows (11 * count)) (ltb answers count) (eqb fields (8 * count)) (not (eqb histories 0) && not (eqb histories (7 * count))) (eqb switches 24) refl refl refl refl refl
+  where
+    go : (a b c d e : Bool) → ltb rows (11 * count) ≡ a → ltb answers count ≡ b → eqb fields (8 * count) ≡ c → (not (eqb histories 0) && not (eqb histories (7 * count))) ≡ d → eqb switches 24 ≡ e
+        → codeOf (cond a (Refused 4 (11 * count)) (cond b (Refused 4 count) (cond (not c) (Refused 4 (8 * count)) (cond d (Refused 4 (7 * count)) (cond (not e) (Refused 4 24) Accepted))))) ≡ 0
+        → (cond a (Refused 4 (11 * count)) (cond b (Refused 4 count) (cond (not c) (Refused 4 (8 * count)) (cond d (Refused 4 (7 * count)) (cond (not e) (Refused 4 24) Accepted)))) ≡ Accepted)
+        × Met count fields histories switches answers rows
+    go true b c d e ea eb ec ed ee h = absurd (refused-not-0 (11 * count) h)
+    go false true c d e ea eb ec ed ee h = absurd (refused-not-0 count h)
+    go false false false d e ea eb ec ed ee h = absurd (refused-not-0 (8 * count) h)
+    go false false true true e ea eb ec ed ee h = absurd (refused-not-0 (7 * count) h)
+    go false false true false false ea eb ec ed ee h = absurd (refused-not-0 24 h)
+    go false false true false true ea eb ec ed ee h = (refl, ((eqb-true _ _ ec, ed), ltb-false _ _ eb, ltb-false _ _ ea, eqb-true _ _ ee))
+
+-- and where one is
+pub lengths-refused : (count fields histories switches answers rows : ℕ) → (codeOf (lengthsAnswer count fields histories switches answers rows) ≡ 0 → ⊥)
+    → acceptedOf (lengthsAnswer count fields histories switches answers rows) ≡ false
+unfolding codeOf
+lengths-refused count fields histories switches answers rows h = go (lengthsAnswer count fields histories switches answers rows) h
+  where
+    go : (a : Answer) → (codeOf a ≡ 0 → ⊥) → acceptedOf a ≡ false
+    go Accepted k = absurd (k refl)
+    go (Refused n m) k = refl

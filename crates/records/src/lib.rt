@@ -1,6 +1,6 @@
 // Many records under one switch row, each answered as the one-altitude call answers it. Records that follow each other on one day share the season.
 ghost use mathlib.Core.Path.{_≡_};
-ghost use mathlib.Core.Bool.{true, not, cond};
+ghost use mathlib.Core.Bool.{true, false, not, cond};
 ghost use Prim.Native.Nat.{_*_, _≤_};
 ghost use lib.ListN.{length};
 ghost use lib.Ieee.{binary64, ofInt};
@@ -9,9 +9,9 @@ ghost use Rattle.season.specs.Season.{Seasoned};
 ghost use Rattle.expansion_values.specs.InSeason.{longitudeIn};
 ghost use Rattle.acceptance.specs.Acceptance.{recordAnswer};
 ghost use Rattle.atmosphere.specs.Atmosphere.{elevenOf, rowAfter};
+ghost use Rattle.host_record.specs.Record.{codeOf};
 ghost use Rattle.record_list.specs.RecordList.{Listed};
 ghost use Rattle.records.specs.Records.{sameNeed, KeptRight, answersTo, rowsTo};
-use acceptance::Answer;
 use acceptance::accepted;
 use acceptance::record_answer;
 use atmosphere::put_row_above;
@@ -78,7 +78,7 @@ pub fn same_need(a: Need, b: Need) -> bool
 
 // Whether the season that is kept is the day's, for the same sets.
 pub fn serves(k: KeptSeason, doy: i32, a: Need) -> bool
-    ensures { λ r. ⌜ r ≡ true → (k .there ≡ true) × (k .doy ≡ doy) × (k .need ≡ a) ⌝ }
+    ensures { λ r. ⌜ (r ≡ true → (k .there ≡ true) × (k .doy ≡ doy) × (k .need ≡ a)) ⌝ }
 {
     if k.doy != doy {
         return false;
@@ -116,19 +116,29 @@ pub fn row_in_season(w: [i32; 24], n: Input, a: Need, s: &[f64], out: &mut [f64]
     put_row_lower(c, n, v, out);
 }
 
-// A record's answer, and the season that is kept behind it.
-pub struct Answered {
-    pub answer: Answer,
+// A record's answer as one number, and the season that is kept behind it.
+pub struct AnswerAndSeason {
+    pub code: u64,
     pub kept: KeptSeason,
 }
 
-pub fn answered(w: [i32; 24], n: Input, k: KeptSeason, s: &mut [f64], out: &mut [f64]) -> Answered
+pub fn answered(
+    w: [i32; 24],
+    n: Input,
+    k: KeptSeason,
+    s: &mut [f64],
+    out: &mut [f64],
+) -> AnswerAndSeason
     requires { ⌜ KeptRight w k (now s) × (length (now out) ≡ 11) ⌝ }
-    ensures { λ r. ⌜ (r .answer ≡ recordAnswer w n) × (now (out .exit) ≡ rowAfter w n (now (out .entry))) × KeptRight w (r .kept) (now (s .exit)) ⌝ }
+    ensures { λ r. ⌜ (r .code ≡ codeOf (recordAnswer w n)) × (now (out .exit) ≡ rowAfter w n (now (out .entry))) × KeptRight w (r .kept) (now (s .exit)) ⌝ }
 {
     let r = record_answer(w, n);
+    let number = code(r);
     if !accepted(r) {
-        return Answered { answer: r, kept: k };
+        return AnswerAndSeason {
+            code: number,
+            kept: k,
+        };
     }
     let a = need_at(n.alt);
     season_for(w, n, a, k, s);
@@ -138,8 +148,8 @@ pub fn answered(w: [i32; 24], n: Input, k: KeptSeason, s: &mut [f64], out: &mut 
         doy: n.doy,
         need: a,
     };
-    Answered {
-        answer: r,
+    AnswerAndSeason {
+        code: number,
         kept: kept,
     }
 }
@@ -165,7 +175,7 @@ pub fn gtd7_records(
         let n = record_at(days, fields, ap_arrays, i);
         let lo = 11 * i;
         let r = answered(w, n, kept, &mut season, &mut rows[lo..lo + 11]);
-        answers[i] = code(r.answer);
+        answers[i] = r.code;
         kept = r.kept;
         i += 1;
     }
