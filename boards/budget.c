@@ -32,6 +32,7 @@ CALL(gtd7d, RECORD, row, 11)
 CALL(gtd7_known, given.known, RECORD, row, 11)
 CALL(gtd7_with, given.nine, 9, RECORD, row, 11)
 CALL(counts, given.switches, 24, counts, 17)
+CALL(gtd7_records, MANY_RECORDS, given.switches, 24, answers, given.n.answers, rows, given.n.many_rows)
 CALL(gtd7_column, RECORD, given.altitudes, given.n.altitudes, rows, given.n.rows)
 CALL(crossings, RECORD, given.altitudes, given.n.altitudes, given.level, list, given.n.list)
 CALL(first_below, RECORD, given.altitudes, given.n.altitudes, given.level, row, 11)
@@ -100,6 +101,7 @@ static void measured(void) {
         {"known in part, 400 km", ask_gtd7_known},
         {"nine constants, 400 km", ask_gtd7_with},
         {"which fields count", ask_counts},
+        {"8 records of one day, 400 km", ask_gtd7_records},
         {"a column of 8 altitudes from 60 to 690 km", ask_gtd7_column},
         {"crossings of the same", ask_crossings},
         {"the first altitude thin enough of the same", ask_first_below},
@@ -189,11 +191,11 @@ static const struct {
     void (*call)(void);
 } calls[] = {
     OF(gtd7),           OF(gtd7d),          OF(gtd7_known),         OF(gtd7_with),          OF(counts),
-    OF(gtd7_column),    OF(crossings),      OF(first_below),        OF(station),            OF(station_gtd7),
-    OF(station_gtd7d),  OF(station_sec),    OF(station_lst),        OF(station_g_long),     OF(station_fluxes),
-    OF(station_move),   OF(station_switches), OF(descent),          OF(bands),              OF(bands_gtd7),
-    OF(logs),           OF_ELEMENTARY(exp), OF_ELEMENTARY(log),     OF_ELEMENTARY(sin),     OF_ELEMENTARY(cos),
-    OF_ELEMENTARY(sqrt), OF_ELEMENTARY(pow),
+    OF(gtd7_records),   OF(gtd7_column),    OF(crossings),          OF(first_below),        OF(station),
+    OF(station_gtd7),   OF(station_gtd7d),  OF(station_sec),        OF(station_lst),        OF(station_g_long),
+    OF(station_fluxes), OF(station_move),   OF(station_switches),   OF(descent),            OF(bands),
+    OF(bands_gtd7),     OF(logs),           OF_ELEMENTARY(exp),     OF_ELEMENTARY(log),     OF_ELEMENTARY(sin),
+    OF_ELEMENTARY(cos), OF_ELEMENTARY(sqrt), OF_ELEMENTARY(pow),
 };
 
 int main(void) {
@@ -207,6 +209,11 @@ int main(void) {
                 given.switches[15] = 1;
                 give_altitudes(1);
                 if (given.n.altitudes) given.alt = given.fields[1];
+                for (int i = 0; i < RECORDS; i++) {
+                    given.fields[1] = altitude();
+                    give_as_one_of_many(i);
+                }
+                give_number_of_records(RECORDS, k % 2);
                 give_row(given.next_switches);
                 argument = between(-40, 40);
                 prepared();

@@ -8,6 +8,7 @@
 #include <string.h>
 
 #define ALTITUDES 513
+#define RECORDS 16
 #define SETTINGS 10001
 #define LOG 257
 #define TEXT 4096
@@ -19,6 +20,8 @@ static struct {
     int32_t switches[25];
     double nine[10];
     uint32_t known;
+    int32_t days[RECORDS + 1];
+    double many_fields[8 * RECORDS + 1], ap_arrays[7 * RECORDS + 1];
     double altitudes[ALTITUDES], level;
     int64_t start;
     int32_t settings[SETTINGS];
@@ -28,6 +31,7 @@ static struct {
     double alt, sec, lst, g_long, f107a, f107; /* asked of a station */
     int32_t next_switches[25];
     struct {
+        uint64_t days, many_fields, ap_arrays, answers, many_rows;
         uint64_t fields, ap_array, switches, row, nine, altitudes, rows, list, counts, whole, numbers, next_switches, settings, losses, end, text, table;
         uint64_t seconds_1, bits_1, seconds_2, bits_2, report;
     } n;
@@ -35,12 +39,13 @@ static struct {
 
 /* What is lent to a call, each one longer than the call needs. */
 static double row[12], rows[11 * ALTITUDES + 1], numbers[POTIREHU_STATION_NUMBERS + 1];
-static uint64_t list[ALTITUDES];
+static uint64_t answers[RECORDS + 2], list[ALTITUDES];
 static int32_t counts[POTIREHU_COUNTS + 1], whole[POTIREHU_STATION_WHOLE + 1], table[POTIREHU_BANDS + 1];
 static int64_t losses[SETTINGS], end[4];
 static uint32_t report[513];
 
 #define RECORD given.year, given.doy, given.fields, given.n.fields, given.ap_array, given.n.ap_array, given.switches, given.n.switches
+#define MANY_RECORDS given.days, given.n.days, given.many_fields, given.n.many_fields, given.ap_arrays, given.n.ap_arrays
 #define STATION whole, given.n.whole, numbers, given.n.numbers
 
 static const char bands_text[] = "(band 0 120000 (switches 1 1 1 1 1 1 1 1 1 1 1 1 1 1 1 1 1 1 1 1 1 1 1 1))\n"
@@ -52,7 +57,21 @@ static void give_text(const char *text) {
     memcpy(given.text, text, (size_t)given.n.text);
 }
 
-/* The first published sample, a column over it, a descent, a table of bands, two logs; every length as it should be. */
+/* What is given as a record becomes the i-th of many. */
+static void give_as_one_of_many(int i) {
+    given.days[i] = given.doy;
+    memcpy(given.many_fields + 8 * i, given.fields, 8 * sizeof(double));
+    memcpy(given.ap_arrays + 7 * i, given.ap_array, 7 * sizeof(double));
+}
+
+static void give_number_of_records(uint64_t n, int histories) {
+    given.n.days = given.n.answers = n;
+    given.n.many_fields = 8 * n;
+    given.n.ap_arrays = histories ? 7 * n : 0;
+    given.n.many_rows = 11 * n;
+}
+
+/* The first published sample, eight records from it on, a column over it, a descent, a table of bands, two logs; every length as it should be. */
 static void give_first(void) {
     static const double fields[8] = {29000, 400, 60, -70, 16, 150, 150, 4}, nine[9] = {831.4, 28.95, 200, 300, 160, 250, 240, 320, 450};
     memset(&given, 0, sizeof given);
@@ -61,6 +80,14 @@ static void give_first(void) {
     memcpy(given.fields, fields, sizeof fields);
     memcpy(given.nine, nine, sizeof nine);
     for (int i = 0; i < 8; i++) given.ap_array[i] = 100;
+    for (int i = RECORDS - 1; i >= 0; i--) { /* 10 s apart, back to the sample itself */
+        given.fields[0] = 29000 + 10 * i;
+        given.fields[2] = 60 - 0.5 * i;
+        given.fields[3] = -70 + 0.75 * i;
+        given.fields[4] = 16 + 0.0625 * i;
+        give_as_one_of_many(i);
+    }
+    give_number_of_records(8, 0);
     for (int i = 0; i < 24; i++) given.switches[i] = given.next_switches[i] = 1;
     given.next_switches[7] = 0;
     given.known = 0x3ff;

@@ -66,6 +66,16 @@ static void which_count(void) {
     put(counts, sizeof counts);
 }
 
+static void gtd7_records(void) {
+    memset(answers, 7, sizeof answers);
+    fill_doubles(rows, 11 * (RECORDS + 1));
+    const uint64_t answer = potirehu_gtd7_records(MANY_RECORDS, given.switches, given.n.switches, answers, given.n.answers, rows, given.n.many_rows);
+    put_answer(answer);
+    for (uint64_t i = 0; i < given.n.days && answer == 0; i++) put_answer(answers[i]);
+    put(answers, sizeof answers);
+    put_doubles(rows, 11 * (RECORDS + 1));
+}
+
 static void column(void) {
     const size_t n = given.n.altitudes < 512 ? (size_t)given.n.altitudes : 512;
     fill_doubles(rows, 11 * n + 1);
@@ -136,6 +146,7 @@ static const struct {
     {"gtd7_known", gtd7_known, " 1 2 3 4 10", 0, 0},
     {"gtd7_with", gtd7_with, " 1 2 3 4 10 16", 0, 0},
     {"counts", which_count, " 4", 0, 0},
+    {"gtd7_records", gtd7_records, " 1 2 3 4 10", 0, 0},
     {"gtd7_column", column, " 1 2 3 4 5 10", 0, 0},
     {"crossings", crossings, " 1 2 3 4 5 8 9 10", 0, 0},
     {"first_below", first_below, " 1 2 3 4 5 10", 0, 0},
@@ -168,12 +179,14 @@ static int vary(uint64_t k) {
     uint64_t *const lengths[] = {&given.n.fields, &given.n.ap_array, &given.n.switches, &given.n.row, &given.n.nine, &given.n.altitudes, &given.n.rows,
                                  &given.n.list, &given.n.counts, &given.n.whole, &given.n.numbers, &given.n.next_switches, &given.n.settings,
                                  &given.n.losses, &given.n.end, &given.n.text, &given.n.table, &given.n.seconds_1, &given.n.bits_1, &given.n.seconds_2,
-                                 &given.n.bits_2, &given.n.report};
+                                 &given.n.bits_2, &given.n.report, &given.n.days, &given.n.many_fields, &given.n.ap_arrays, &given.n.answers,
+                                 &given.n.many_rows};
     const uint64_t n_lengths = sizeof lengths / sizeof *lengths;
     double *const values[] = {&given.fields[0], &given.fields[1], &given.fields[2], &given.fields[3], &given.fields[4], &given.fields[5], &given.fields[6],
                               &given.fields[7], &given.ap_array[0], &given.ap_array[3], &given.ap_array[6], &given.nine[0], &given.nine[1], &given.nine[4],
                               &given.nine[8], &given.altitudes[0], &given.altitudes[3], &given.altitudes[7], &given.level, &given.alt, &given.sec,
-                              &given.lst, &given.g_long, &given.f107a, &given.f107};
+                              &given.lst, &given.g_long, &given.f107a, &given.f107, &given.many_fields[0], &given.many_fields[8 + 1],
+                              &given.many_fields[8 * 7 + 7], &given.ap_arrays[7 + 3]};
     const uint64_t n_values = sizeof values / sizeof *values;
     static const int32_t whole_values[] = {0, 1, 2, -1, 5, 367, 366, -2147483647 - 1, 2147483647};
     static const double masses[] = {1, 4, 14, 16, 28, 32, 40};
@@ -201,15 +214,16 @@ static int vary(uint64_t k) {
     if (k < (ODD + 3) * n_values) {
         *values[k / (ODD + 3)] = strange(k % (ODD + 3));
         given.n.ap_array = 7;
+        given.n.ap_arrays = 7 * given.n.days;
         return 1;
     }
     k -= (ODD + 3) * n_values;
-    if (k < 9 * 4) {
-        int32_t *const wholes[] = {&given.year, &given.doy, &given.settings[2], &given.settings[0]};
+    if (k < 9 * 5) {
+        int32_t *const wholes[] = {&given.year, &given.doy, &given.settings[2], &given.settings[0], &given.days[1]};
         *wholes[k / 9] = whole_values[k % 9];
         return 1;
     }
-    k -= 9 * 4;
+    k -= 9 * 5;
     if (k < 9 * 24) { /* an entry of a row, and of a station's next one */
         given.switches[k / 9] = given.next_switches[k / 9] = whole_values[k % 9];
         return 1;
@@ -218,7 +232,8 @@ static int vary(uint64_t k) {
     if (k < 4) { /* the history asked for, there and not there; below 72.5 km with N2 not mixed */
         given.switches[9] = given.next_switches[9] = -1;
         given.n.ap_array = k % 2 ? 7 : 0;
-        if (k / 2) given.switches[15] = 0, given.next_switches[15] = 0, given.fields[1] = given.alt = given.altitudes[0] = 50;
+        given.n.ap_arrays = k % 2 ? 7 * given.n.days : 0;
+        if (k / 2) given.switches[15] = 0, given.next_switches[15] = 0, given.fields[1] = given.alt = given.altitudes[0] = given.many_fields[8 + 1] = 50;
         return 1;
     }
     k -= 4;
@@ -377,6 +392,40 @@ static void records(void) {
     part("records for drag, known in part, with nine constants, and which fields count");
 }
 
+/* A list of records: days, altitudes and places that change or stay, one row for all. */
+static void many_records(void) {
+    for (long k = 0; k < COUNT(5000); k++) {
+        const uint64_t n = below(RECORDS + 1);
+        int32_t doy, days[2], switches[24], many_days[RECORDS];
+        double alt, many_fields[8 * RECORDS], ap_arrays[7 * RECORDS];
+        give_record();
+        doy = days[0] = days[1] = given.doy;
+        alt = given.fields[1];
+        memcpy(switches, given.switches, sizeof switches);
+        for (uint64_t i = 0; i < n; i++) {
+            give_any_record();
+            days[1] = below(8) ? days[1] : given.doy;
+            doy = below(3) ? doy : days[below(2)];
+            alt = below(3) ? alt : given.fields[1];
+            many_days[i] = below(32) ? doy : 367;
+            memcpy(many_fields + 8 * i, given.fields, 8 * sizeof(double));
+            many_fields[8 * i + 1] = below(16) ? alt : given.fields[1];
+            memcpy(ap_arrays + 7 * i, given.ap_array, 7 * sizeof(double));
+        }
+        memcpy(given.switches, switches, sizeof switches);
+        memcpy(given.days, many_days, (size_t)n * sizeof *many_days);
+        memcpy(given.many_fields, many_fields, 8 * (size_t)n * sizeof(double));
+        memcpy(given.ap_arrays, ap_arrays, 7 * (size_t)n * sizeof(double));
+        give_number_of_records(n, below(4) != 0);
+        if (n < RECORDS) {
+            given.n.answers += below(2);
+            given.n.many_rows += below(12);
+        }
+        gtd7_records();
+    }
+    part("lists of records, the lists and each record");
+}
+
 static void columns(void) {
     for (long k = 0; k < COUNT(10000); k++) {
         give_any_record();
@@ -518,6 +567,7 @@ int main(void) {
     samples();
     every_refusal();
     records();
+    many_records();
     columns();
     stations();
     descents();

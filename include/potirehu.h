@@ -1,13 +1,13 @@
-/* What libpotirehu.a offers: NRLMSISE-00 at one altitude, also for drag, with constants of the caller's and for a record known in part, at a column of
-   altitudes, where its density passes a level and where it is first thin enough, in bands of switch rows, from a prepared station and orbit by orbit in a
-   descent, two boards' logs held against each other, and the elementary functions it is built on. Nothing is kept between calls; only memcpy and memset are
-   needed from outside. docs/RULES.md has every rule.
+/* What libpotirehu.a offers: NRLMSISE-00 at one altitude, also for drag, with constants of the caller's and for a record known in part, on many records, at a
+   column of altitudes, where its density passes a level and where it is first thin enough, in bands of switch rows, from a prepared station and orbit by orbit
+   in a descent, two boards' logs held against each other, and the elementary functions it is built on. Nothing is kept between calls; only memcpy and memset
+   are needed from outside. docs/RULES.md has every rule.
 
    The archive of 'rt staticlib potirehu' is for x86-64 Linux; boards/build makes those for other processors, and docs/BOARDS.md has them. Lengths are
    uint64_t on every processor.
 
-   An answer of 2^32 or more is a refusal: its number times 2^32 plus a place, which is cut to its lower 32 bits (only 18, of more than 2^32 settings, has a
-   place that this changes). potirehu_struct.h has each call once more, over structs with named members.
+   An answer of 2^32 or more is a refusal: its number times 2^32 plus a place, which is cut to its lower 32 bits (only 18, of more than 2^32 settings, and 4, of
+   very many records, have a place that this changes). potirehu_struct.h has each call once more, over structs with named members.
 
    Slices lent to one call must not overlap, where the call writes one of them; two that are only read may be the same.
    The library is reentrant and keeps no data: calls may interrupt each other and run side by side, as long as none writes what another reads; so a station
@@ -153,7 +153,19 @@ POTIREHU_CHECKED
 uint64_t potirehu_gtd7(int32_t year, int32_t doy, const double *fields, uint64_t n_fields, const double *ap_array, uint64_t n_ap,
                        const int32_t *switches, uint64_t n_switches, double *row, uint64_t n_row);
 
-/* The same at n altitudes (km), 0 to 512 of them, the record's own altitude not looked at: each altitude's eleven numbers go into their own
+/* The same on n records, as many as there are, under one switch row. They lie one behind the other: days has the doy of each, fields the eight of the first,
+   then those of the second, and so on, ap_arrays likewise the seven of each, or 0 values where the histories are absent; a year, which nothing reads, is not
+   given. Each record gets in answers what potirehu_gtd7 answers for it, and in its part of rows, eleven numbers, what that writes; one that is refused leaves
+   its part as it was and does not stop the others. What lies behind the n answers and the 11 n numbers stays. Answers 0, also where records are refused: look
+   at answers; or leaves answers and rows as they were and answers 4 at the length needed, cut to its lower 32 bits: rows shorter than 11 n, answers shorter
+   than n, fields of another length than 8 n, ap_arrays of neither 0 nor 7 n, switches of another than 24, in this order.
+   Records that follow each other on one day at altitudes of one kind (below 32.5 km, to 72.5, to 123.435, to 300, or above) share what the day gives, which
+   takes a good part of a call: so sort records by day, and those of one day by altitude. A satellite's track is sorted as it is. */
+POTIREHU_CHECKED
+uint64_t potirehu_gtd7_records(const int32_t *days, uint64_t n, const double *fields, uint64_t n_fields, const double *ap_arrays, uint64_t n_aps,
+                               const int32_t *switches, uint64_t n_switches, uint64_t *answers, uint64_t n_answers, double *rows, uint64_t n_rows);
+
+/* potirehu_gtd7 at n altitudes (km), 0 to 512 of them, the record's own altitude not looked at: each altitude's eleven numbers go into their own
    part of rows, and what lies behind them stays. Altitudes that lie inside rows give wrong rows. After the lengths of fields, ap_array and switches:
    5 at 512 for more than 512 altitudes; 4 at 11 n for a shorter buffer; the record as above; each altitude 2, else 3, at 17 plus its index; once all
    have passed those, 10 at 17 plus the lowest index below 72.5 km where switch 15 is not 1. */

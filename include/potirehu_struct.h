@@ -1,5 +1,5 @@
 /* Each call of potirehu.h once more, over structs with named members: potirehu_struct_X is potirehu_X, with its rules, numbers and places. A latitude and a
-   longitude cannot change places here, lengths that are fixed are not given, and an answer cannot be cut to 32 bits. All of it is static inline, for C99
+   longitude cannot change places here, lengths that are fixed are not given, and a call's answer cannot be cut to 32 bits. All of it is static inline, for C99
    and C++, and is compiled away. In C fill a struct by its names, {.doy = 172, .alt = 400.0}: what is not named is 0, a history absent. */
 #ifndef POTIREHU_STRUCT_H
 #define POTIREHU_STRUCT_H
@@ -26,6 +26,18 @@ struct potirehu_record {
     double f107;    /* the day before, 0 to 1,000 */
     double ap;      /* daily, 0 to 400 */
     const struct potirehu_history *history;
+};
+
+/* n records without their years, one behind the other: each one's doy, its fields, and its history, or NULL where the histories are absent. */
+struct potirehu_fields {
+    double sec, alt, g_lat, g_long, lst, f107a, f107, ap; /* as in potirehu_record */
+};
+
+struct potirehu_records {
+    uint64_t n;
+    const int32_t *days;
+    const struct potirehu_fields *fields;
+    const struct potirehu_history *histories;
 };
 
 /* A switch row: entry[POTIREHU_SWITCH_..]. */
@@ -112,6 +124,7 @@ struct potirehu_band_table {
 
 /* A struct of numbers is lent to the library as a slice of them: nothing may lie between them. */
 typedef char potirehu_history_is_7_numbers[sizeof(struct potirehu_history) == 7 * sizeof(double) ? 1 : -1];
+typedef char potirehu_fields_are_8_numbers[sizeof(struct potirehu_fields) == 8 * sizeof(double) ? 1 : -1];
 typedef char potirehu_parameters_are_9_numbers[sizeof(struct potirehu_parameters) == 9 * sizeof(double) ? 1 : -1];
 typedef char potirehu_row_is_11_numbers[sizeof(struct potirehu_row) == 11 * sizeof(double) ? 1 : -1];
 typedef char potirehu_end_is_3_numbers[sizeof(struct potirehu_end) == 3 * sizeof(int64_t) ? 1 : -1];
@@ -183,6 +196,18 @@ static inline struct potirehu_answer potirehu_struct_gtd7_known(uint32_t known, 
 POTIREHU_CHECKED
 static inline struct potirehu_answer potirehu_struct_counts(const struct potirehu_switches *switches, struct potirehu_counting *counting) {
     return potirehu_answer_of(potirehu_counts(switches->entry, 24, counting->field, POTIREHU_COUNTS));
+}
+
+/* ---- many records */
+
+/* answers[i] and rows[i] are the i-th record's; potirehu_answer_of(answers[i]) has its number and place. n_rows counts rows; the place of 4 counts numbers, 11
+   a row. */
+POTIREHU_CHECKED
+static inline struct potirehu_answer potirehu_struct_gtd7_records(const struct potirehu_records *records, const struct potirehu_switches *switches,
+                                                                  uint64_t *answers, uint64_t n_answers, struct potirehu_row *rows, uint64_t n_rows) {
+    return potirehu_answer_of(potirehu_gtd7_records(records->days, records->n, (const double *)records->fields, 8 * records->n,
+                                                    (const double *)records->histories, records->histories ? 7 * records->n : 0, switches->entry, 24,
+                                                    answers, n_answers, (double *)rows, 11 * n_rows));
 }
 
 /* ---- many altitudes */

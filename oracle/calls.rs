@@ -69,6 +69,21 @@ extern "C" {
     fn potirehu_station_switches(whole: *mut i32, n_whole: usize, numbers: *mut f64, n_numbers: usize, switches: *const i32, n_switches: usize) -> u64;
     #[allow(dead_code)]
     fn potirehu_counts(switches: *const i32, n_switches: usize, fields: *mut i32, n_fields: usize) -> u64;
+    #[allow(dead_code)]
+    fn potirehu_gtd7_records(
+        days: *const i32,
+        n: usize,
+        fields: *const f64,
+        n_fields: usize,
+        ap_arrays: *const f64,
+        n_aps: usize,
+        switches: *const i32,
+        n_switches: usize,
+        answers: *mut u64,
+        n_answers: usize,
+        rows: *mut f64,
+        n_rows: usize,
+    ) -> u64;
     fn potirehu_station_fluxes(whole: *const i32, n_whole: usize, numbers: *mut f64, n_numbers: usize, f107a: f64, f107: f64) -> u64;
 }
 
@@ -158,6 +173,22 @@ pub fn gtd7_known(known: u32, year: i32, doy: i32, fields: &[f64], ap: &[f64], w
 #[allow(dead_code)]
 pub fn counts(w: &[i32], fields: &mut [i32]) -> (u64, u64) {
     parted(unsafe { potirehu_counts(w.as_ptr(), w.len(), fields.as_mut_ptr(), fields.len()) })
+}
+
+// Many records.
+#[allow(dead_code)]
+pub fn records(days: &[i32], fields: &[f64], ap: &[f64], w: &[i32], answers: &mut [u64], rows: &mut [f64]) -> (u64, u64) {
+    let (days, n, fields, n_fields, ap, n_ap) = (days.as_ptr(), days.len(), fields.as_ptr(), fields.len(), ap.as_ptr(), ap.len());
+    let (answers, n_answers, rows, n_rows) = (answers.as_mut_ptr(), answers.len(), rows.as_mut_ptr(), rows.len());
+    parted(unsafe { potirehu_gtd7_records(days, n, fields, n_fields, ap, n_ap, w.as_ptr(), w.len(), answers, n_answers, rows, n_rows) })
+}
+
+// The same of lengths that are refused: no memory is behind them.
+#[allow(dead_code)]
+pub fn records_of_lengths(n: usize, [rows, answers, fields, ap, switches]: [usize; 5]) -> (u64, u64) {
+    assert!(switches != 24);
+    let (whole, number, answer) = (std::ptr::dangling::<i32>(), std::ptr::dangling_mut::<f64>(), std::ptr::dangling_mut());
+    parted(unsafe { potirehu_gtd7_records(whole, n, number, fields, number, ap, whole, switches, answer, answers, number, rows) })
 }
 
 // Prepares a station.

@@ -134,6 +134,53 @@ static void many_altitudes(const struct both *b) {
     }
 }
 
+/* Records with a field of their own each, the given one first, without histories and with them, and with room for one too few. */
+static void many_records(const struct both *b, const struct both *next) {
+    enum { RECORDS = 5 };
+    const struct both *const each[RECORDS] = {b, next, b, next, b};
+    const double alts[RECORDS] = {b->record.alt, 50.0, 2600.0, 150.0, 0.0};
+    int32_t days[RECORDS];
+    double fields[8 * RECORDS], ap_arrays[7 * RECORDS], rows[11 * RECORDS + 11];
+    struct potirehu_fields named_fields[RECORDS];
+    struct potirehu_history histories[RECORDS];
+    struct potirehu_row named[RECORDS + 1];
+    uint64_t answers[RECORDS + 1], other_answers[RECORDS + 1];
+    for (int i = 0; i < RECORDS; i++) {
+        const struct potirehu_record *r = &each[i]->record;
+        const struct potirehu_fields these = {r->sec, alts[i], r->g_lat, r->g_long, r->lst, r->f107a, r->f107, r->ap};
+        days[i] = each[i]->doy;
+        memcpy(fields + 8 * i, each[i]->fields, sizeof each[i]->fields);
+        fields[8 * i + POTIREHU_FIELD_ALT - POTIREHU_FIELD_SEC] = alts[i];
+        memcpy(ap_arrays + 7 * i, each[i]->ap_array, sizeof each[i]->ap_array);
+        named_fields[i] = these;
+        histories[i] = each[i]->history;
+    }
+    const struct potirehu_records records = {RECORDS, days, named_fields, b->n_ap ? histories : NULL};
+    for (size_t room = RECORDS - 1; room <= RECORDS + 1; room++) {
+        for (size_t answer_room = RECORDS - 1; answer_room <= RECORDS + 1; answer_room++) {
+            fill(rows, named, sizeof rows);
+            fill(answers, other_answers, sizeof answers);
+            uint64_t bare = potirehu_gtd7_records(days, RECORDS, fields, 8 * RECORDS, ap_arrays, RECORDS * b->n_ap, ROW(b), answers, answer_room, rows,
+                                                  11 * room);
+            struct potirehu_answer answer = potirehu_struct_gtd7_records(&records, &b->switches, other_answers, answer_room, named, room);
+            same("gtd7_records", bare, answer.number, answer.place, rows, named, sizeof rows);
+            same("gtd7_records' answers", bare, answer.number, answer.place, answers, other_answers, sizeof answers);
+        }
+    }
+    /* the last of these had room: each answer and row is the one-altitude call's */
+    for (int i = 0; i < RECORDS; i++) {
+        struct potirehu_record one = each[i]->record;
+        struct potirehu_row row;
+        one.alt = alts[i];
+        one.history = records.histories ? &each[i]->history : NULL;
+        memset(&row, 0x5a, sizeof row);
+        struct potirehu_answer answer = potirehu_struct_gtd7(&one, &b->switches, &row);
+        const struct potirehu_answer listed = potirehu_answer_of(other_answers[i]);
+        same("a record of many", other_answers[i], answer.number, answer.place, &row, &named[i], sizeof row);
+        same("its answer", other_answers[i], listed.number, listed.place, &row, &named[i], sizeof row);
+    }
+}
+
 static void station(const struct both *b, const struct both *next) {
     int32_t whole[POTIREHU_STATION_WHOLE];
     double numbers[POTIREHU_STATION_NUMBERS];
@@ -306,6 +353,7 @@ int main(void) {
                 next.switches.entry[14] = next.row[14] = 0;
                 one_altitude(&b);
                 many_altitudes(&b);
+                many_records(&b, &next);
                 station(&b, &next);
                 station(&next, &b);
                 descent(&b, field == POTIREHU_FIELD_ALT ? (int64_t)150000000 : (int64_t)300000000);

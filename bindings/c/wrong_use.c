@@ -12,7 +12,10 @@ int used(const struct potirehu_record *record, const struct potirehu_switches *s
     uint64_t code = potirehu_gtd7(0, 172, fields, 8, NULL, 0, switches->entry, 24, numbers, 11);
     struct potirehu_answer answer = potirehu_struct_gtd7(record, switches, row);
     struct potirehu_index_answer first = potirehu_struct_first_below(record, switches, altitudes, 1, 1e-12, row);
-    return POTIREHU_REFUSED(code) || answer.number || first.found;
+    uint64_t answers[1];
+    const struct potirehu_records records = {0, NULL, NULL, NULL};
+    struct potirehu_answer many = potirehu_struct_gtd7_records(&records, switches, answers, 1, row, 1);
+    return POTIREHU_REFUSED(code) || answer.number || first.found || many.number;
 #elif WRONG == 1 /* an answer cut to an int */
     int code = potirehu_gtd7(0, 172, fields, 8, NULL, 0, switches->entry, 24, numbers, 11);
     return code;
@@ -40,5 +43,9 @@ int used(const struct potirehu_record *record, const struct potirehu_switches *s
     return potirehu_struct_gtd7(record, switches->entry, row).number != 0;
 #elif WRONG == 10
     return potirehu_struct_gtd7(row, switches, row).number != 0;
+#elif WRONG == 11 /* a list of answers of 32 bits each */
+    uint32_t answers[1];
+    const struct potirehu_records records = {0, NULL, NULL, NULL};
+    return potirehu_struct_gtd7_records(&records, switches, answers, 1, row, 1).number != 0;
 #endif
 }

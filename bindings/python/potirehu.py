@@ -15,6 +15,7 @@ The shared library is target/python/libpotirehu.so, which bindings/python/build 
 import ctypes
 import dataclasses
 import enum
+import itertools
 import operator
 import os
 import pathlib
@@ -24,7 +25,7 @@ from typing import NamedTuple, Optional, Sequence
 
 __all__ = [
     "ON", "PRESENT", "Bands", "Descent", "Ending", "Finding", "Parameters", "Record", "Refusal", "Row", "Station",
-    "column", "compare_logs", "counts", "crossings", "descent", "first_below", "gtd7", "gtd7d", "gtd7_with",
+    "column", "compare_logs", "counts", "crossings", "descent", "first_below", "gtd7", "gtd7d", "gtd7_with", "records", "records_into", "refusal",
 ]
 
 ON = (1,) * 24
@@ -182,26 +183,34 @@ _WORDS = {
 
 
 class Refusal(ValueError):
-    """What a call does not answer: number and place as in docs/RULES.md, section 3, and words that name the field."""
+    """What a call does not answer: number and place as in docs/RULES.md, section 3, and words that name the field. what names the slice of a 4 whose length
+    does not tell which it is."""
 
-    def __init__(self, number, place):
-        super().__init__(number, place)
+    def __init__(self, number, place, what=None):
+        super().__init__(number, place, what)
         self.number = number
         self.place = place
+        self.what = what
 
     @property
     def words(self):
         """What is refused, in words."""
-        return _WORDS[self.number](self.place)
+        return f"{self.what} has not the length needed, {self.place}" if self.what else _WORDS[self.number](self.place)
 
     def __str__(self):
         return f"{self.words} (refusal {self.number} at {self.place})"
 
 
+def refusal(answer):
+    """The Refusal that a record's answer of records_into stands for; None where the record is accepted."""
+    answer = operator.index(answer)
+    return Refusal(answer >> 32, answer & 0xFFFFFFFF) if answer >> 32 else None
+
+
 # ---- the library
 
 _CALLS = (
-    "gtd7", "gtd7d", "gtd7_with", "gtd7_known", "counts", "gtd7_column", "crossings", "first_below", "station", "station_gtd7", "station_gtd7d", "station_sec", "station_lst",
+    "gtd7", "gtd7d", "gtd7_with", "gtd7_known", "counts", "gtd7_records", "gtd7_column", "crossings", "first_below", "station", "station_gtd7", "station_gtd7d", "station_sec", "station_lst",
     "station_g_long", "station_fluxes", "station_move", "station_switches", "bands", "bands_gtd7", "descent", "logs",
 )
 _NOWHERE = 2**32 - 1
@@ -230,8 +239,9 @@ def _call(name, *arguments):
         if isinstance(argument, ctypes.Array):
             passed.append(ctypes.c_uint64(len(argument)))
     answer = _calls[name](*passed)
-    if answer >> 32:
-        raise Refusal(answer >> 32, answer & 0xFFFFFFFF)
+    refused = refusal(answer)
+    if refused:
+        raise refused
     return answer
 
 
@@ -251,6 +261,24 @@ def _floats(values, what):
 
 def _room(count, kind=ctypes.c_double):
     return (kind * count)()
+
+
+def _lent(buffer, what, kind, formats, name, written=False):
+    # a buffer's own memory as an array; where that may not be written to, and need not, a copy
+    view = memoryview(buffer)
+    if view.itemsize != ctypes.sizeof(kind) or view.format.lstrip("@=<") not in tuple(formats):
+        raise TypeError(f"{what} must be a buffer of {name}, and is one of {view.itemsize} bytes with the format {view.format!r}")
+    if not view.c_contiguous:
+        raise TypeError(f"{what} must lie in one piece, its last index the fastest")
+    if written and view.readonly:
+        raise TypeError(f"{what} is written, and its memory may not be")
+    array = kind * (view.nbytes // view.itemsize)
+    return array.from_buffer_copy(view) if view.readonly else array.from_buffer(view)
+
+
+def _overlap(one, other):
+    a, b = ctypes.addressof(one), ctypes.addressof(other)
+    return a < b + ctypes.sizeof(other) and b < a + ctypes.sizeof(one) and ctypes.sizeof(one) > 0 and ctypes.sizeof(other) > 0
 
 
 def _nearest(value, bits):
@@ -346,6 +374,53 @@ def gtd7_with(nine, record=None, switches=ON, **fields):
     row = _room(11)
     _call("gtd7_with", _floats(nine, "nine"), *_record(record, fields), _switches(switches), row)
     return Row(*row)
+
+
+def records(sequence, switches=ON):
+    """A Row for each Record of a sequence, or the Refusal that gtd7 would raise for it. Records that follow each other on one day, at altitudes of one kind
+    (below 32.5 km, to 72.5, to 123.435, to 300, or above) and all with ap_array or all without, share what the day gives: sort them so. records_into takes
+    them out of memory as it lies."""
+    switches = _switches(switches)
+    parts = [(n, list(part)) for n, part in itertools.groupby((_record(one, {}) for one in sequence), lambda one: len(one[3]))]
+    out = []
+    for n, part in parts or [(0, [])]:
+        if n not in (0, 7):
+            out += [Refusal(4, 7) for _ in part]
+            continue
+        days = (ctypes.c_int32 * len(part))(*(doy.value for _, doy, _, _ in part))
+        fields = (ctypes.c_double * (8 * len(part)))(*itertools.chain.from_iterable(eight for _, _, eight, _ in part))
+        ap_arrays = (ctypes.c_double * (n * len(part)))(*itertools.chain.from_iterable(history for _, _, _, history in part))
+        answers, rows = _room(len(part), ctypes.c_uint64), _room(11 * len(part))
+        _call("gtd7_records", days, fields, ap_arrays, switches, answers, rows)
+        out += [refusal(answer) or Row(*rows[11 * i : 11 * i + 11]) for i, answer in enumerate(answers)]
+    return out
+
+
+def records_into(days, fields, ap_arrays, answers, rows, switches=ON):
+    """records on memory of the caller's: array.array, numpy arrays or any other buffers. days has the doy of each record (int32), fields its sec, alt, g_lat,
+    g_long, lst, f107a, f107 and ap (float64, 8 a record), ap_arrays its history (float64, 7 a record), or None where the histories are absent. answers (uint64)
+    gets 0 for each record, or what refusal reads, and rows (float64) its eleven numbers; a refused record's stay as they were, and so does what lies behind.
+    No record's refusal is raised, only lengths that do not fit. Nothing is copied but what may not be written to."""
+    lent = {
+        "days": _lent(days, "days", ctypes.c_int32, "il", "int32"),
+        "fields": _lent(fields, "fields", ctypes.c_double, "d", "float64"),
+        "ap_arrays": _room(0) if ap_arrays is None else _lent(ap_arrays, "ap_arrays", ctypes.c_double, "d", "float64"),
+        "answers": _lent(answers, "answers", ctypes.c_uint64, "QL", "uint64", True),
+        "rows": _lent(rows, "rows", ctypes.c_double, "d", "float64", True),
+    }
+    for written in ("answers", "rows"):
+        for name, other in lent.items():
+            if name != written and _overlap(lent[written], other):
+                raise ValueError(f"{written} is written and shares memory with {name}")
+    try:
+        _call("gtd7_records", lent["days"], lent["fields"], lent["ap_arrays"], _switches(switches), lent["answers"], lent["rows"])
+    except Refusal as refused:
+        n = len(lent["days"])
+        fitting = {
+            "rows": len(lent["rows"]) >= 11 * n, "answers": len(lent["answers"]) >= n, "fields": len(lent["fields"]) == 8 * n,
+            "ap_arrays": len(lent["ap_arrays"]) in (0, 7 * n), "switches": False,
+        }
+        raise Refusal(refused.number, refused.place, next(name for name, fits in fitting.items() if not fits)) from None
 
 
 def column(altitudes, record=None, switches=ON, **fields):

@@ -1,5 +1,6 @@
 """Tests of potirehu.py: the published samples, every refusal that the library gives, and that calls which shall agree do so to the bit."""
 
+import array
 import copy
 import ctypes
 import dataclasses
@@ -226,6 +227,104 @@ class Columns(unittest.TestCase):
         self.assertEqual(rows.tolist(), [list(row) for row in potirehu.column(RISING, FIRST)])
 
 
+class ManyRecords(unittest.TestCase):
+    # days that change and stay, kinds of altitude in every order, refused ones in between
+    EACH = [
+        dataclasses.replace(FIRST, doy=doy, alt=alt, sec=10 * i, g_lat=lat)
+        for doy in (1, 172)
+        for i, (alt, after) in enumerate(itertools.product((0, 32.5, 50, 72.5, 100, 150, 400, 2500), repeat=2))
+        for alt, doy, lat in ((alt, doy, 51.6), (after, doy + i % 2, -51.6), (400, 172, 91), (400, 367, 0))
+    ]
+
+    def same(self, one, record, switches):
+        try:
+            alone = potirehu.gtd7(record, switches)
+        except Refusal as refused:
+            self.assertIs(type(one), Refusal)
+            self.assertEqual((one.number, one.place), (refused.number, refused.place))
+            return 1
+        self.assertEqual(bits(one), bits(alone))
+        return 0
+
+    def test_each_is_gtd7(self):
+        storm = [dataclasses.replace(one, ap_array=[100, 200, 300, 80, 40, 20, 10]) for one in self.EACH]
+        mixed = [storm[i] if i % 5 < 2 else one for i, one in enumerate(self.EACH)]
+        for each, switches in itertools.product((self.EACH, storm, mixed), (ON, CGS, row_with(e9=-1), row_with(e15=0))):
+            out = potirehu.records(each, switches)
+            self.assertEqual(len(out), len(each))
+            refused = sum(self.same(one, record, switches) for one, record in zip(out, each))
+            self.assertGreaterEqual(refused, len(each) // 2)
+        self.assertEqual(potirehu.records([]), [])
+        self.assertEqual(potirehu.records(iter([FIRST])), [potirehu.gtd7(FIRST)])
+
+    def test_a_history_of_another_length_is_refused_alone(self):
+        each = [dataclasses.replace(FIRST, ap_array=[4] * n) for n in (7, 6, 8, 7)]
+        self.assertEqual([self.same(one, record, ON) for one, record in zip(potirehu.records(each), each)], [0, 1, 1, 0])
+
+    def memory(self):
+        days = array.array("i", [one.doy for one in self.EACH])
+        fields = array.array("d")
+        for one in self.EACH:
+            fields.extend((one.sec, one.alt, one.g_lat, one.g_long, one.lst, one.f107a, one.f107, one.ap))
+        return days, fields, array.array("Q", [7] * (len(days) + 2)), array.array("d", [-7.0] * (11 * len(days) + 5))
+
+    def test_memory_is_taken_as_it_lies(self):
+        n = len(self.EACH)
+        days, fields, answers, rows = self.memory()
+        storm = array.array("d", [100, 200, 300, 80, 40, 20, 10] * n)
+        for ap_arrays, history, switches in ((None, None, ON), (storm, list(storm[:7]), row_with(e9=-1))):
+            self.assertIsNone(potirehu.records_into(days, fields, ap_arrays, answers, rows, switches))
+            for i, record in enumerate(self.EACH):
+                one = potirehu.refusal(answers[i]) or rows[11 * i : 11 * i + 11]
+                if self.same(one, dataclasses.replace(record, ap_array=history), switches):
+                    self.assertEqual(list(rows[11 * i : 11 * i + 11]), [-7.0] * 11)
+            self.assertEqual((list(answers[n:]), list(rows[11 * n :])), ([7, 7], [-7.0] * 5))
+        # the same out of memory that may not be written to, of ctypes, and of two dimensions
+        again, more = array.array("Q", answers), array.array("d", rows)
+        potirehu.records_into(memoryview(bytes(days)).cast("i"), memoryview(bytes(fields)).cast("d", (n, 8)), storm, again, more, row_with(e9=-1))
+        self.assertEqual((again, more), (answers, rows))
+        potirehu.records_into((ctypes.c_int32 * n)(*days), (ctypes.c_double * (8 * n))(*fields), storm, again, memoryview(more), row_with(e9=-1))
+        self.assertEqual((again, more), (answers, rows))
+
+    def test_what_is_no_such_memory(self):
+        days, fields, answers, rows = self.memory()
+        for wrong in (
+            (array.array("h", days), fields, None, answers, rows),
+            (array.array("q", days), fields, None, answers, rows),
+            (array.array("I", days), fields, None, answers, rows),
+            (days, array.array("f", fields), None, answers, rows),
+            (days, list(fields), None, answers, rows),
+            (days, memoryview(fields)[::2], None, answers, rows),
+            (days, fields, None, array.array("q", answers), rows),
+            (days, fields, None, answers, bytes(rows)),
+            (days, fields, None, answers, memoryview(bytes(rows)).cast("d")),
+            ("172", fields, None, answers, rows),
+        ):
+            self.assertRaises(TypeError, potirehu.records_into, *wrong)
+        for what, wrong in (
+            ("fields", (days, fields, None, answers, memoryview(fields))),
+            ("ap_arrays", (days, fields, rows, answers, rows)),
+            ("rows", (days, fields, None, memoryview(rows).cast("B").cast("Q"), rows)),
+        ):
+            with self.assertRaisesRegex(ValueError, f"shares memory with {what}$"):
+                potirehu.records_into(*wrong)
+        self.assertEqual((set(answers), set(rows)), ({7}, {-7.0}))
+
+    def test_numpy(self):
+        try:
+            import numpy
+        except ImportError:
+            self.skipTest("numpy is not there")
+        days, fields, answers, rows = self.memory()
+        potirehu.records_into(days, fields, None, answers, rows)
+        n = len(days)
+        by_numpy = numpy.full((n, 11), -7.0)
+        codes = numpy.zeros(n, numpy.uint64)
+        potirehu.records_into(numpy.array(days, numpy.int32), numpy.array(fields).reshape(n, 8), None, codes, by_numpy)
+        self.assertEqual((by_numpy.tobytes(), codes.tolist()), (rows[: 11 * n].tobytes(), list(answers[:n])))
+        self.assertEqual(potirehu.refusal(codes[2]).place, 4)
+
+
 class Stations(unittest.TestCase):
     def test_altitudes_are_gtd7_through_changes(self):
         station, record, switches = Station(FIRST), FIRST, ON
@@ -332,6 +431,24 @@ class Refusals(unittest.TestCase):
         self.refused(4, 24, "switches", Station(FIRST).set_switches, ON + (1,))
         self.refused(4, 7, "ap_array", potirehu.gtd7, FIRST, ap_array=[4] * 6)
         self.refused(4, 9, "nine", potirehu.gtd7_with, PRESENT[:8], FIRST)
+        self.refused(4, 24, "switches", potirehu.records, [FIRST], ON[:23])
+        self.refused(4, 24, "switches", potirehu.records, [], ON[:23])
+
+    def test_4_lengths_of_many_records(self):
+        days, fields, ap_arrays = array.array("i", [172] * 3), array.array("d", [1.0] * 24), array.array("d", [4.0] * 21)
+        short = array.array("d", [1.0] * 20)
+        answers, rows = array.array("Q", [7] * 3), array.array("d", [-7.0] * 33)
+        # each with all that is judged behind it wrong too
+        for place, what, wrong in (
+            (33, "rows", (days, short, short, answers[:2], rows[:32], ON[:23])),
+            (3, "answers", (days, short, short, answers[:2], rows, ON[:23])),
+            (24, "fields", (days, short, short, answers, rows, ON[:23])),
+            (21, "ap_arrays", (days, fields, short, answers, rows, ON[:23])),
+            (24, "switches", (days, fields, ap_arrays, answers, rows, ON[:23])),
+            (24, "switches", (days, fields, None, answers, rows, ON + (1,))),
+        ):
+            self.refused(4, place, f"{what} has not the length needed, {place}", potirehu.records_into, *wrong)
+            self.assertEqual((set(answers), set(rows)), ({7}, {-7.0}))
 
     def test_5_too_many_altitudes(self):
         self.refused(5, 512, "512 altitudes", potirehu.column, [400] * 513, FIRST)
@@ -421,6 +538,7 @@ class Refusals(unittest.TestCase):
     def test_a_refusal_can_be_stored(self):
         stored = pickle.loads(pickle.dumps(Refusal(3, 3)))
         self.assertEqual((stored.number, stored.place, str(stored)), (3, 3, str(Refusal(3, 3))))
+        self.assertEqual(str(pickle.loads(pickle.dumps(Refusal(4, 24, "fields")))), "fields has not the length needed, 24 (refusal 4 at 24)")
 
     def test_every_number_has_words(self):
         for number in range(1, 20):

@@ -242,7 +242,7 @@ pub fn counts(g: &mut Random, count: u64) -> u64 {
 pub fn time() {
     println!("a record with every field known, all switches on (ns per call, the one-altitude call, ratio):");
     for alt in [0.0, 50.0, 90.0, 150.0, 400.0, 1000.0] {
-        let (records, w) = timed(alt, 1);
+        let (records, w) = timed(alt, 1, 256);
         let (mut best, mut best_whole, mut sum) = (f64::INFINITY, f64::INFINITY, 0.0);
         for _ in 0..45 {
             let t = Instant::now();

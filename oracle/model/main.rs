@@ -1,6 +1,7 @@
 // Our one-altitude calls, gtd7 and gtd7d, against the Rust: the eleven numbers to the bit, the refusals, pairs under the shut-off list, the 1E-6 rule,
 // the published samples, calls of each elementary function, and time per call. Bands of switch rows, the crossings, the first altitude thin enough,
-// descents, the expansions, the line program, the call with nine constants, records known in part, prepared stations and the boards' logs stand in files of their own.
+// descents, the expansions, the line program, the call with nine constants, records known in part, many records, prepared stations and the boards' logs stand
+// in files of their own.
 mod bands;
 mod crossings;
 mod descent;
@@ -14,6 +15,7 @@ mod logs;
 mod parameters;
 #[path = "../random.rs"]
 mod random;
+mod records;
 mod stations;
 use calls::{numbers, one_altitude, ours, ours_column, potirehu_gtd7, potirehu_gtd7d, OneAltitude};
 use known::shut_off;
@@ -663,7 +665,7 @@ fn counts() {
 // The arguments that the Rust hands to exp, log, sin and cos over the records of the timings, in its order, to a file each: their bits in hexadecimal.
 fn arguments(folder: &str) {
     let altitudes = [0.0, 50.0, 90.0, 150.0, 400.0, 1000.0];
-    let sets: Vec<_> = altitudes.iter().flat_map(|alt| [timed(*alt, 1), timed(*alt, -1)]).collect();
+    let sets: Vec<_> = altitudes.iter().flat_map(|alt| [timed(*alt, 1, 256), timed(*alt, -1, 256)]).collect();
     counted::route::arguments();
     for k in 0..256 {
         for (records, w) in &sets {
@@ -676,10 +678,10 @@ fn arguments(folder: &str) {
     }
 }
 
-// What the timings run over: 256 records at an altitude, with the history where switch 9 asks for it, and the switch row.
-fn timed(alt: f64, nine: i32) -> (Vec<Input>, [i32; 24]) {
+// What the timings run over: records at an altitude, with the history where switch 9 asks for it, and the switch row.
+fn timed(alt: f64, nine: i32, count: usize) -> (Vec<Input>, [i32; 24]) {
     let mut g = Random(7);
-    let records = (0..256)
+    let records = (0..count)
         .map(|_| {
             let mut r = sample(1 + g.below(366) as i32, g.between(0.0, 86400.0), alt, g.between(-90.0, 90.0), g.between(-180.0, 180.0), g.between(0.0, 24.0), g.between(70.0, 250.0), g.between(70.0, 250.0), g.between(0.0, 50.0));
             if nine == -1 {
@@ -693,27 +695,28 @@ fn timed(alt: f64, nine: i32) -> (Vec<Input>, [i32; 24]) {
     (records, w)
 }
 
-fn time() {
+// The 256 records come again in each repeat, so that a branch can be foreseen; of 16,384 it hardly can.
+fn time(count: usize, repeats: usize) {
     for nine in [1, -1] {
-        println!("ns per call, all switches on, switch 9 at {nine} (ours, untouched Rust, ratio):");
+        println!("ns per call, all switches on, switch 9 at {nine}, {count} records (ours, untouched Rust, ratio):");
         for alt in [0.0, 50.0, 90.0, 150.0, 400.0, 1000.0] {
-            let (records, w) = timed(alt, nine);
+            let (records, w) = timed(alt, nine, count);
             let (mut best, mut best_rust) = (f64::INFINITY, f64::INFINITY);
             let mut sum = 0.0;
-            for _ in 0..15 {
+            for _ in 0..repeats {
                 let t = Instant::now();
                 for r in &records {
                     let mut row = [0.0; 11];
                     ours(r, &w, &mut row);
                     sum += row[5];
                 }
-                best = best.min(t.elapsed().as_nanos() as f64 / 256.0);
+                best = best.min(t.elapsed().as_nanos() as f64 / count as f64);
                 let flags = untouched::astro::atmosphere::Flags::new(w);
                 let t = Instant::now();
                 for r in &records {
                     sum += untouched::astro::atmosphere::gtd7(r, &flags).unwrap().d[5];
                 }
-                best_rust = best_rust.min(t.elapsed().as_nanos() as f64 / 256.0);
+                best_rust = best_rust.min(t.elapsed().as_nanos() as f64 / count as f64);
             }
             println!("  {alt:6} km: {best:8.0} {best_rust:8.0} {:5.2}{}", best / best_rust, if sum == 1.5 { "!" } else { "" });
         }
@@ -760,6 +763,7 @@ fn main() {
         Some("states") => states(&mut g, count),
         Some("expansions") => expansions::expansions(&mut g, count),
         Some("raised") => expansions::raised(&mut g, count),
+        Some("records") => records::records(&mut g, count),
         Some("columns") => columns(&mut g, count),
         Some("crossings") => crossings::crossings(&mut g, count),
         Some("first-below") => first_below::first_below(&mut g, count),
@@ -789,7 +793,9 @@ fn main() {
             0
         }
         Some("time") => {
-            time();
+            time(256, 15);
+            time(16_384, 5);
+            records::time();
             time_column();
             crossings::time();
             first_below::time();
@@ -803,7 +809,7 @@ fn main() {
             0
         }
         _ => {
-            eprintln!("model differential|gtd7d|lengths|pairs|pairs-fluxes|pairs-lst|pairs-d|states|expansions|raised|columns|crossings|first-below|descents|stations|hostile-stations|bands|banded|logs|parameters|parameters-present|known|pairs-known|fields-that-count|near|near-d|near-any [SEED] [COUNT], lines|hostile SEED COUNT PROGRAM, forms SEED COUNT INPUT OUTPUT, samples FILE, arguments FOLDER, counts, time");
+            eprintln!("model differential|gtd7d|lengths|pairs|pairs-fluxes|pairs-lst|pairs-d|states|expansions|raised|records|columns|crossings|first-below|descents|stations|hostile-stations|bands|banded|logs|parameters|parameters-present|known|pairs-known|fields-that-count|near|near-d|near-any [SEED] [COUNT], lines|hostile SEED COUNT PROGRAM, forms SEED COUNT INPUT OUTPUT, samples FILE, arguments FOLDER, counts, time");
             std::process::exit(2);
         }
     };

@@ -524,7 +524,7 @@ pub fn hostile(g: &mut Random, count: u64) -> u64 {
 // ---- time
 
 // The least time of each of these runs, made in turn, in nanoseconds for each of n.
-fn best<const K: usize>(repeats: usize, n: usize, mut runs: [&mut dyn FnMut() -> f64; K]) -> [f64; K] {
+pub fn best<const K: usize>(repeats: usize, n: usize, mut runs: [&mut dyn FnMut() -> f64; K]) -> [f64; K] {
     let mut least = [f64::INFINITY; K];
     for _ in 0..repeats {
         for (run, least) in runs.iter_mut().zip(&mut least) {
@@ -574,7 +574,7 @@ fn rust(r: &Input, flags: &untouched::astro::atmosphere::Flags) -> f64 {
 fn time_altitudes(nine: i32) {
     println!("ns per altitude of a station, all switches on, switch 9 at {nine} (ours, untouched Rust, ratio):");
     for alt in [0.0, 50.0, 90.0, 150.0, 400.0, 1000.0] {
-        let (records, w) = timed(alt, nine);
+        let (records, w) = timed(alt, nine, 256);
         let flags = untouched::astro::atmosphere::Flags::new(w);
         let stations: Vec<Station> = records.iter().map(|r| prepared(r, &w)).collect();
         let step = if alt == 0.0 { 1.0 / 64.0 } else { -1.0 / 64.0 };
@@ -593,7 +593,7 @@ fn time_altitudes(nine: i32) {
 
 // Preparing, and each change beside it.
 fn time_changes(nine: i32) {
-    let (records, w) = timed(400.0, nine);
+    let (records, w) = timed(400.0, nine, 256);
     let mut stations: Vec<Station> = records.iter().map(|r| prepared(r, &w)).collect();
     println!("ns of a station's other calls, switch 9 at {nine} (ours, ratio to preparing):");
     let [preparing] = best(15, records.len(), [&mut || stations.iter_mut().zip(&records).map(|(s, r)| prepare(s, r, &w)).sum()]);

@@ -32,6 +32,9 @@ extern "C" {
     pub fn potirehu_gtd7(
         year: i32, doy: i32, fields: *const f64, n_fields: u64, ap_array: *const f64, n_ap: u64, switches: *const i32,
         n_switches: u64, row: *mut f64, n_row: u64) -> u64;
+    pub fn potirehu_gtd7_records(
+        days: *const i32, n: u64, fields: *const f64, n_fields: u64, ap_arrays: *const f64, n_aps: u64, switches: *const i32,
+        n_switches: u64, answers: *mut u64, n_answers: u64, rows: *mut f64, n_rows: u64) -> u64;
     pub fn potirehu_gtd7_column(
         year: i32, doy: i32, fields: *const f64, n_fields: u64, ap_array: *const f64, n_ap: u64, switches: *const i32,
         n_switches: u64, altitudes: *const f64, n: u64, rows: *mut f64, n_rows: u64) -> u64;

@@ -23,6 +23,7 @@ mod descent;
 mod ffi;
 mod known_in_part;
 mod logs;
+mod many_records;
 mod one_altitude;
 mod record;
 mod refusal;
@@ -33,6 +34,7 @@ pub use column::{column, column_into, crossings, crossings_into, first_below, MA
 pub use descent::{descent, descent_into, Descent, End, Ending, MAX_ORBITS};
 pub use known_in_part::{counts, gtd7_known, known};
 pub use logs::{compare_logs, Finding, Log};
+pub use many_records::{records, records_into, Answer};
 pub use one_altitude::{gtd7, gtd7_with, gtd7d, nrlmsise00, nrlmsise00_with_lst, Parameters};
 pub use record::{local_solar_time, ApArray, Flags, NrlmsiseInput, NrlmsiseOutput};
 pub use record::{DEFAULT_AP, DEFAULT_F107, DEFAULT_F107A, MAX_ALTITUDE_KM};

@@ -85,6 +85,37 @@ fn each_constant_has_its_place() {
     }
 }
 
+// Days that change and stay, every kind of altitude after every other, with a history, without, and mixed, refused ones in between.
+#[test]
+fn many_records_are_gtd7() {
+    let mut all: Vec<NrlmsiseInput> = vec![];
+    for (i, input) in records().into_iter().enumerate() {
+        for (j, alt) in ALTITUDES.into_iter().enumerate() {
+            for (k, after) in ALTITUDES.into_iter().enumerate() {
+                all.push(NrlmsiseInput { alt, doy: 1 + (i + j) as i32, ..input });
+                all.push(NrlmsiseInput { alt: after, doy: 1 + (i + j + k % 2) as i32, ..input });
+                all.push(NrlmsiseInput { doy: if k % 3 == 0 { 367 } else { 12 }, lst: if k % 3 == 1 { f64::NAN } else { 1.0 }, ..input });
+            }
+        }
+    }
+    let without: Vec<NrlmsiseInput> = all.iter().map(|input| NrlmsiseInput { ap_array: None, ..*input }).collect();
+    let mixed: Vec<NrlmsiseInput> = all.iter().zip(&without).enumerate().map(|(i, (a, b))| if i % 7 < 3 { *a } else { *b }).collect();
+    let mut refused = 0;
+    for flags in rows_of_switches() {
+        for list in [&all, &without, &mixed] {
+            let air = potirehu::records(list, &flags);
+            assert_eq!(air.len(), list.len());
+            for (input, air) in list.iter().zip(air) {
+                let alone = gtd7(input, &flags);
+                refused += alone.is_err() as usize;
+                assert_eq!(air.map(|row| bits(&row)), alone.map(|row| bits(&row)));
+            }
+        }
+    }
+    assert!(refused > all.len());
+    assert_eq!(potirehu::records(&[], &Flags::metric()), []);
+}
+
 #[test]
 fn column_is_gtd7() {
     for flags in rows_of_switches() {
@@ -108,6 +139,18 @@ fn longer_buffers_keep_their_rest() {
     column_into(&SAMPLE, &Flags::metric(), &[200.0, 400.0], &mut rows).unwrap();
     assert_eq!(rows[1], gtd7(&SAMPLE, &Flags::metric()).unwrap());
     assert_eq!(rows[2..], [mark; 2]);
+
+    let mark_answer = {
+        let mut one = [Answer::default()];
+        records_into(&[367], &[[0.0; 8]], &[], &Flags::metric(), &mut one, &mut [mark]).unwrap();
+        one[0]
+    };
+    let (mut answers, mut rows) = ([mark_answer; 4], [mark; 4]);
+    let fields = [[29000.0, 400.0, 60.0, -70.0, 16.0, 150.0, 150.0, 4.0], [f64::NAN; 8]];
+    records_into(&[172, 172], &fields, &[], &Flags::metric(), &mut answers, &mut rows).unwrap();
+    assert_eq!(rows, [gtd7(&SAMPLE, &Flags::metric()).unwrap(), mark, mark, mark]);
+    assert_eq!(answers[1].accepted(), Err(Refusal { kind: Kind::NonFiniteInput, place: 2 }));
+    assert_eq!((answers[0].accepted(), &answers[2..]), (Ok(()), &[mark_answer; 2][..]));
 
     let mut list = [77; 4];
     let climb = [200.0, 300.0, 400.0];

@@ -39,6 +39,8 @@ fn field(place: u32, x: f64) -> NrlmsiseInput {
     input
 }
 
+const SAMPLE_FIELDS: [f64; 8] = [29000.0, 400.0, 60.0, -70.0, 16.0, 150.0, 150.0, 4.0];
+
 const NAMES: [&str; 17] = [
     "year",
     "doy",
@@ -166,6 +168,22 @@ fn numbers_4_5_8_9_of_columns() {
 
     let climb = [200.0, 300.0, 400.0];
     refused(crossings_into(&SAMPLE, &on(), &climb, 1e-11, &mut []), 9, 1, "the list needs a length of 1");
+}
+
+// Rows, answers, fields, histories: each of the wrong length with all behind it wrong too.
+#[test]
+fn number_4_of_many_records() {
+    let mark = NrlmsiseOutput { d: [-1.0; 9], t: [-1.0; 2] };
+    let (days, fields, histories) = ([172; 3], [SAMPLE_FIELDS; 4], [HISTORY; 2]);
+    let (mut answers, mut rows) = ([Answer::default(); 3], [mark; 3]);
+    for (n_rows, n_answers, n_fields, n_histories, needed) in
+        [(2, 2, 4, 2, 33), (3, 2, 4, 2, 3), (3, 3, 4, 2, 24), (3, 3, 2, 0, 24), (3, 3, 3, 2, 21), (0, 0, 0, 0, 33)]
+    {
+        let (answers, rows) = (&mut answers[..n_answers], &mut rows[..n_rows]);
+        let four = records_into(&days, &fields[..n_fields], &histories[..n_histories], &on(), answers, rows);
+        refused(four, 4, needed, &format!("a slice has not the length needed, {needed}"));
+    }
+    assert_eq!((answers, rows), ([Answer::default(); 3], [mark; 3]));
 }
 
 #[test]
