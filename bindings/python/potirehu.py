@@ -265,7 +265,10 @@ def _room(count, kind=ctypes.c_double):
 
 def _lent(buffer, what, kind, formats, name, written=False):
     # a buffer's own memory as an array; where that may not be written to, and need not, a copy
-    view = memoryview(buffer)
+    try:
+        view = memoryview(buffer)
+    except TypeError:
+        raise TypeError(f"{what} must be a buffer of {name}, as array.array or a numpy array, not {type(buffer).__name__}") from None
     if view.itemsize != ctypes.sizeof(kind) or view.format.lstrip("@=<") not in tuple(formats):
         raise TypeError(f"{what} must be a buffer of {name}, and is one of {view.itemsize} bytes with the format {view.format!r}")
     if not view.c_contiguous:

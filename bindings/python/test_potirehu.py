@@ -300,7 +300,8 @@ class ManyRecords(unittest.TestCase):
             (days, fields, None, answers, memoryview(bytes(rows)).cast("d")),
             ("172", fields, None, answers, rows),
         ):
-            self.assertRaises(TypeError, potirehu.records_into, *wrong)
+            with self.assertRaisesRegex(TypeError, "^(days|fields|answers|rows) (must|is written)"):
+                potirehu.records_into(*wrong)
         for what, wrong in (
             ("fields", (days, fields, None, answers, memoryview(fields))),
             ("ap_arrays", (days, fields, rows, answers, rows)),
