@@ -1,4 +1,4 @@
--- Tests of lengths by quotient and remainder, and the place of a refusal from 32 bits of the count.
+-- The place of a refusal from 32 bits of the count, and what each length gives.
 use Prim.Native.Nat.{ℕ, _+_, _-_, _*_, _/_, _%_, _<_, _≤_}
 use mathlib.Core.Path.{_≡_, refl, sym, ap, _∙_}
 use mathlib.Core.Bool.{Bool, true, false, cond, not, _&&_, _||_, false≢true}
@@ -16,28 +16,6 @@ use Rattle.acceptance.specs.declared.Answer.the-variants.{Accepted, Refused}
 use Rattle.acceptance.specs.Acceptance.{acceptedOf}
 use Rattle.host_record.specs.Record.{packedOf, codeOf, recordOf}
 use Rattle.record_list.specs.RecordList.{Listed, recordAt, lengthsAnswer}
-
-pub eleven-each : (len count : ℕ) → ltb (len / 11) count ≡ ltb len (11 * count)
-eleven-each len count = go (ltb (len / 11) count) refl
-  where
-    go : (b : Bool) → ltb (len / 11) count ≡ b → b ≡ ltb len (11 * count)
-    go true e = let h = ltb-true (len / 11) count e in sym (lt-ltb len (11 * count) (omega (arith, h)))
-    go false e = let h = ltb-false (len / 11) count e in sym (le-ltb len (11 * count) (omega (arith, h)))
-
-module _ (len count k : ℕ) (split : len ≡ k * count → (len / k ≡ count) × (len % k ≡ 0)) (whole : len / k ≡ count → len % k ≡ 0 → len ≡ k * count) where
-  pub each-of : (not (eqb (len / k) count) || not (eqb (len % k) 0)) ≡ not (eqb len (k * count))
-  each-of = go (eqb (len / k) count) (eqb (len % k) 0) refl refl
-    where
-      go : (a b : Bool) → eqb (len / k) count ≡ a → eqb (len % k) 0 ≡ b → (not a || not b) ≡ not (eqb len (k * count))
-      go true true e f = ap not (sym (eq-eqb len (k * count) (whole (eqb-true _ _ e) (eqb-true _ _ f))))
-      go true false e f = ap not (sym (ne-eqb len (k * count) (λ z. eqb-false _ _ f (split z .1))))
-      go false b e f = ap not (sym (ne-eqb len (k * count) (λ z. eqb-false _ _ e (split z .0))))
-
-pub eight-each : (len count : ℕ) → (not (eqb (len / 8) count) || not (eqb (len % 8) 0)) ≡ not (eqb len (8 * count))
-eight-each len count = each-of len count 8 (λ e. (omega (arith, e), omega (arith, e))) (λ e f. omega (arith, e, f))
-
-pub seven-each : (len count : ℕ) → (not (eqb (len / 7) count) || not (eqb (len % 7) 0)) ≡ not (eqb len (7 * count))
-seven-each len count = each-of len count 7 (λ e. (omega (arith, e), omega (arith, e))) (λ e f. omega (arith, e, f))
 
 -- 32 bits of a product, from 32 bits of the count
 low : (k count x : ℕ) → k * count ≡ 4294967296 * x + k * (count % 4294967296) → k * (count % 4294967296) % 4294967296 ≡ k * count % 4294967296

@@ -24,23 +24,33 @@ pub fn record_at(days: &[i32], fields: &[f64], ap_arrays: &[f64], k: usize) -> I
     record_of(0, doy, &fields[at..at + 8], &ap_arrays[first..first + 7])
 }
 
-// Tests of lengths that no product can overflow: whether count parts of eleven have no room, whether there are not eight for each, not seven.
+// Whether count parts of eleven have no room, whether there are not eight for each, not seven. A count whose product has more than 64 bits is beyond every
+// length; no quotient, which a processor of 32 bits would call a function for.
 pub fn no_room(len: usize, count: usize) -> bool
     ensures { λ r. ⌜ r ≡ ltb len (11 * count) ⌝ }
 {
-    len / 11 < count
+    if count > 1676976733973595601 {
+        return true;
+    }
+    len < 11 * count
 }
 
 pub fn not_eight(len: usize, count: usize) -> bool
     ensures { λ r. ⌜ r ≡ not (eqb len (8 * count)) ⌝ }
 {
-    (len / 8 != count) | (len % 8 != 0)
+    if count > 2305843009213693951 {
+        return true;
+    }
+    len != 8 * count
 }
 
 pub fn not_seven(len: usize, count: usize) -> bool
     ensures { λ r. ⌜ r ≡ not (eqb len (7 * count)) ⌝ }
 {
-    (len / 7 != count) | (len % 7 != 0)
+    if count > 2635249153387078802 {
+        return true;
+    }
+    len != 7 * count
 }
 
 // 4 with the length that is needed, for the first slice that has not its length: rows, answers, fields, ap_arrays, switches; 0 where all have. A
