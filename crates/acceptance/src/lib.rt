@@ -1,4 +1,7 @@
 // Whether the one-altitude call accepts a record: refusals 2, 1 and 3 of document 01, then 10 of document 02, in this order, with their places.
+
+#![tactic(auto)]
+
 ghost use Rattle.std.specs.Prelude.{◌≡◌, cond};
 ghost use Rattle.setting.specs.Switches.{given, is_one};
 ghost use Rattle.acceptance.specs.Acceptance.{within_of, day_within, array_unfit_of, unfit_of, array_outside_of, outside_of, found_of, judged_of, accepted_of, unmixed_of, record_answer, with_alt_of};
@@ -8,7 +11,7 @@ use setting::Input;
 use setting::ap_history::{absent, lacks_history};
 
 // What a call answers: accepted, or a refusal's number and place.
-#[derive(Drop)]
+#[derive(Clone, Copy)]
 pub enum Answer {
     Accepted,
     Refused(usize, usize),

@@ -1,4 +1,7 @@
 // Magnetic activity: g0, sumex, sg0, and what globe7 leaves in apdf and apt.
+
+#![tactic(auto)]
+
 ghost use Rattle.std.specs.Prelude.{◌≡◌};
 ghost use Rattle.activity.specs.Activity.{g0_of, sumex_of, weighted_mean_of, exp1_of, apdf_from_of, apdf_next_of, apt_next_of};
 ghost use Rattle.activity.specs.Responses.{responses_of, sg0_from, apt_from};
@@ -46,7 +49,7 @@ pub fn weighted_mean(
 }
 
 // g0 of the six later values of the history.
-#[derive(Drop)]
+#[derive(Clone, Copy)]
 pub struct Responses {
     pub g1: f64,
     pub g2: f64,

@@ -1,4 +1,7 @@
 // What a column's record, its altitudes and the length of its buffer meet.
+
+#![tactic(auto)]
+
 ghost use Rattle.std.specs.Prelude.{◌≡◌};
 ghost use Rattle.altitudes.specs.Altitudes.{altitudes_from, unmixed_from, judged_all_of, column_answer};
 ghost use Rattle.altitudes.specs.Within.{all_within};

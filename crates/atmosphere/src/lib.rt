@@ -1,4 +1,7 @@
 // gtd7 and the one-altitude call.
+
+#![tactic(auto)]
+
 ghost use Rattle.std.specs.Prelude.{◌≡◌, length, true, false, cond};
 ghost use Rattle.std.specs.Float.Ieee.{lt, le, eq};
 ghost use Rattle.numbers.specs.Arithmetic.{◌‼◌};
@@ -25,7 +28,7 @@ use thermosphere::gts7_stage;
 use unmixed::unmixed_row;
 
 // A row, and N2's mixed density in gts7, which no row holds.
-#[derive(Drop)]
+#[derive(Clone, Copy)]
 pub struct RowAbove {
     pub row: [f64; 11],
     pub dm28: f64,

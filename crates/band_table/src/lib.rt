@@ -1,11 +1,14 @@
 // W-208: the row of a metre in a table of bands, whatever the table holds, and a metre as an altitude.
+
+#![tactic(auto)]
+
 ghost use Rattle.std.specs.Prelude.{◌≡◌, ◌+◌, ◌≤◌, length, take, drop, false, pos};
 ghost use Rattle.std.specs.Int.Signed.{lt_z};
 ghost use Rattle.band_table.specs.Table.{band_count, no_row, band_row};
 ghost use Rattle.band_table.specs.Kilometres.{kilometres_of_metres};
 
 // The row of a metre, if there is one.
-#[derive(Drop)]
+#[derive(Clone, Copy)]
 pub struct Row {
     pub found: bool,
     pub switches: [i32; 24],

@@ -1,4 +1,7 @@
 // W-208: the one-altitude call at a whole metre, with the switch row that a table of bands has there.
+
+#![tactic(auto)]
+
 ghost use Rattle.std.specs.Prelude.{◌≡◌, length};
 ghost use Rattle.bands.specs.Bands.{banded_answer, banded_after};
 

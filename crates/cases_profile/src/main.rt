@@ -1,4 +1,7 @@
 // Runs document 01's cases of mixing, splines and profiles and prints the bits of each answer, or its refusal.
+
+#![tactic(auto)]
+
 ghost use Rattle.std.specs.Prelude.{◌<◌};
 
 use mixing::{ccor, dnet};

@@ -1,5 +1,8 @@
 // Runs the 17 published samples of the C release and prints whether all eleven numbers agree with the published figures. Made by
 // scripts/samples.py.
+
+#![tactic(auto)]
+
 use atmosphere::gtd7;
 use numbers::abs;
 use setting::{History, Input};

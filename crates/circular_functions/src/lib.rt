@@ -1,5 +1,8 @@
 // sin and cos on f64, by whole numbers alone: quarter turns are taken off the argument, and the sine and the cosine of
 // what is left come from a table's entry and a short series.
+
+#![tactic(auto)]
+
 ghost use Rattle.std.specs.Prelude.{◌≡◌, ℕ, ◌+◌, ◌-◌, ◌*◌, ◌/◌, ◌^◌, ◌<◌, ◌≤◌, Float};
 ghost use Rattle.std.specs.Float.{fin, binary64};
 ghost use Rattle.std.specs.Float.Ieee.{is_nan};

@@ -1,10 +1,13 @@
 // The tables of sin and cos, as one function that matches on the index: a constant array that is indexed by a variable is built
 // on the stack at each use, and a match becomes a table in read-only memory.
+
+#![tactic(auto)]
+
 ghost use Rattle.std.specs.Prelude.{◌≡◌, ◌<◌, get_or};
 ghost use Rattle.circular_tables.specs.Tables.{sines, cosines};
 
 // The sine and the cosine of one angle.
-#[derive(Drop)]
+#[derive(Clone, Copy)]
 pub struct SineCosine(pub u64, pub u64);
 
 // sin (i/256) and cos (i/256) in units of 2^-58. Made by scripts/elementary/generate.py. The last arm is never reached; with the 0 of the first in it, the

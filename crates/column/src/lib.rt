@@ -1,4 +1,7 @@
 // The column: one record at 0 to 512 altitudes, each altitude's eleven numbers in its own part of the lent buffer.
+
+#![tactic(auto)]
+
 ghost use Rattle.std.specs.Prelude.{◌≡◌, ◌++◌, ◌*◌, ◌≤◌, length, take, drop};
 ghost use Rattle.views.specs.View.{view_of};
 ghost use Rattle.acceptance.specs.declared.Answer.TheVariants.{Accepted};

@@ -1,4 +1,7 @@
 // Which fields of a record count under a switch row: demand 3's own list, entry by entry.
+
+#![tactic(auto)]
+
 ghost use Rattle.std.specs.Prelude.{◌≡◌, get_or, true};
 ghost use Rattle.shutoff.specs.Shut.{shut, nine_is_zero, off};
 ghost use Rattle.counts.specs.Counts.{counts_of};

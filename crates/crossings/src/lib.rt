@@ -1,4 +1,7 @@
 // Where d[5] of a column passes a level: document 02's W-206, over what is stored for the column's altitudes.
+
+#![tactic(auto)]
+
 ghost use Rattle.std.specs.Prelude.{◌≡◌, ◌++◌, ◌≤◌, length, drop};
 ghost use Rattle.acceptance.specs.declared.Answer.TheVariants.{Accepted};
 ghost use Rattle.crossings_list.specs.declared.Listing.TheVariants.{Listed};

@@ -1,9 +1,12 @@
 // Where densities pass a level, and whether altitudes rise (document 02, W-206, without the model).
+
+#![tactic(auto)]
+
 ghost use Rattle.std.specs.Prelude.{◌≡◌, true, cond, ◌++◌, ◌+◌, ◌-◌, ◌<◌, ◌≤◌, length, drop, set};
 ghost use Rattle.crossings_list.specs.CrossingsList.{passes_of, crossings_of, list_answer, list_after, altitudes_rise};
 
 // How long the list is, or a refusal's number and place.
-#[derive(Drop)]
+#[derive(Clone, Copy)]
 pub enum Listing {
     Listed(usize),
     Refused(usize, usize),

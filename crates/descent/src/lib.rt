@@ -1,4 +1,7 @@
 // A descent, orbit by orbit: document 02's W-212, over a station that is prepared once.
+
+#![tactic(auto)]
+
 ghost use Rattle.std.specs.Prelude.{◌≡◌, true, ◌≤◌, length};
 ghost use Rattle.numbers.specs.Literals.{0·0};
 ghost use Rattle.acceptance.specs.declared.Answer.TheVariants.{Accepted};

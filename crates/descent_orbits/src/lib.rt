@@ -1,4 +1,7 @@
 // A descent orbit by orbit (document 02, W-212), without the model: an orbit from its density, the refusals of its own, and the lent memory.
+
+#![tactic(auto)]
+
 ghost use Rattle.std.specs.Prelude.{◌≡◌, true, false, ◌≤◌, ◌<◌, pos, length, set};
 ghost use Rattle.descent_orbits.specs.DescentOrbits.{whole_part, density_by_setting, no_density_of, orbit_of, kilometres_of_millimetres, start_within, millimetres_of, setting_within, unfit_setting, descent_refusal};
 ghost use Rattle.descent_orbits.specs.Lent.{ending_number, end_numbers};
@@ -7,7 +10,7 @@ use acceptance::Answer;
 use fixed_point::scaled;
 
 // How a descent ends.
-#[derive(Drop)]
+#[derive(Clone, Copy)]
 pub enum Ending {
     NoDensity,
     Reached,
@@ -15,14 +18,14 @@ pub enum Ending {
 }
 
 // What an orbit does: it ends the descent, or it takes its loss in millimetres.
-#[derive(Drop)]
+#[derive(Clone, Copy)]
 pub enum Orbit {
     Ends(Ending),
     Loses(u64),
 }
 
 // A descent's answer: how it ended, its last altitude in millimetres and how many losses it took; or a refusal's number and place.
-#[derive(Drop)]
+#[derive(Clone, Copy)]
 pub enum Descended {
     Ended(Ending, u64, usize),
     Refused(usize, usize),

@@ -1,4 +1,7 @@
 // gtd7d: the one-altitude call with the mass density for drag.
+
+#![tactic(auto)]
+
 ghost use Rattle.std.specs.Prelude.{◌≡◌, length};
 ghost use Rattle.setting.specs.Switches.{given, is_one, on_off};
 ghost use Rattle.atmosphere.specs.Atmosphere.{answer_of};

@@ -1,4 +1,7 @@
 // gtd7d's own arithmetic: d[5] of a row of eleven summed again, with anomalous oxygen.
+
+#![tactic(auto)]
+
 ghost use Rattle.std.specs.Prelude.{◌≡◌, length};
 ghost use Rattle.drag_sum.specs.DragSum.{drag_sum_of, drag_mass_of, dragged_of};
 

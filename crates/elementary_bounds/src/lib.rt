@@ -1,1 +1,4 @@
 // No code: the bounds of the elementary functions, shown from their definitions.
+
+#![tactic(auto)]
+

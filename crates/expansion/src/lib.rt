@@ -1,4 +1,7 @@
 // globe7 and glob7s over a View: the State after, and the value.
+
+#![tactic(auto)]
+
 ghost use Rattle.std.specs.Prelude.{◌≡◌, ◌≤◌, length};
 ghost use Rattle.views.specs.Shared.{Shared};
 ghost use Rattle.expansion.specs.Expansion.{first_terms_of, carried_of, globe7_given, turns_after_of, state_after, globe7_of, glob7s_given, glob7s_from_given, glob7s_of};
@@ -15,7 +18,7 @@ use terms::{f1, f2, t0, t1, t1s, t2s, t3, t3s, t4, t4s, t5};
 use views::Turns;
 
 // t[0] to t[5] of globe7.
-#[derive(Drop)]
+#[derive(Clone, Copy)]
 pub struct FirstTerms {
     pub t0: f64,
     pub t1: f64,
@@ -26,7 +29,7 @@ pub struct FirstTerms {
 }
 
 // What State carries for the terms, beside the Legendre values.
-#[derive(Drop)]
+#[derive(Clone, Copy)]
 pub struct Carried {
     pub dfa: f64,
     pub ctloc: f64,

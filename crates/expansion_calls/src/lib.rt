@@ -1,4 +1,7 @@
 // The public calls globe7 and glob7s, from a switch row, a record, coefficients and a State, with their refusals.
+
+#![tactic(auto)]
+
 ghost use Rattle.std.specs.Prelude.{◌≡◌};
 ghost use Rattle.expansion_calls.specs.ExpansionCalls.{globe7_call_of, glob7s_call_of};
 
@@ -8,7 +11,7 @@ use views::view_of;
 
 // What an expansion's call gives: refused is document 01's number with its place, or 0 and 0 where the call is accepted.
 // A refused call gives the value 0 and the State that it was given.
-#[derive(Drop)]
+#[derive(Clone, Copy)]
 pub struct Expanded {
     pub refused: usize,
     pub place: usize,

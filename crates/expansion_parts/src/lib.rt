@@ -1,4 +1,7 @@
 // The terms under their switches, the cosines with a phase, and the weighted sum.
+
+#![tactic(auto)]
+
 ghost use Rattle.std.specs.Prelude.{◌≡◌, ◌≤◌, length};
 ghost use Rattle.views.specs.Phases.{annual_cos_of, semiannual_cos_of, local_cos_of, ut_cos_of, ut_long_cos_of, long_phase_cos_of};
 ghost use Rattle.numbers.specs.Literals.{0·0};
@@ -15,7 +18,7 @@ use terms::{
 use views::phases::{annual_cos, local_cos, long_phase_cos, semiannual_cos, ut_cos, ut_long_cos};
 
 // The four cosines of the day that an expansion reads.
-#[derive(Drop)]
+#[derive(Clone, Copy)]
 pub struct Seasons {
     pub cd32: f64,
     pub cd18: f64,
@@ -24,7 +27,7 @@ pub struct Seasons {
 }
 
 // The four that the longitude's term of glob7s reads besides: of the phases p[81], p[86], p[84], p[88].
-#[derive(Drop)]
+#[derive(Clone, Copy)]
 pub struct LongitudeSeasons {
     pub cd82: f64,
     pub cd87: f64,

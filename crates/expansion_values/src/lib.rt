@@ -1,4 +1,7 @@
 // The values of the expansions that gtd7 asks for from a fresh State, each worked out once.
+
+#![tactic(auto)]
+
 ghost use Rattle.std.specs.Prelude.{◌≡◌, ◌+◌, ◌*◌, ◌<◌, ◌≤◌, true, cond, length};
 ghost use Rattle.std.specs.Float.{binary64};
 ghost use Rattle.std.specs.Float.Ieee.{of_int};
@@ -51,7 +54,7 @@ pub fn quiet(v: View) -> Carried
 }
 
 // Magnetic activity by the coefficients that most sets share: apdf of the daily ap, or the responses to the history.
-#[derive(Drop)]
+#[derive(Clone, Copy)]
 pub struct Activity {
     pub apdf: f64,
     pub g: Responses,
@@ -463,7 +466,7 @@ pub fn expansion_values_of(v: View, n: Need, s: &[f64]) -> ExpansionValues
 
 // What gts7 and gtd7 read of a record under a switch row, its altitude apart: the switches' main effects, the sine of the latitude and the day's cosine
 // with PT's phase, the expansions' values. The View ends here, so that no more of it lies on the stack.
-#[derive(Drop)]
+#[derive(Clone, Copy)]
 pub struct RecordValues {
     pub sw: [f64; 24],
     pub slat: f64,

@@ -1,5 +1,8 @@
 // The tables of exp. Each is a function that matches on the index: a constant array that is indexed by a variable
 // is built on the stack at each use, and a match becomes a table in read-only memory.
+
+#![tactic(auto)]
+
 ghost use Rattle.std.specs.Prelude.{◌≡◌, ◌<◌, get_or};
 ghost use Rattle.exponential_tables.specs.Tables.{coarse, fine};
 

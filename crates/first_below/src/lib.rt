@@ -1,4 +1,7 @@
 // The first altitude of a column whose d[5] is below a level: document 02's W-214. What an altitude reads is stored when the walk first reaches it.
+
+#![tactic(auto)]
+
 ghost use Rattle.std.specs.Prelude.{◌≡◌, length};
 ghost use Rattle.acceptance.specs.declared.Answer.TheVariants.{Accepted};
 ghost use Rattle.altitudes.specs.Altitudes.{altitudes_from};

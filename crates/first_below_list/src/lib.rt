@@ -1,9 +1,12 @@
 // The first of a column's rows whose d[5] is below a level (document 02, W-214, without the model).
+
+#![tactic(auto)]
+
 ghost use Rattle.std.specs.Prelude.{◌≡◌, cond, length};
 ghost use Rattle.first_below_list.specs.FirstBelowList.{is_below};
 
 // The index of the first altitude thin enough, none, or a refusal's number and place.
-#[derive(Drop)]
+#[derive(Clone, Copy)]
 pub enum First {
     At(usize),
     Nowhere,

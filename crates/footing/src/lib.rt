@@ -1,4 +1,7 @@
 // gtd7 below 72.5 km: what gts7 at 72.5 km gives to every altitude there, worked out once, and the row of an altitude.
+
+#![tactic(auto)]
+
 ghost use Rattle.std.specs.Prelude.{◌≡◌, true, false};
 ghost use Rattle.numbers.specs.Literals.{72·5};
 ghost use Rattle.mixing_limits.specs.Limits.{some_mixed};
@@ -21,7 +24,7 @@ use tables::{pdl1, pdm0, pdm1, pdm2, pdm3, pdm4};
 use thermosphere::shape_stage;
 
 // densm's layers for N2: from 72.5 to 32.5 km, the density at 32.5 km, from there down.
-#[derive(Drop)]
+#[derive(Clone, Copy)]
 pub struct Curves {
     pub upper: Span,
     pub d32: f64,
@@ -30,7 +33,7 @@ pub struct Curves {
 
 // What every altitude below 72.5 km reads of gts7 there: t[0], the mixed density of N2 and d[0], d[2], d[3], d[4] in the units asked for; the
 // nodes from there to 32.5 km, and the layers.
-#[derive(Drop)]
+#[derive(Clone, Copy)]
 pub struct Footing {
     pub x: Site,
     pub tinf: f64,
@@ -44,7 +47,7 @@ pub struct Footing {
 }
 
 // The species at 72.5 km whose share of N2 the altitudes below carry on.
-#[derive(Drop)]
+#[derive(Clone, Copy)]
 pub struct Three {
     pub he: Mixture,
     pub o2: Mixture,
@@ -87,7 +90,7 @@ pub fn three_of(
 
 // What the altitudes below 72.5 km read of gts7's densities there: those of He, N2, O2 and Ar in the units asked for, and N2's mixed density. known
 // says that they are at hand.
-#[derive(Drop)]
+#[derive(Clone, Copy)]
 pub struct Summit {
     pub known: bool,
     pub he: f64,

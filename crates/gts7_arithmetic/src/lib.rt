@@ -1,4 +1,7 @@
 // The arithmetic of gts7 around its expansions and species: place, temperatures, nodes, totals.
+
+#![tactic(auto)]
+
 ghost use Rattle.std.specs.Prelude.{◌≡◌};
 ghost use Rattle.species.specs.Places.{spine_at, place_at};
 ghost use Rattle.gts7_arithmetic.specs.Gts7Arithmetic.{site_from, site_with, site_of, varied_of, mean_of, shape_of, anomalous_of, mass_of, units_of, row_of, gather_of};
@@ -14,7 +17,7 @@ use species::{Blend, Mixture, temperature};
 use tables::{pdl0, pdl1, pdm7, pt};
 
 // What gts7 and gtd7 read besides the altitude: of the record gravity, the turbopause's factor and the flux factor; and the nine constants.
-#[derive(Drop)]
+#[derive(Clone, Copy)]
 pub struct Site {
     pub gsurf: f64,
     pub re: f64,
@@ -24,14 +27,14 @@ pub struct Site {
 }
 
 // The temperature nodes tn1 and gradients tgn1, element 0 not set.
-#[derive(Drop)]
+#[derive(Clone, Copy)]
 pub struct Nodes {
     pub tn: [f64; 5],
     pub tgn: [f64; 2],
 }
 
 // The six species that blend with N2.
-#[derive(Drop)]
+#[derive(Clone, Copy)]
 pub struct SixSpecies {
     pub he: Mixture,
     pub o: Mixture,
@@ -42,7 +45,7 @@ pub struct SixSpecies {
 }
 
 // What gts7 answers: nine densities, the temperature at altitude, and what gtd7 and State keep of it.
-#[derive(Drop)]
+#[derive(Clone, Copy)]
 pub struct Gts7Output {
     pub d: [f64; 9],
     pub t1: f64,
@@ -88,7 +91,7 @@ pub fn site_of(sw: [f64; 24], lat: f64, doy: f64, f107a: f64) -> Site
 }
 
 // A number for each set that the nodes of the lower thermosphere read: their first coefficients, or the answers.
-#[derive(Drop)]
+#[derive(Clone, Copy)]
 pub struct ThermoSets {
     pub ptl0: f64,
     pub ptl1: f64,

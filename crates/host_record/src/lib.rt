@@ -1,4 +1,7 @@
 // A record, a switch row and nine constants out of the host's numbers and slices, and an answer as one number.
+
+#![tactic(auto)]
+
 pub mod nine;
 
 ghost use Rattle.std.specs.Prelude.{◌≡◌, length};

@@ -1,4 +1,7 @@
 // The one-altitude call for a record of which only some fields are known.
+
+#![tactic(auto)]
+
 ghost use Rattle.std.specs.Prelude.{◌≡◌, length};
 ghost use Rattle.known.specs.Known.{filled_answer_at, known_answer, known_row};
 

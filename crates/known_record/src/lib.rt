@@ -1,4 +1,7 @@
 // A record of which only some fields are known: with 0 in the others, the lowest field that is lacking, and the answer; marks as numbers.
+
+#![tactic(auto)]
+
 ghost use Rattle.std.specs.Prelude.{◌≡◌, ◌<◌, pos, length, get_or};
 ghost use Rattle.known_record.specs.KnownRecord.{known_at, whole_known, float_known, only_known, lacking_field, filled_answer, marks_of};
 

@@ -1,4 +1,7 @@
 // densm in two parts for many altitudes: what a layer's nodes fix for all of them, and what an altitude reads there.
+
+#![tactic(auto)]
+
 ghost use Rattle.std.specs.Prelude.{◌≡◌, ◌≤◌};
 ghost use Rattle.profile.specs.Curve.{layer_of};
 ghost use Rattle.layers.specs.Layers.{first_five, span_of, blank_of, layer_read, down_of};
@@ -12,7 +15,7 @@ use spline::nodes::{splini, splint};
 
 // What the nodes fix: the temperature t1 at the first, the height zgdif of the last, a gas's exponent gamm for an integral of 1, and the spline,
 // of at most five nodes.
-#[derive(Drop)]
+#[derive(Clone, Copy)]
 pub struct Span {
     pub t1: f64,
     pub zgdif: f64,
@@ -23,7 +26,7 @@ pub struct Span {
 }
 
 // The inverse temperature and its integral.
-#[derive(Drop)]
+#[derive(Clone, Copy)]
 pub struct Read {
     pub y: f64,
     pub yi: f64,

@@ -1,4 +1,7 @@
 // The Legendre values of a latitude: an array of four arrays, and flat as State holds them.
+
+#![tactic(auto)]
+
 ghost use Rattle.std.specs.Prelude.{◌≡◌};
 ghost use Rattle.legendre.specs.Legendre.{legendre_of, flat_of, row0_of, row1_of, row2_of, row3_of, rows_of};
 

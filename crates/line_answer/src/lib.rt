@@ -1,4 +1,7 @@
 // The answers to the lines of the line program, and the input cut into its lines.
+
+#![tactic(auto)]
+
 ghost use Rattle.std.specs.Prelude.{◌≡◌, ◌+◌, ◌*◌, ◌≤◌, length, take};
 ghost use Rattle.line_text.specs.Text.{Writes};
 ghost use Rattle.line_answer.specs.Answer.{dnet_value, ccor_value, outcome_text, run_answer, answer_text};
@@ -14,7 +17,7 @@ use line_text::{refused, row, value};
 use mixing::{ccor, dnet};
 
 // How far the input is read: how many bytes of the line begun are kept, its number, and how many bytes of answers wait.
-#[derive(Drop)]
+#[derive(Clone, Copy)]
 pub struct Place {
     pub len: usize,
     pub number: u64,

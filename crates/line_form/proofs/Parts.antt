@@ -157,6 +157,7 @@ part_same a b (suc m) i f = rw (f i (omega arith), part_same a b m (i + 1) (λ j
 module _ (s : List ℕ) where
   plain_first : (t : List ℕ) (k : ℕ) → T (plain t) → starts_of s k t ≡ true → 9 < digit_of s k
   unfolding starts_of
+  plain_first [] k a h = elim a [ ]
   plain_first (c ∷ t) k a h = no_digit s k c (ltb→lt c 48 a) (and_first _ (starts_of s (k + 1) t) h)
 
   field_read : (text : List ℕ) (i m k : ℕ) (v w : List ℤ) → AllNine (values_from v m i) → starts_of s k (text ++ numbers_text (values_from v m i)) ≡ true

@@ -1,18 +1,21 @@
 // A line's bytes read as one of document 01's forms.
+
+#![tactic(auto)]
+
 ghost use Rattle.std.specs.Prelude.{◌≡◌, ◌+◌, ◌≤◌, ◌<◌, pos, length, set, get_or, true};
 ghost use Rattle.line_form.specs.Grammar.{here_of, starts_of, digit_of, more_of, with_sign, positive_of, read_number, stopped_of, read_numbers, field_of, closed_of, start_of, dnet_form_of, ccor_form_of, date_fields, place_fields, activity_fields, later_of, last_fields, run_form_of, switches_of, thousandths_at, history_when, array_of, input_of};
 
 use setting::{History, Input};
 
 // Digits read: their number, and the index after them.
-#[derive(Drop)]
+#[derive(Clone, Copy)]
 pub struct Digits {
     pub size: u32,
     pub next: usize,
 }
 
 // A whole number read, if there is one, and the index after it.
-#[derive(Drop)]
+#[derive(Clone, Copy)]
 pub struct WholeNumber {
     pub ok: bool,
     pub value: i32,
@@ -20,7 +23,7 @@ pub struct WholeNumber {
 }
 
 // A form being read: whether it is one so far, the index reached, and its numbers.
-#[derive(Drop)]
+#[derive(Clone, Copy)]
 pub struct Reading {
     pub ok: bool,
     pub next: usize,
@@ -28,7 +31,7 @@ pub struct Reading {
 }
 
 // A run form: whether the array is there, and the numbers: the fields 0 to 9, the array's values from 10, the switches from 17.
-#[derive(Drop)]
+#[derive(Clone, Copy)]
 pub struct Run {
     pub array: bool,
     pub reading: Reading,

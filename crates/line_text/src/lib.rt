@@ -1,4 +1,7 @@
 // The line program's answers as bytes in a lent buffer, from a given index on.
+
+#![tactic(auto)]
+
 ghost use Rattle.std.specs.Prelude.{◌≡◌, ◌+◌, ◌*◌, ◌≤◌, length};
 ghost use Rattle.line_text.specs.Text.{Writes, pattern_of, hex_text, decimal_text, value_text, spaced_text, row_text, refused_text};
 

@@ -1,5 +1,8 @@
 // The line program: answers each line of standard input on standard output. A program has no exit status here: where it cannot read or write it says so on standard
 // error, and answers no further line.
+
+#![tactic(auto)]
+
 ghost use Rattle.std.specs.Prelude.{◌<◌, ◌≤◌, ◌≡◌, length};
 
 use line_answer::{feed, finish, start};

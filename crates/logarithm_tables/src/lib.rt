@@ -1,10 +1,13 @@
 // The tables of log, as one function that matches on the index: a constant array that is indexed by a variable is built
 // on the stack at each use, and a match becomes a table in read-only memory.
+
+#![tactic(auto)]
+
 ghost use Rattle.std.specs.Prelude.{◌≡◌, ◌<◌, get_or};
 ghost use Rattle.logarithm_tables.specs.Tables.{reciprocals, logarithms};
 
 // A reciprocal and a logarithm.
-#[derive(Drop)]
+#[derive(Clone, Copy)]
 pub struct Piece(pub u64, pub u64);
 
 // 2^10 / (1 + (i+1)/128), cut to a whole number, and the logarithm of 2^10 over that number, in units of 2^-58. Made by

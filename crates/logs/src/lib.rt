@@ -1,11 +1,14 @@
 // The two boards' logs held against each other (document 02, W-209).
+
+#![tactic(auto)]
+
 ghost use Rattle.std.specs.Prelude.{◌≡◌, ◌||◌, ◌≤◌, ltb, length, drop};
 ghost use Rattle.logs.specs.Logs.{apart, entries_of, finding_numbers, unfit_log, seconds_rise, accepted_logs, refusal, report_of};
 ghost use Rattle.logs.specs.Lent.{counted_of, lent_answer, lent_after};
 ghost use Rattle.logs.specs.Steps.{meet_of, front_of, taken1, taken2};
 
 // How many findings there are, or a refusal's number and place.
-#[derive(Drop)]
+#[derive(Clone, Copy)]
 pub enum Answer {
     Counted(usize),
     Refused(usize, usize),
@@ -13,7 +16,7 @@ pub enum Answer {
 
 // The answer and the table of findings: 1 a pair whose density bits agree, 2 a pair whose bits don't, 3 a single of board 1, 4 of board 2,
 // 0 past the count.
-#[derive(Drop)]
+#[derive(Clone, Copy)]
 pub struct Report {
     pub answer: Answer,
     pub table: [u32; 512],

@@ -1,4 +1,7 @@
 // gtd7 below 72.5 km: its nodes from the expansions, its densities and temperature.
+
+#![tactic(auto)]
+
 ghost use Rattle.std.specs.Prelude.{◌≡◌};
 ghost use Rattle.plan.specs.Plan.{told, answer_to};
 ghost use Rattle.lower_atmosphere.specs.LowerAtmosphere.{mesosphere_of, troposphere_of, unset_nodes, dm28m_of, lower_n2, full_of, kilograms_of, lower_temperature, gtd7_below, gtd7_above, meso_nodes_plan, meso_plan, lower_plan};
@@ -12,14 +15,14 @@ use profile::unchecked::{Profile, Shape, densm54, returned_number, temperature_i
 use tables::{pavgm, pdm0, pdm3, pdm4, pma0, pma1, pma2, pma3, pma4, pma5, pma6, pma7, pma9};
 
 // meso_tn2 and meso_tgn2.
-#[derive(Drop)]
+#[derive(Clone, Copy)]
 pub struct Meso {
     pub tn2: [f64; 4],
     pub tgn2: [f64; 2],
 }
 
 // The nodes of the lower atmosphere.
-#[derive(Drop)]
+#[derive(Clone, Copy)]
 pub struct Nodes {
     pub tn2: [f64; 4],
     pub tgn2: [f64; 2],
@@ -28,14 +31,14 @@ pub struct Nodes {
 }
 
 // What gtd7 answers: d[0] to d[8], t[0], t[1], and below 72.5 km State's dd.
-#[derive(Drop)]
+#[derive(Clone, Copy)]
 pub struct Gtd7Output {
     pub row: [f64; 11],
     pub dd: f64,
 }
 
 // A number for each set that the nodes of the mesosphere read: their first coefficients, or the answers.
-#[derive(Drop)]
+#[derive(Clone, Copy)]
 pub struct MesoSets {
     pub pma0: f64,
     pub pma1: f64,
@@ -44,7 +47,7 @@ pub struct MesoSets {
 }
 
 // The same for the nodes of the troposphere.
-#[derive(Drop)]
+#[derive(Clone, Copy)]
 pub struct TropoSets {
     pub pma3: f64,
     pub pma4: f64,

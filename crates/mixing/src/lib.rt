@@ -1,4 +1,7 @@
 // Chemistry and dissociation corrections, the blend of two densities at the turbopause, and the transition to full mixing.
+
+#![tactic(auto)]
+
 ghost use Rattle.std.specs.Prelude.{◌≡◌};
 ghost use Rattle.mixing.specs.Mixing.{ccor_of, ccor2_of, blend_of, dnet_of, dmc_of};
 

@@ -1,11 +1,14 @@
 // Which species are mixed at an altitude: switch 15 is on, and the altitude does not lie above the one at which the species' mixing ends (altl of gts7).
+
+#![tactic(auto)]
+
 ghost use Rattle.std.specs.Prelude.{◌≡◌};
 ghost use Rattle.mixing_limits.specs.Limits.{mixed_at, oxygens_mixed, some_mixed};
 
 use parameters::Parameters;
 
 // The species that are mixed.
-#[derive(Drop)]
+#[derive(Clone, Copy)]
 pub struct Mixed {
     pub he: bool,
     pub o: bool,

@@ -1,5 +1,8 @@
 // gts7 and gtd7 with State: it goes in by value and comes back by value beside the value, each field set by the step that sets it in the
 // Rust. The expansions' values are worked out once and handed in, as in the calls that users make, which carry no State.
+
+#![tactic(auto)]
+
 ghost use Rattle.std.specs.Prelude.{◌≡◌};
 ghost use Rattle.elementary.specs.Root.{sqrt_of};
 ghost use Rattle.numbers.specs.Arithmetic.{◌⊗◌};
@@ -39,49 +42,49 @@ use tables::{pd7, pd8, pdl1, pdm2};
 use thermosphere::{nodes_stage, turbopauses_of};
 
 // The nodes of the lower thermosphere, and the State that is left.
-#[derive(Drop)]
+#[derive(Clone, Copy)]
 pub struct NodesLeft {
     pub value: Nodes,
     pub state: State,
 }
 
 // What densu reads, and the State that is left.
-#[derive(Drop)]
+#[derive(Clone, Copy)]
 pub struct ShapeLeft {
     pub value: Shape,
     pub state: State,
 }
 
 // The six species that blend with N2, and the State that is left.
-#[derive(Drop)]
+#[derive(Clone, Copy)]
 pub struct SixLeft {
     pub value: SixSpecies,
     pub state: State,
 }
 
 // gts7's answer, and the State that is left.
-#[derive(Drop)]
+#[derive(Clone, Copy)]
 pub struct UpperLeft {
     pub value: Gts7Output,
     pub state: State,
 }
 
 // The nodes from 72.5 to 32.5 km, and the State that is left.
-#[derive(Drop)]
+#[derive(Clone, Copy)]
 pub struct MesoLeft {
     pub value: Meso,
     pub state: State,
 }
 
 // The nodes of the lower atmosphere, and the State that is left.
-#[derive(Drop)]
+#[derive(Clone, Copy)]
 pub struct LowerLeft {
     pub value: lower_atmosphere::Nodes,
     pub state: State,
 }
 
 // gtd7's answer, and the State that is left.
-#[derive(Drop)]
+#[derive(Clone, Copy)]
 pub struct WholeLeft {
     pub value: Gtd7Output,
     pub state: State,

@@ -1,4 +1,7 @@
 // exp on f64, by whole numbers alone.
+
+#![tactic(auto)]
+
 ghost use Rattle.std.specs.Prelude.{◌≡◌, false, ℕ, ◌+◌, ◌*◌, ◌/◌, ◌^◌, ◌<◌, ◌≤◌, T, Float};
 ghost use Rattle.std.specs.Float.{fin, binary64};
 ghost use Rattle.std.specs.Float.Ieee.{is_nan, lt};
@@ -55,7 +58,7 @@ pub fn assembled(v: u64, k: u64) -> f64
 }
 
 // What is left of an argument for the kernel: t, and the exponent k.
-#[derive(Drop)]
+#[derive(Clone, Copy)]
 pub struct Rest {
     pub t: u64,
     pub k: u64,

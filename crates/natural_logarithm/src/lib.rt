@@ -1,5 +1,8 @@
 // log on f64, by whole numbers alone. The digits are multiplied by a short reciprocal, which leaves a number little below
 // 1, and a short series gives its logarithm.
+
+#![tactic(auto)]
+
 ghost use Rattle.std.specs.Prelude.{◌≡◌, not, ℕ, ◌+◌, ◌*◌, ◌/◌, ◌^◌, ◌<◌, ◌≤◌, T, Float};
 ghost use Rattle.std.specs.Float.{binary64};
 ghost use Rattle.std.specs.Float.Ieee.{is_nan};

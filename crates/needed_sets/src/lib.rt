@@ -1,4 +1,7 @@
 // Which sets of coefficients an altitude needs.
+
+#![tactic(auto)]
+
 ghost use Rattle.std.specs.Prelude.{◌≡◌};
 ghost use Rattle.needed_sets.specs.NeededSets.{need_at, with_high, globe7_needed, glob7s_needed, glob7s_end};
 
@@ -7,7 +10,7 @@ use tables::pdl1;
 
 // Which sets are needed: those of O, H, N and anomalous O, PT, PS, those of the nodes of the lower thermosphere, of the mesosphere, of the troposphere.
 // The others always are.
-#[derive(Drop)]
+#[derive(Clone, Copy)]
 pub struct Need {
     pub high: bool,
     pub pt: bool,

@@ -1,4 +1,7 @@
 // Operations on numbers that every part of the model uses, and the constants of atmosphere.rs.
+
+#![tactic(auto)]
+
 ghost use Rattle.std.specs.Prelude.{◌≡◌, true, cond, length};
 ghost use Rattle.numbers.specs.Literals.{0·0};
 ghost use Rattle.numbers.specs.Tests.{abs_of, finite_of};

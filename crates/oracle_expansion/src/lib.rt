@@ -1,5 +1,8 @@
 // For comparison on the host: the public globe7 and glob7s on numbers and slices. A call writes its value and the 79 numbers of the State
 // after it into a lent slice and answers 0, or the refusal's number times 2^32 and its place, the slice as lent.
+
+#![tactic(auto)]
+
 ghost use Rattle.std.specs.Prelude.{◌≡◌, length};
 ghost use Rattle.oracle_expansion.specs.OracleExpansion.{legendre_read, state_with, state_of, misfit_of, host_globe7, host_glob7s, entry_of, expanded_numbers, expanded_after, expanded_code};
 

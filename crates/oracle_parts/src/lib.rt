@@ -1,6 +1,9 @@
 // Mixing, splines and profiles for the host, on numbers and slices, with the elementary functions under them. A call that may be refused
 // writes its values into a lent slice, out, and answers 0, or the refusal's number times 2^32 and its place, all lent slices as lent; an out
 // that has not its length is refused first, with 4 and the length needed.
+
+#![tactic(auto)]
+
 ghost use Rattle.std.specs.Prelude.{◌≡◌, [], length};
 ghost use Rattle.elementary.specs.Exp.{exp_of};
 ghost use Rattle.elementary.specs.Log.{log_of};

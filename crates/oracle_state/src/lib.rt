@@ -1,4 +1,7 @@
 // For comparison on the host: the 79 numbers of the State that gtd7 leaves, the last of them 1 or 0 for the mark beside dm28.
+
+#![tactic(auto)]
+
 ghost use Rattle.std.specs.Prelude.{◌≡◌, length};
 ghost use Rattle.host_record.specs.Record.{code_of};
 ghost use Rattle.atmosphere.specs.Atmosphere.{left_of};

@@ -1,5 +1,8 @@
 // What the second one-altitude call (W-211) meets before anything is worked out: refusal 16 for its nine constants, 4 for the row, 2, 1 and 3 for the
 // record, then 10.
+
+#![tactic(auto)]
+
 ghost use Rattle.std.specs.Prelude.{◌≡◌};
 ghost use Rattle.parameter_answer.specs.ParameterAnswer.{unfit_value, of_species, first_unfit, one_of_nine, unmixed_with, answer_with};
 

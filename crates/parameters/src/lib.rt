@@ -1,11 +1,14 @@
 // The nine constants that research users vary (W-211): the gas constant, the mass of mixed air, and the altitudes at which gts7's mixing ends.
+
+#![tactic(auto)]
+
 ghost use Rattle.std.specs.Prelude.{◌≡◌};
 ghost use Rattle.parameters.specs.Parameters.{present_of};
 
 use numbers::RGAS;
 
 // rgas is the gas constant, xmm the mass of mixed air; he to n are the altitudes of gts7's altl, each by the name of its species.
-#[derive(Drop)]
+#[derive(Clone, Copy)]
 pub struct Parameters {
     pub rgas: f64,
     pub xmm: f64,

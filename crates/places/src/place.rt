@@ -18,7 +18,7 @@ use spline::nodes::{splini, splint};
 
 // What a Shape fixes: gravity base at zlb, k = s * rgas * tinf; the gas constant rgas; the height zg2, the temperature tt, rt = tlb / tt and its
 // logarithm lt at za; and the curve below za.
-#[derive(Drop)]
+#[derive(Clone, Copy)]
 pub struct Spine {
     pub base: f64,
     pub k: f64,
@@ -37,7 +37,7 @@ pub struct Spine {
 }
 
 // An altitude z with all that a gas reads there: a Point, what its Shape fixes, rt = tlb / tt, r1 = t1 / tz and their logarithms.
-#[derive(Drop)]
+#[derive(Clone, Copy)]
 pub struct Place {
     pub z: f64,
     pub under: bool,
@@ -58,7 +58,7 @@ pub struct Place {
 }
 
 // The temperature and the integral on a curve.
-#[derive(Drop)]
+#[derive(Clone, Copy)]
 pub struct Read {
     pub tz: f64,
     pub yi: f64,

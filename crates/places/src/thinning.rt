@@ -9,7 +9,7 @@ use numbers::pick;
 use profile::curve::capped;
 
 // The factors of densu in their order; where the mass is 0 (none), the temperature tz is densu's answer.
-#[derive(Drop)]
+#[derive(Clone, Copy)]
 pub struct Thinning {
     pub none: bool,
     pub under: bool,

@@ -1,7 +1,9 @@
 // The values of the expansions over the coefficient sets, as gts7 and gtd7 ask for them.
 
+#![tactic(auto)]
+
 // globe7 over PT, PS and PD, glob7s over PTL and PMA.
-#[derive(Drop)]
+#[derive(Clone, Copy)]
 pub struct ExpansionValues {
     pub pt: f64,
     pub ps: f64,

@@ -1,5 +1,8 @@
 // What the host links: the elementary functions, the one-altitude call, also for drag, in bands of switch rows, with nine constants and for a record known in part, which fields count,
 // the column, where its density passes a level, its first altitude thin enough, the station, a descent and the boards' logs, on numbers and slices.
+
+#![tactic(auto)]
+
 pub mod banded;
 pub mod boards;
 pub mod constants;

@@ -10,7 +10,7 @@ use spline::nodes::{splini, splint};
 use spline::sweep::second;
 
 // The spline, the place x where it is read, and the temperature tz there; z1 and t1 are the first node.
-#[derive(Drop)]
+#[derive(Clone, Copy)]
 pub struct Curve {
     pub z1: f64,
     pub t1: f64,

@@ -7,7 +7,7 @@ use elementary::trigonometry::cos;
 use numbers::DGTR;
 
 // Gravity at the surface, and the effective radius of the earth.
-#[derive(Drop)]
+#[derive(Clone, Copy)]
 pub struct Gravity {
     pub gsurf: f64,
     pub re: f64,

@@ -11,7 +11,7 @@ use elementary::power::pow;
 use numbers::pick;
 
 // An altitude z: whether it is read on the curve below za, and what no gas changes there.
-#[derive(Drop)]
+#[derive(Clone, Copy)]
 pub struct Point {
     pub z: f64,
     pub under: bool,

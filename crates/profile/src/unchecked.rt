@@ -9,14 +9,14 @@ use elementary::power::pow;
 use numbers::pick;
 
 // What a profile answers: a temperature, or a density and the temperature there.
-#[derive(Drop)]
+#[derive(Clone, Copy)]
 pub enum Profile {
     Temperature(f64),
     Density(f64, f64),
 }
 
 // What densu reads besides an altitude, a density, a mass and a diffusion factor; rgas is the gas constant.
-#[derive(Drop)]
+#[derive(Clone, Copy)]
 pub struct Shape {
     pub rgas: f64,
     pub gsurf: f64,

@@ -1,4 +1,7 @@
 // The calls of scalh, which is never refused, and of densm and densu, with their refusals.
+
+#![tactic(auto)]
+
 ghost use Rattle.std.specs.Prelude.{◌≡◌};
 ghost use Rattle.profile_calls.specs.Calls.{profile_outcome, scalh_call, densm_call, densu_call, densu_tn1, densu_tgn1};
 
@@ -6,7 +9,7 @@ use numbers::RGAS;
 use profile::unchecked::Profile;
 
 // What densm and densu answer: the profile's answer, or why they refuse with the place.
-#[derive(Drop)]
+#[derive(Clone, Copy)]
 pub enum ProfileCall {
     Answer(Profile),
     NodeCount(usize),

@@ -1,4 +1,7 @@
 // Records that lie one behind the other: which one is the k-th, and whether the slices have the lengths that they need.
+
+#![tactic(auto)]
+
 ghost use Rattle.std.specs.Prelude.{◌≡◌, not, ◌*◌, ◌<◌, eqb, ltb, length};
 ghost use Rattle.host_record.specs.Record.{code_of};
 ghost use Rattle.record_list.specs.RecordList.{Listed, record_at, lengths_answer};

@@ -1,4 +1,7 @@
 // Many records under one switch row, each answered as the one-altitude call answers it. Records that follow each other on one day share the season.
+
+#![tactic(auto)]
+
 ghost use Rattle.std.specs.Prelude.{◌≡◌, true, false, not, cond, ◌*◌, ◌≤◌, length};
 ghost use Rattle.std.specs.Float.{binary64};
 ghost use Rattle.std.specs.Float.Ieee.{of_int};
@@ -25,7 +28,7 @@ use views::day;
 // ---- the season that is kept
 
 // The day and the sets that it was worked out for, if there is one.
-#[derive(Drop)]
+#[derive(Clone, Copy)]
 pub struct KeptSeason {
     pub there: bool,
     pub doy: i32,
@@ -112,7 +115,7 @@ pub fn row_in_season(w: [i32; 24], n: Input, a: Need, s: &[f64], out: &mut [f64]
 }
 
 // A record's answer as one number, and the season that is kept behind it.
-#[derive(Drop)]
+#[derive(Clone, Copy)]
 pub struct AnswerAndSeason {
     pub code: u64,
     pub kept: KeptSeason,

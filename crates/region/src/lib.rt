@@ -1,5 +1,8 @@
 // What a region of altitude fixes above 72.5 km (its temperatures and the species' Roots), and the row of an altitude in it with the present nine constants.
 // No expansion is worked out here.
+
+#![tactic(auto)]
+
 ghost use Rattle.std.specs.Prelude.{◌≡◌};
 ghost use Rattle.elementary.specs.Log.{log_of};
 ghost use Rattle.parameters.specs.Parameters.{present_of};
@@ -32,7 +35,7 @@ use tables::{
 };
 
 // The densities at the lower boundary of the four species that reach highest, and of the others.
-#[derive(Drop)]
+#[derive(Clone, Copy)]
 pub struct ThinBases {
     pub he: f64,
     pub h: f64,
@@ -40,7 +43,7 @@ pub struct ThinBases {
     pub hot: f64,
 }
 
-#[derive(Drop)]
+#[derive(Clone, Copy)]
 pub struct DenseBases {
     pub n2: f64,
     pub o: f64,
@@ -48,14 +51,14 @@ pub struct DenseBases {
     pub ar: f64,
 }
 
-#[derive(Drop)]
+#[derive(Clone, Copy)]
 pub struct Bases {
     pub thin: ThinBases,
     pub dense: DenseBases,
 }
 
 // The places of the four turbopauses; O2, argon and N have theirs where O has.
-#[derive(Drop)]
+#[derive(Clone, Copy)]
 pub struct Turbopauses {
     pub n2: Place,
     pub he: Place,
@@ -64,7 +67,7 @@ pub struct Turbopauses {
 }
 
 // The species' Roots in a region; rate is that of O2's second correction, hot and factor are anomalous oxygen's.
-#[derive(Drop)]
+#[derive(Clone, Copy)]
 pub struct Roots {
     pub n2: Root,
     pub he: Root,

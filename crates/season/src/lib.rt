@@ -1,4 +1,7 @@
 // The season: what the day of the year gives to the expansions, the cosines over the year and half the year with the phases of every set.
+
+#![tactic(auto)]
+
 ghost use Rattle.std.specs.Prelude.{◌<◌, ◌≤◌, ◌-◌, ◌≡◌, length};
 ghost use Rattle.numbers.specs.Literals.{0·0};
 ghost use Rattle.setting.specs.Switches.{filled};

@@ -1,5 +1,8 @@
 // The phases of the season's cosines, as one function that matches on the place: a constant array that is indexed by a variable is built on the stack
 // at each use, and a match becomes a table in read-only memory.
+
+#![tactic(auto)]
+
 ghost use Rattle.std.specs.Prelude.{◌≡◌, ◌<◌};
 ghost use Rattle.numbers.specs.Arithmetic.{◌‼◌};
 ghost use Rattle.season_phases.specs.Phases.{place_phases};

@@ -1,4 +1,7 @@
 // The switch row as numbers, the record, the State, and the fields of the View that every expansion reads.
+
+#![tactic(auto)]
+
 ghost use Rattle.std.specs.Prelude.{◌≡◌};
 ghost use Rattle.setting.specs.State.{fresh_of};
 
@@ -6,14 +9,14 @@ pub mod ap_history;
 pub mod switches;
 
 // The switch row as numbers: main effects and cross effects.
-#[derive(Drop)]
+#[derive(Clone, Copy)]
 pub struct Flags {
     pub sw: [f64; 24],
     pub swc: [f64; 24],
 }
 
 // What globe7, gts7 and gtd7 carry: the Rust's State, its Legendre values flat, four rows of nine; dm28_set says whether dm28 was set.
-#[derive(Drop)]
+#[derive(Clone, Copy)]
 pub struct State {
     pub gsurf: f64,
     pub re: f64,
@@ -45,21 +48,21 @@ pub struct State {
 }
 
 // A value and the State after it.
-#[derive(Drop)]
+#[derive(Clone, Copy)]
 pub struct Valued {
     pub value: f64,
     pub state: State,
 }
 
 // Whether a record has its magnetic history.
-#[derive(Drop)]
+#[derive(Clone, Copy)]
 pub enum History {
     Absent,
     Present,
 }
 
 // The record of one call: the Rust's NrlmsiseInput, its Option a mark beside the array.
-#[derive(Drop)]
+#[derive(Clone, Copy)]
 pub struct Input {
     pub year: i32,
     pub doy: i32,
@@ -77,7 +80,7 @@ pub struct Input {
 
 // What the expansions read of row and record, with the sines and cosines that do not depend on the coefficients; the last six are those
 // of the phase 0, which many coefficient sets have.
-#[derive(Drop)]
+#[derive(Clone, Copy)]
 pub struct View {
     pub sw: [f64; 24],
     pub swc: [f64; 24],

@@ -1,4 +1,7 @@
 // Each species of gts7 at a place, from its Root: its density there, and the mixed density that the Rust keeps in State.
+
+#![tactic(auto)]
+
 ghost use Rattle.std.specs.Prelude.{◌≡◌, true, false};
 ghost use Rattle.std.specs.Float.Ieee.{lt};
 ghost use Rattle.numbers.specs.Arithmetic.{◌‼◌};
@@ -20,7 +23,7 @@ use profile::unchecked::Shape;
 use tables::{pdl0, pdl1, pdm0, pdm1, pdm2, pdm3, pdm4, pdm5, pdm6, ptm};
 
 // A species blended at the turbopause: its density, the mixed density at the turbopause, and the mixed density here.
-#[derive(Drop)]
+#[derive(Clone, Copy)]
 pub struct Blend {
     pub dens: f64,
     pub b: f64,
@@ -28,7 +31,7 @@ pub struct Blend {
 }
 
 // A species: its density, and its mixed density, 0 where nothing is mixed.
-#[derive(Drop)]
+#[derive(Clone, Copy)]
 pub struct Mixture {
     pub dens: f64,
     pub dm: f64,
@@ -36,7 +39,7 @@ pub struct Mixture {
 
 // What a species has whatever the altitude: its density db at the lower boundary, its mixed density b at the turbopause, and r, by which
 // ccor or ccor2 corrects it.
-#[derive(Drop)]
+#[derive(Clone, Copy)]
 pub struct Root {
     pub db: f64,
     pub b: f64,

@@ -1,10 +1,13 @@
 // The calls of splini, splint and spline, with their refusals.
+
+#![tactic(auto)]
+
 ghost use Rattle.std.specs.Prelude.{◌≡◌, ◌≤◌, ◌++◌, length, take, drop};
 ghost use Rattle.spline_calls.specs.Outcome.{after};
 ghost use Rattle.spline_calls.specs.Calls.{value_outcome, write_outcome, splini_call, splint_call, spline_call};
 
 // What splini and splint answer: the value, or why they refuse with the place.
-#[derive(Drop)]
+#[derive(Clone, Copy)]
 pub enum SplineValue {
     Value(f64),
     NodeCount(usize),
@@ -12,7 +15,7 @@ pub enum SplineValue {
 }
 
 // What spline answers: that it wrote, or why it refuses with the place.
-#[derive(Drop)]
+#[derive(Clone, Copy)]
 pub enum SplineWrite {
     Written,
     NodeCount(usize),

@@ -1,4 +1,7 @@
 // A function for each stage of gts7 that asks one expansion, proved against its plan.
+
+#![tactic(auto)]
+
 ghost use Rattle.std.specs.Prelude.{◌≡◌};
 ghost use Rattle.plan.specs.Plan.{told, answer_to};
 ghost use Rattle.numbers.specs.Arithmetic.{◌⊗◌, ◌‼◌};

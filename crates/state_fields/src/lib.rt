@@ -1,4 +1,7 @@
 // State with the fields set that gts7 and gtd7 set: it goes in by value and comes back by value.
+
+#![tactic(auto)]
+
 ghost use Rattle.std.specs.Prelude.{◌≡◌};
 ghost use Rattle.plan.specs.Fields.{fields_of, with_fields, set_when, set_gravity, set_dd, set_dm04, set_dm16, set_dm28, set_dm32, set_dm40, set_dm01, set_dm14, set_nodes1, set_tn2, set_tn3, set_top3};
 

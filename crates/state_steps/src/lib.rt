@@ -1,4 +1,7 @@
 // What densu sets in State, and gts7's species with what they set: State goes in by value and comes back by value.
+
+#![tactic(auto)]
+
 ghost use Rattle.std.specs.Prelude.{◌≡◌};
 ghost use Rattle.numbers.specs.Arithmetic.{◌⊗◌, ◌‼◌};
 ghost use Rattle.plan.specs.Plan.{ends, answer_to, stepped};
@@ -66,14 +69,14 @@ pub fn species_sets(s: State, on: bool, h: Shape, z: f64, zh: f64) -> State
 }
 
 // N2, and the State that is left.
-#[derive(Drop)]
+#[derive(Clone, Copy)]
 pub struct BlendLeft {
     pub value: Blend,
     pub state: State,
 }
 
 // Another species, and the State that is left.
-#[derive(Drop)]
+#[derive(Clone, Copy)]
 pub struct MixtureLeft {
     pub value: Mixture,
     pub state: State,

@@ -1,4 +1,7 @@
 // A prepared station: a record and a switch row with what no altitude changes, in two slices that the caller lends and keeps.
+
+#![tactic(auto)]
+
 ghost use Rattle.std.specs.Prelude.{◌≡◌, length};
 ghost use Rattle.acceptance.specs.Acceptance.{judged_of};
 ghost use Rattle.station_answer.specs.Answers.{to_sec, to_lst, to_long, to_fluxes, to_move, station_answer, altitude_answer, change_answer, switches_answer};

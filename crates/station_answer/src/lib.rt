@@ -1,4 +1,7 @@
 // What the calls of a station meet before anything is worked out, its record with a change made, and a new switch row in its whole numbers.
+
+#![tactic(auto)]
+
 ghost use Rattle.std.specs.Prelude.{◌≡◌, ◌<◌, pos, length, get_or};
 ghost use Rattle.acceptance.specs.Acceptance.{day_within, judged_of};
 ghost use Rattle.setting.specs.Switches.{is_one};

@@ -1,4 +1,7 @@
 // The record and the switch row of a station in its two slices.
+
+#![tactic(auto)]
+
 ghost use Rattle.std.specs.Prelude.{◌≡◌, ◌<◌, pos, length, drop, get_or};
 ghost use Rattle.setting.specs.Switches.{is_one, on_off};
 ghost use Rattle.station_record.specs.Record.{mark_of, history_in, station_whole, record_numbers, record_in, units_in, mixing_in};

@@ -1,5 +1,8 @@
 // What a change and a new switch row of a station are carried over with: the season of its day, the expansions' values in the station's numbers, and what the
 // row and the record make of gravity, zhf and the flux factor.
+
+#![tactic(auto)]
+
 ghost use Rattle.std.specs.Prelude.{◌≡◌, length};
 ghost use Rattle.std.specs.Float.{binary64};
 ghost use Rattle.std.specs.Float.Ieee.{of_int};

@@ -1,5 +1,8 @@
 // What a station stores of a record and a switch row, as a list of numbers that no altitude changes; and the row of an altitude out of that list,
 // with no expansion worked out.
+
+#![tactic(auto)]
+
 ghost use Rattle.std.specs.Prelude.{◌≡◌, true, cond, ◌++◌, ◌+◌, ◌≤◌, length, take, drop};
 ghost use Rattle.footing.specs.Footing.{row_below_of, summit_of};
 ghost use Rattle.stored.specs.Stored.{need_of, region_numbers, spine_numbers, span_numbers, ground_numbers, five_in, shape_in, root_in, roots_in, spine_in, span_in, footing_in, region_stored, low_stored, footing_stored, summit_stored, stored_of, stored_in, over_in, under_in, row_stored};

@@ -1,4 +1,7 @@
 // Which parts of what a station stores an altitude reads: the tests by which a row takes its way, and the parts of an altitude and of a list of altitudes.
+
+#![tactic(auto)]
+
 ghost use Rattle.std.specs.Prelude.{◌≡◌};
 ghost use Rattle.stored_parts.specs.Parts.{above_summit, from_summit, above_za, below_za, below300, parts_at, all_parts, no_parts, either_parts, serves_of, reached_of, parts_from};
 
@@ -46,7 +49,7 @@ pub fn below_300(alt: f64) -> bool
 // ---- the parts
 
 // Which parts are asked for: the row at 72.5 km; what lies below it, and below 32.5 km; the region up to za; from there to 300 km; from 300 km.
-#[derive(Drop)]
+#[derive(Clone, Copy)]
 pub struct Parts {
     pub summit: bool,
     pub below: bool,

@@ -1,4 +1,7 @@
 // Whether two switch rows give one and the same expansions, which read the entries 1 to 14 alone.
+
+#![tactic(auto)]
+
 ghost use Rattle.std.specs.Prelude.{◌≡◌, ◌<◌};
 ghost use Rattle.setting.specs.Switches.{given, is_one, above_zero};
 ghost use Rattle.switch_rows.specs.Rows.{alike, same_number, same_at, same_expansions};

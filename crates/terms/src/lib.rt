@@ -1,4 +1,7 @@
 // The terms of globe7 and of glob7s as arithmetic: coefficients p, Legendre values g, and the numbers that each reads.
+
+#![tactic(auto)]
+
 ghost use Rattle.std.specs.Prelude.{◌≡◌, ◌≤◌, length};
 ghost use Rattle.terms.specs.Terms.{t0_of, f1_of, f2_of, flux_factor_of, t1_of, t3_of, t4_of, t5_of, diurnal_of, semidiurnal_of, terdiurnal_of, local_time_part_of, activity_term_of, long_cos_of, long_sin_of, ut_mean_of, ut_long_of, activity_long_of, activity_annual_of, activity_ut_of, t1s_of, t2s_of, t3s_of, t4s_of, diurnal_sof, semidiurnal_sof, terdiurnal_sof, daily_sof, history_sof, season_sof, long_cos_sof, long_sin_sof};
 

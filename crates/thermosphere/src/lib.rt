@@ -1,4 +1,7 @@
 // gts7: its stages in order, proved against its plan.
+
+#![tactic(auto)]
+
 ghost use Rattle.std.specs.Prelude.{◌≡◌};
 ghost use Rattle.plan.specs.Plan.{told, answer_to};
 ghost use Rattle.mixing_limits.specs.Limits.{some_mixed};
@@ -65,7 +68,7 @@ pub fn shape_stage(sw: [f64; 24], x: Site, z: f64, l: ExpansionValues) -> Shape
 }
 
 // The turbopauses of helium, of hydrogen, and of the four species that have it where O has.
-#[derive(Drop)]
+#[derive(Clone, Copy)]
 pub struct Turbopauses {
     pub he: Place,
     pub o: Place,

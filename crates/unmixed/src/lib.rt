@@ -1,4 +1,7 @@
 // gts7's row where nothing is mixed, above every altitude at which mixing ends or where switch 15 is off: no turbopause is read there.
+
+#![tactic(auto)]
+
 ghost use Rattle.std.specs.Prelude.{◌≡◌, false, Float};
 ghost use Rattle.numbers.specs.Arithmetic.{◌⊗◌, ◌‼◌};
 ghost use Rattle.numbers.specs.Literals.{0·0, 28·0};

@@ -1,4 +1,7 @@
 // The second one-altitude call (W-211): gtd7 with the nine constants that are handed to it.
+
+#![tactic(auto)]
+
 ghost use Rattle.std.specs.Prelude.{◌≡◌, length};
 ghost use Rattle.parameter_answer.specs.ParameterAnswer.{answer_with};
 ghost use Rattle.varied_constants.specs.VariedConstants.{row_with};

@@ -1,4 +1,7 @@
 // The View of a row and a record, and the cosines with a phase that the expansions read.
+
+#![tactic(auto)]
+
 ghost use Rattle.std.specs.Prelude.{◌≡◌};
 ghost use Rattle.std.specs.Float.{binary64};
 ghost use Rattle.std.specs.Float.Ieee.{of_int};
@@ -17,7 +20,7 @@ use setting::switches::tselec;
 use setting::{Input, View};
 
 // The sines and cosines of local time, once, twice and three times a day.
-#[derive(Drop)]
+#[derive(Clone, Copy)]
 pub struct Turns {
     pub st: f64,
     pub ct: f64,
@@ -47,7 +50,7 @@ pub fn turned(lst: f64) -> Turns
 }
 
 // The cosines of the phase 0; ct and clong, those of local time and of the longitude, are among them.
-#[derive(Drop)]
+#[derive(Clone, Copy)]
 pub struct Plain {
     pub year: f64,
     pub half_year: f64,

@@ -1,0 +1,11 @@
+-- `circular_functions::sinusoid` meets its contract. Assumes nothing.
+use mathlib.Core.Path.{sym, subst}
+use Prim.Native.Nat.{ℕ, ◌^◌, ◌≤◌}
+use Rattle.circular_functions.proofs.TrigCases.{rest_one}
+use Rattle.circular_functions.proofs.sinusoid.Goals as goal
+
+pub part-requires : goal.part-requires
+part-requires c = subst (λ (r : ℕ). r ≤ 2 ^ 58) (sym c.apart.ensures) (rest_one c.args.t c.requires.1)
+
+pub returns : goal.returns
+returns c = cc

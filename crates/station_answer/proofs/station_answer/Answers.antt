@@ -1,0 +1,19 @@
+-- `station_answer` meets its contract.
+use mathlib.Core.Path.{ap, ◌∙◌}
+use borrow.Author.Tests.{eq-eqb, ne_eqb}
+use Rattle.acceptance.specs.Acceptance.{judged_of}
+use Rattle.station_answer.specs.Answers.{station_answer}
+use Rattle.station_answer.proofs.station_answer.Goals as goal
+
+pub returns-then-ints-ne27 : goal.returns-then-ints-ne27
+unfolding station_answer
+returns-then-ints-ne27 c = simp (ne_eqb _ _ c.if-ints-ne27.true)
+
+pub returns-then-count-ne415 : goal.returns-then-count-ne415
+unfolding station_answer
+returns-then-count-ne415 c = simp (eq-eqb _ _ c.if-ints-ne27.false, ne_eqb _ _ c.if-count-ne415.true)
+
+pub returns : goal.returns
+unfolding station_answer
+returns c =
+    simp (eq-eqb _ _ c.if-ints-ne27.false, eq-eqb _ _ c.if-count-ne415.false) (c.judge.ensures ∙ ap (judged_of c.args.w) c.with_alt-m.ensures)

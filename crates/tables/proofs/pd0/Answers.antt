@@ -1,0 +1,8 @@
+-- `pd0` is the definition's list. Made by scripts/tables.py.
+use mathlib.Core.Path.{refl}
+use Rattle.tables.specs.Tables.{pd_t0}
+use Rattle.tables.proofs.pd0.Goals as goal
+
+pub returns : goal.returns
+unfolding pd_t0
+returns c = refl

@@ -1,0 +1,8 @@
+-- `pd1` is the definition's list. Made by scripts/tables.py.
+use mathlib.Core.Path.{refl}
+use Rattle.tables.specs.Tables.{pd_t1}
+use Rattle.tables.proofs.pd1.Goals as goal
+
+pub returns : goal.returns
+unfolding pd_t1
+returns c = refl

@@ -1,0 +1,8 @@
+-- `pdl1` is the definition's list. Made by scripts/tables.py.
+use mathlib.Core.Path.{refl}
+use Rattle.tables.specs.Tables.{pdl_t1}
+use Rattle.tables.proofs.pdl1.Goals as goal
+
+pub returns : goal.returns
+unfolding pdl_t1
+returns c = refl

@@ -1,0 +1,8 @@
+-- `pdm0` is the definition's list. Made by scripts/tables.py.
+use mathlib.Core.Path.{refl}
+use Rattle.tables.specs.Tables.{pdm_t0}
+use Rattle.tables.proofs.pdm0.Goals as goal
+
+pub returns : goal.returns
+unfolding pdm_t0
+returns c = refl

@@ -1,0 +1,8 @@
+-- `pdm3` is the definition's list. Made by scripts/tables.py.
+use mathlib.Core.Path.{refl}
+use Rattle.tables.specs.Tables.{pdm_t3}
+use Rattle.tables.proofs.pdm3.Goals as goal
+
+pub returns : goal.returns
+unfolding pdm_t3
+returns c = refl

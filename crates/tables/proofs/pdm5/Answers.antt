@@ -1,0 +1,8 @@
+-- `pdm5` is the definition's list. Made by scripts/tables.py.
+use mathlib.Core.Path.{refl}
+use Rattle.tables.specs.Tables.{pdm_t5}
+use Rattle.tables.proofs.pdm5.Goals as goal
+
+pub returns : goal.returns
+unfolding pdm_t5
+returns c = refl

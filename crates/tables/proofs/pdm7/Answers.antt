@@ -1,0 +1,8 @@
+-- `pdm7` is the definition's list. Made by scripts/tables.py.
+use mathlib.Core.Path.{refl}
+use Rattle.tables.specs.Tables.{pdm_t7}
+use Rattle.tables.proofs.pdm7.Goals as goal
+
+pub returns : goal.returns
+unfolding pdm_t7
+returns c = refl

@@ -1,0 +1,8 @@
+-- `pma0` is the definition's list. Made by scripts/tables.py.
+use mathlib.Core.Path.{refl}
+use Rattle.tables.specs.Tables.{pma_t0}
+use Rattle.tables.proofs.pma0.Goals as goal
+
+pub returns : goal.returns
+unfolding pma_t0
+returns c = refl

@@ -1,0 +1,8 @@
+-- `pma1` is the definition's list. Made by scripts/tables.py.
+use mathlib.Core.Path.{refl}
+use Rattle.tables.specs.Tables.{pma_t1}
+use Rattle.tables.proofs.pma1.Goals as goal
+
+pub returns : goal.returns
+unfolding pma_t1
+returns c = refl

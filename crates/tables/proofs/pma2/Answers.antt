@@ -1,0 +1,8 @@
+-- `pma2` is the definition's list. Made by scripts/tables.py.
+use mathlib.Core.Path.{refl}
+use Rattle.tables.specs.Tables.{pma_t2}
+use Rattle.tables.proofs.pma2.Goals as goal
+
+pub returns : goal.returns
+unfolding pma_t2
+returns c = refl

@@ -1,0 +1,8 @@
+-- `pma5` is the definition's list. Made by scripts/tables.py.
+use mathlib.Core.Path.{refl}
+use Rattle.tables.specs.Tables.{pma_t5}
+use Rattle.tables.proofs.pma5.Goals as goal
+
+pub returns : goal.returns
+unfolding pma_t5
+returns c = refl

@@ -1,0 +1,8 @@
+-- `pma6` is the definition's list. Made by scripts/tables.py.
+use mathlib.Core.Path.{refl}
+use Rattle.tables.specs.Tables.{pma_t6}
+use Rattle.tables.proofs.pma6.Goals as goal
+
+pub returns : goal.returns
+unfolding pma_t6
+returns c = refl

@@ -1,0 +1,8 @@
+-- `pma8` is the definition's list. Made by scripts/tables.py.
+use mathlib.Core.Path.{refl}
+use Rattle.tables.specs.Tables.{pma_t8}
+use Rattle.tables.proofs.pma8.Goals as goal
+
+pub returns : goal.returns
+unfolding pma_t8
+returns c = refl

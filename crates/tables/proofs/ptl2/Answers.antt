@@ -1,0 +1,8 @@
+-- `ptl2` is the definition's list. Made by scripts/tables.py.
+use mathlib.Core.Path.{refl}
+use Rattle.tables.specs.Tables.{ptl_t2}
+use Rattle.tables.proofs.ptl2.Goals as goal
+
+pub returns : goal.returns
+unfolding ptl_t2
+returns c = refl

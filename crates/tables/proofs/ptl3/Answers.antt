@@ -1,0 +1,8 @@
+-- `ptl3` is the definition's list. Made by scripts/tables.py.
+use mathlib.Core.Path.{refl}
+use Rattle.tables.specs.Tables.{ptl_t3}
+use Rattle.tables.proofs.ptl3.Goals as goal
+
+pub returns : goal.returns
+unfolding ptl_t3
+returns c = refl
