@@ -38,6 +38,8 @@ def main(argv):
         names = re.findall(r"`([^`]+)`", m[5])
         if int(m[4]) < len(names):
             edits.setdefault(m[1], []).append((int(m[2]), int(m[3]), m[4], names))
+    for m in re.finditer(r"(?m)^(\./[^\s:]+):(\d+):(\d+): error: [^\n]*but this has type `lts\.the-Clauses", said):
+        edits.setdefault(m[1], []).append((int(m[2]), int(m[3]), "clauses", []))
     done = 0
     for path, them in edits.items():
         text = open(path, encoding="utf-8").read()
@@ -46,6 +48,11 @@ def main(argv):
             starts.append(starts[-1] + len(line) + 1)
         for row, column, kind, names in sorted(them, reverse=True):
             at = starts[row - 1] + column - 1
+            if kind == "clauses":
+                end = text.index("\n", at)
+                text = text[:end] + " tie.handed_clauses" + text[end:]
+                done += 1
+                continue
             if kind == "tuple":
                 while at < len(text) and text[at] != "(":
                     at += 1

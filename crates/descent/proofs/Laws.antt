@@ -57,13 +57,13 @@ pub orbit_told : (d : ℕ → Float) (a : ℕ) (o : Orbit) (x : Float) (s z : �
 orbit_told d a o x s z e f g = e ∙ rw (f, g)
 
 -- an altitude of a descent is accepted
-taken : (whole : List ℤ) (xs : List Float) (a : ℕ) → length whole ≡ 27 → length xs ≡ 415 → day_within (get_or whole 1 (pos 0)) ≡ true → lowest_altitude ≤ a → a ≤ highest_altitude
+taken : (whole : List ℤ) (xs : List Float) (a : ℕ) → length whole ≡ 27 → length xs ≡ 259 → day_within (get_or whole 1 (pos 0)) ≡ true → lowest_altitude ≤ a → a ≤ highest_altitude
     → altitude_answer 11 whole (length xs) (kilometres_of_millimetres a) ≡ Accepted
 unfolding altitude_answer
 taken whole xs a e f d l h = rw (eq-eqb _ _ e, eq-eqb _ _ f, d, km_finite a l h, km_within a l h, km_mixed a l h _)
 
 module _ (w : List ℤ) (n : Input) (len : length w ≡ 24) (seven : length n.ap_array ≡ 7) (acc : judged_of w (with_alt_of n 0·0) ≡ Accepted) where
-  accepted_station : station_answer w n 27 415 ≡ Accepted
+  accepted_station : station_answer w n 27 259 ≡ Accepted
   unfolding station_answer
   accepted_station = acc
 
@@ -72,7 +72,7 @@ module _ (w : List ℤ) (n : Input) (len : length w ≡ 24) (seven : length n.ap
   again z = refl
 
   -- the density of the station that was prepared is the one-altitude call's
-  station_density_lem : (whole : List ℤ) (xs : List Float) → whole ≡ station_whole w (with_alt_of n 0·0) → xs ≡ station_numbers w (with_alt_of n 0·0) → length whole ≡ 27 → length xs ≡ 415
+  station_density_lem : (whole : List ℤ) (xs : List Float) → whole ≡ station_whole w (with_alt_of n 0·0) → xs ≡ station_numbers w (with_alt_of n 0·0) → length whole ≡ 27 → length xs ≡ 259
       → (a : ℕ) → lowest_altitude ≤ a → a ≤ highest_altitude → station_density whole xs a ≡ density_at w n a
   unfolding station_density density_at
   station_density_lem whole xs e f g h a l u =
@@ -87,8 +87,8 @@ module _ (w : List ℤ) (n : Input) (len : length w ≡ 24) (seven : length n.ap
 
   -- the descent over the station that was prepared in ys and xs; x is the start as the machine reads it, a its millimetres
   pub flown_told : (ys : List ℤ) (xs : List Float) (whole : List ℤ) (numbers : List Float) (start x : ℤ) (a : ℕ) (ss ls ls' : List ℤ) (r : Descended)
-      → length ys ≡ 27 → length xs ≡ 415 → whole ≡ whole_after w n ys (length xs) → numbers ≡ station_numbers_after w n (length ys) xs
-      → length whole ≡ 27 → length numbers ≡ 415
+      → length ys ≡ 27 → length xs ≡ 259 → whole ≡ whole_after w n ys (length xs) → numbers ≡ station_numbers_after w n (length ys) xs
+      → length whole ≡ 27 → length numbers ≡ 259
       → a ≡ millimetres_of x → x ≡ start → start_within start ≡ true
       → Answered (station_density whole numbers) a ss ls r ls'
       → Answered (density_at w n) (millimetres_of start) ss ls r ls'

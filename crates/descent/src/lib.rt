@@ -83,7 +83,7 @@ pub fn flown(w: [i32; 24], n: Input, start: i64, settings: &[i32], losses: &mut 
 {
     values(n);
     let mut whole = [0; 27];
-    let mut numbers = [0.0; 415];
+    let mut numbers = [0.0; 259];
     prepare(w, n, &mut whole, &mut numbers);
     let a = millimetres(start);
     orbits(&whole, &numbers, a, settings, losses)

@@ -126,11 +126,11 @@ module _ (year doy : ℤ) (f l : List Float) (w : List ℤ) (ys : List ℤ) (xs 
   unfolding host_station
   no_whole h = simp (ne_eqb _ _ h)
 
-  pub no_numbers : length ys ≡ 27 → (length xs ≡ 415 → ⊥) → host_station year doy f l w (length ys) (length xs) ≡ Refused 4 415
+  pub no_numbers : length ys ≡ 27 → (length xs ≡ 259 → ⊥) → host_station year doy f l w (length ys) (length xs) ≡ Refused 4 259
   unfolding host_station
   no_numbers e h = simp (eq-eqb _ _ e, ne_eqb _ _ h)
 
-  pub a_station : length ys ≡ 27 → length xs ≡ 415 → host_station year doy f l w (length ys) (length xs) ≡ lengths_of f l w (station_answer w (record_of year doy f l) (length ys) (length xs))
+  pub a_station : length ys ≡ 27 → length xs ≡ 259 → host_station year doy f l w (length ys) (length xs) ≡ lengths_of f l w (station_answer w (record_of year doy f l) (length ys) (length xs))
   unfolding host_station
   a_station e h = simp (eq-eqb _ _ e, eq-eqb _ _ h)
 
@@ -162,15 +162,15 @@ module _ (w whole : List ℤ) (xs : List Float) where
   unfolding host_switches
   switches_no_whole x h c = kept (Refused 4 27) x (simp (ne_eqb _ _ h)) refl c
 
-  pub switches_no_numbers : (x : ℕ) → length whole ≡ 27 → (length xs ≡ 415 → ⊥) → x ≡ code_of (Refused 4 415) → Switched x whole xs
+  pub switches_no_numbers : (x : ℕ) → length whole ≡ 27 → (length xs ≡ 259 → ⊥) → x ≡ code_of (Refused 4 259) → Switched x whole xs
   unfolding host_switches
-  switches_no_numbers x e h c = kept (Refused 4 415) x (simp (eq-eqb _ _ e, ne_eqb _ _ h)) refl c
+  switches_no_numbers x e h c = kept (Refused 4 259) x (simp (eq-eqb _ _ e, ne_eqb _ _ h)) refl c
 
-  pub switches_no_row : (x : ℕ) → length whole ≡ 27 → length xs ≡ 415 → (length w ≡ 24 → ⊥) → x ≡ code_of (Refused 4 24) → Switched x whole xs
+  pub switches_no_row : (x : ℕ) → length whole ≡ 27 → length xs ≡ 259 → (length w ≡ 24 → ⊥) → x ≡ code_of (Refused 4 24) → Switched x whole xs
   unfolding host_switches
   switches_no_row x e f h c = kept (Refused 4 24) x (simp (eq-eqb _ _ e, eq-eqb _ _ f, ne_eqb _ _ h)) refl c
 
-  pub switches_done : length whole ≡ 27 → length xs ≡ 415 → length w ≡ 24 → (x : ℕ) (r : Answer) (v ys : List ℤ) (zs : List Float)
+  pub switches_done : length whole ≡ 27 → length xs ≡ 259 → length w ≡ 24 → (x : ℕ) (r : Answer) (v ys : List ℤ) (zs : List Float)
       → x ≡ code_of r
       → r ≡ switches_answer v whole xs
       → ys ≡ switched_whole v whole xs

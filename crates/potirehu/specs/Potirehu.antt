@@ -44,7 +44,7 @@ host_rows year doy f l w alts xs =
 unfoldable pub host_station : ℤ → ℤ → List Float → List Float → List ℤ → ℕ → ℕ → Answer
 host_station year doy f l w ints count =
     cond (not (eqb ints 27)) (Refused 4 27)
-    (cond (not (eqb count 415)) (Refused 4 415)
+    (cond (not (eqb count 259)) (Refused 4 259)
     (lengths_of f l w (station_answer w (record_of year doy f l) ints count)))
 
 -- its slices afterwards
@@ -60,7 +60,7 @@ host_numbers year doy f l w ints xs =
 unfoldable pub host_switches : List ℤ → List ℤ → List Float → Answer
 host_switches w whole xs =
     cond (not (eqb (length whole) 27)) (Refused 4 27)
-    (cond (not (eqb (length xs) 415)) (Refused 4 415)
+    (cond (not (eqb (length xs) 259)) (Refused 4 259)
     (cond (not (eqb (length w) 24)) (Refused 4 24)
     (switches_answer w whole xs)))
 

@@ -52,8 +52,8 @@ host_held_after w n (c ∷ cs) = host_held_after (host_call_of c w n).0 (host_ca
 -- ---- a new row
 
 again : (a b : Bool) (x : Answer)
-    → cond (not a) (Refused 4 27) (cond (not b) (Refused 4 415) (cond (not a) (Refused 4 27) (cond (not b) (Refused 4 415) x)))
-    ≡ cond (not a) (Refused 4 27) (cond (not b) (Refused 4 415) x)
+    → cond (not a) (Refused 4 27) (cond (not b) (Refused 4 259) (cond (not a) (Refused 4 27) (cond (not b) (Refused 4 259) x)))
+    ≡ cond (not a) (Refused 4 27) (cond (not b) (Refused 4 259) x)
 again true true x = refl
 again true false x = refl
 again false b x = refl
@@ -61,7 +61,7 @@ again false b x = refl
 -- of 24 entries it is the station's own call
 row_met : (u whole : List ℤ) (xs : List Float) → eqb (length u) 24 ≡ true → host_switches u whole xs ≡ switches_answer u whole xs
 unfolding host_switches switches_answer
-row_met u whole xs e = rw e (again (eqb (length whole) 27) (eqb (length xs) 415) _)
+row_met u whole xs e = rw e (again (eqb (length whole) 27) (eqb (length xs) 259) _)
 
 once : {A : Type 0} (b : Bool) (y x : A) → cond b (cond b y x) x ≡ cond b y x
 once true y x = refl
@@ -77,9 +77,9 @@ row_on u whole xs e =
 -- of any other number of entries it is refused
 row_refused : (u whole : List ℤ) (xs : List Float) → eqb (length u) 24 ≡ false → accepted_of (host_switches u whole xs) ≡ false
 unfolding host_switches
-row_refused u whole xs e = rw e (go (eqb (length whole) 27) (eqb (length xs) 415))
+row_refused u whole xs e = rw e (go (eqb (length whole) 27) (eqb (length xs) 259))
   where
-    go : (a b : Bool) → accepted_of (cond (not a) (Refused 4 27) (cond (not b) (Refused 4 415) (Refused 4 24))) ≡ false
+    go : (a b : Bool) → accepted_of (cond (not a) (Refused 4 27) (cond (not b) (Refused 4 259) (Refused 4 24))) ≡ false
     go true true = refl
     go true false = refl
     go false b = refl
@@ -131,11 +131,11 @@ module _ (year doy : ℤ) (f l : List Float) (w : List ℤ) (ys : List ℤ) (xs 
   n = record_of year doy f l
 
   -- its lengths pass, and preparing accepts the record
-  passed : (length w ≡ 24) × (station_answer w n (length ys) (length xs) ≡ Accepted) × (length ys ≡ 27) × (length xs ≡ 415)
+  passed : (length w ≡ 24) × (station_answer w n (length ys) (length xs) ≡ Accepted) × (length ys ≡ 27) × (length xs ≡ 259)
   unfolding host_station lengths_of
   passed =
       let a = no_refusal (not (eqb (length ys) 27)) 4 27 _ e in
-      let b = no_refusal (not (eqb (length xs) 415)) 4 415 _ a.1 in
+      let b = no_refusal (not (eqb (length xs) 259)) 4 259 _ a.1 in
       let c = no_refusal (not (eqb (length f) 8)) 4 8 _ b.1 in
       let d = no_refusal (not (eqb (length l) 0) && not (eqb (length l) 7)) 4 7 _ c.1 in
       let g = no_refusal (not (eqb (length w) 24)) 4 24 _ d.1 in

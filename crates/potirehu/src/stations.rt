@@ -1,4 +1,4 @@
-// A prepared station on the host: 27 whole numbers and 415 numbers that the caller keeps.
+// A prepared station on the host: 27 whole numbers and 259 numbers that the caller keeps.
 ghost use Rattle.std.specs.Prelude.{◌≡◌, length};
 ghost use Rattle.station_answer.specs.Answers.{to_sec, to_lst, to_long, to_fluxes, to_move, altitude_answer, change_answer};
 ghost use Rattle.station.specs.Station.{altitude_row, altitude_drag, changed_numbers};
@@ -30,8 +30,8 @@ pub extern "C" fn potirehu_station(
     if whole.len() != 27 {
         return code(Answer::Refused(4, 27));
     }
-    if numbers.len() != 415 {
-        return code(Answer::Refused(4, 415));
+    if numbers.len() != 259 {
+        return code(Answer::Refused(4, 259));
     }
     let l = lengths(fields, ap_array, switches);
     if !accepted(l) {
@@ -140,8 +140,8 @@ pub extern "C" fn potirehu_station_switches(
     if whole.len() != 27 {
         return code(Answer::Refused(4, 27));
     }
-    if numbers.len() != 415 {
-        return code(Answer::Refused(4, 415));
+    if numbers.len() != 259 {
+        return code(Answer::Refused(4, 259));
     }
     if switches.len() != 24 {
         return code(Answer::Refused(4, 24));

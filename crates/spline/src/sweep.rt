@@ -31,11 +31,20 @@ fn step_u(x: &[f64], y: &[f64], i: usize, yp: f64, up: f64) -> f64
     (6.0 * ((y[hi] - y1) / (x2 - x1) - (y1 - y[lo]) / (x1 - x0)) / (x2 - x0) - sig * up) / p
 }
 
-// The forward sweep over the inner nodes, in both rows.
-fn forward(x: &[f64], y: &[f64], n: usize, y2: &mut [f64], u: &mut [f64])
-    requires { (2 ≤ n) × (n ≤ length x.now) × (n ≤ length y.now) × (length y2.old ≡ 10) × (length u.old ≡ 10) × (n ≤ 10) }
-    ensures { (y2.new, u.new) ≡ forward_of x.now y.now n y2.old u.old }
+// The two rows of the forward sweep.
+#[derive(Clone, Copy)]
+pub struct Pair {
+    pub y2: [f64; 10],
+    pub u: [f64; 10],
+}
+
+// The forward sweep over the inner nodes.
+fn forward(x: &[f64], y: &[f64], n: usize, y0: [f64; 10], u0: [f64; 10]) -> Pair
+    requires { (2 ≤ n) × (n ≤ 10) × (n ≤ length x.now) × (n ≤ length y.now) }
+    ensures { (result.y2, result.u) ≡ forward_of x.now y.now n y0 u0 }
 {
+    let mut y2 = y0;
+    let mut u = u0;
     let mut i: usize = 1;
     while i < n - 1 {
         let yp = y2[i - 1];
@@ -46,6 +55,7 @@ fn forward(x: &[f64], y: &[f64], n: usize, y2: &mut [f64], u: &mut [f64])
         u[i] = b;
         i += 1;
     }
+    Pair { y2: y2, u: u }
 }
 
 // The other row at the first node: 0 at a natural end.
@@ -82,10 +92,11 @@ fn end_of(un: f64, qn: f64, u: f64, y: f64) -> f64
 }
 
 // The sweep back from node m.
-fn backward(m: usize, u: &[f64], y2: &mut [f64])
-    requires { (m < 10) × (length y2.old ≡ 10) × (length u.now ≡ 10) }
-    ensures { y2.new ≡ back m y2.old u.now }
+fn backward(m: usize, y0: [f64; 10], u: [f64; 10]) -> [f64; 10]
+    requires { m < 10 }
+    ensures { result ≡ back m y0 u }
 {
+    let mut y2 = y0;
     let mut k = m;
     while 0 < k {
         let j = k - 1;
@@ -93,6 +104,7 @@ fn backward(m: usize, u: &[f64], y2: &mut [f64])
         y2[j] = a;
         k = j;
     }
+    y2
 }
 
 // The second derivatives of the cubic spline over n nodes.
@@ -106,13 +118,15 @@ pub fn second(x: &[f64], y: &[f64], n: usize, yp1: f64, ypn: f64) -> [f64; 10]
     y2[0] = a;
     let mut u = [0.0; 10];
     u[0] = b;
-    forward(x, y, n, &mut y2, &mut u);
+    let f = forward(x, y, n, y2, u);
     let un = last_u(x, y, n, ypn);
     let qn = pick(ypn > 0.99E30, 0.0, 0.5);
     let i = n - 2;
     let j = n - 1;
-    let e = end_of(un, qn, u[i], y2[i]);
-    y2[j] = e;
-    backward(j, &u, &mut y2);
-    y2
+    let p = f.y2;
+    let q = f.u;
+    let e = end_of(un, qn, q[i], p[i]);
+    let mut r = p;
+    r[j] = e;
+    backward(j, r, q)
 }

@@ -7,10 +7,10 @@ use native.Mathlib.Omega.{arith}
 use borrow.Author.Tests.{eq-eqb, ne_eqb}
 use borrow.Rule.Slice.PartMut.{put_mid}
 use lib.IntN.{ℤ}
-use lib.ListN.{length, take, drop, take-append-drop, length-drop}
+use lib.ListN.{length, take, drop, length-drop}
 use lib.Dec.{lit≤}
-use lib.Seq.{take_at, drop_at, drop-drop, drop-length, take_all, take-take, length-take-le}
-use lib.Ieee.{Float, binary64, of_int}
+use lib.Seq.{take_at, drop_at, drop-drop, drop-length, take-take, length-take-le}
+use lib.Ieee.{Float}
 use Rattle.numbers.specs.Literals.{0·0}
 use Rattle.setting.specs.declared.Input.{Input}
 use Rattle.setting.specs.declared.Flags.{Flags}
@@ -22,11 +22,10 @@ use Rattle.acceptance.specs.declared.Answer.TheVariants.{Refused}
 use Rattle.acceptance.specs.Acceptance.{judged_of, accepted_of, with_alt_of}
 use Rattle.needed_sets.specs.declared.Need.{Need}
 use Rattle.expansion_values.specs.declared.RecordValues.{RecordValues}
-use Rattle.expansion_values.specs.Sets.{expansion_values_given, record_values_given}
+use Rattle.expansion_values.specs.ExpansionValues.{expansion_values_of, record_values_of}
 use Rattle.plan.specs.declared.ExpansionValues.{ExpansionValues}
 use Rattle.gts7_arithmetic.specs.declared.Site.{Site}
 use Rattle.station_values.specs.StationValues.{expansion_numbers, expansion_values_in, globe7_sets, site_under}
-use Rattle.station_values.specs.WholeSeason.{season_of}
 use Rattle.stored_parts.specs.declared.Parts.{Parts}
 use Rattle.stored_parts.specs.Parts.{all_parts}
 use Rattle.stored.specs.Stored.{need_of, part, stored_of, row_stored}
@@ -34,8 +33,8 @@ use Rattle.stored.specs.Rows.{grown}
 use Rattle.drag_sum.specs.DragSum.{dragged_of}
 use Rattle.station_record.specs.Record.{station_whole, record_numbers, record_in, units_in, mixing_in}
 use Rattle.station_answer.specs.Answers.{Change, change_of, station_answer, altitude_answer, change_answer, switches_answer, row_taken}
-use Rattle.station.specs.Station.{held_of, refilled_of, station_numbers, values_put, filled_of, sec_filled, whole_after, station_numbers_after, altitude_row, altitude_drag, refilled_by, changed_numbers, renewed_of, switched_whole, switched_numbers}
-use Rattle.station.specs.Renewed.{record_fourteen, twenty_five, refilled_from, refilled_is, filled_told}
+use Rattle.station.specs.Station.{held_of, refilled_of, station_numbers, values_put, sec_filled, whole_after, station_numbers_after, altitude_row, altitude_drag, refilled_by, changed_numbers, renewed_of, switched_whole, switched_numbers}
+use Rattle.station.specs.Renewed.{record_fourteen, twenty_five, refilled_from, refilled_is}
 
 -- the first 234 of a list and what is stored in them
 pub refill_law : (w : List ℤ) (n : Input) (xs s : List Float) (f : Flags) (x : Site) (l : ExpansionValues) (p : Parts)
@@ -50,42 +49,24 @@ refill_law w n xs s f x l p e0 e1 e2 e3 e4 =
     let made : stored_of p f.sw x l ≡ stored_of all_parts (sw_of w) (site_under (sw_of w) n) (expansion_values_in (part 234 25 xs)) = rw (e1, e2, e3, e4) in
     rw (e0, made, take-take 14 234 xs (lit≤ tt)) (append_assoc (take 14 xs) _ (drop 234 xs))
 
--- ---- the expansions' values in their places, out of the season behind them
+-- ---- the expansions' values in their places
 
-season_behind : (xs : List Float) → length xs ≡ 415 → length (drop 259 xs) ≡ 156
-season_behind xs len = length-drop 259 xs ∙ omega (arith, len)
+pub all_put : (w : List ℤ) (n : Input) (a : Need) (xs k t : List Float) (v : RecordValues)
+    → length xs ≡ 259 → t ≡ k → k ≡ expansion_numbers v.values → v ≡ record_values_of w n a → a.nodes ≡ true → put_mid 234 25 xs t ≡ values_put w n a xs
+unfolding values_put record_values_of
+all_put w n a xs k t v len e0 e1 e2 f =
+    let K = expansion_numbers (expansion_values_of (view_of w n) a) in
+    let nothing : drop 25 (drop 234 xs) ≡ [] = drop-drop 25 234 xs ∙ ap (λ (i : ℕ). drop i xs) (sym len) ∙ drop-length xs in
+    let put : put_mid 234 25 xs t ≡ take 234 xs ++ K = rw (e0, e1, e2, nothing) (ap (λ (u : List Float). take 234 xs ++ u) (append-nil K)) in
+    put ∙ ap (λ (b : Bool). take 234 xs ++ cond b K (take 11 K ++ drop 245 xs)) (sym f)
 
--- the part of the numbers that is lent is all that stands behind the first 259
-lent : (xs : List Float) → length xs ≡ 415 → part 259 156 xs ≡ drop 259 xs
-lent xs len = take_all 156 (drop 259 xs) (rw (season_behind xs len) (lit≤ tt))
-
-module _ (w : List ℤ) (n : Input) (a : Need) (xs k t : List Float) (v : RecordValues)
-    (len : length xs ≡ 415) (e1 : k ≡ expansion_numbers v.values) (e2 : v ≡ record_values_given w n a (part 259 156 xs)) where
-  abbrev K : List Float
-  K = expansion_numbers (expansion_values_given (view_of w n) a (drop 259 xs))
-
-  values_given : k ≡ K
-  unfolding record_values_given
-  values_given = e1 ∙ rw (e2, lent xs len)
-
-  -- what is put, by the test that was taken
-  abbrev chosen : Bool → List Float
-  chosen b = take 234 xs ++ (cond b K (take 11 K ++ part 245 14 xs) ++ drop 259 xs)
-
-  pub all_put : t ≡ k → a.nodes ≡ true → put_mid 234 25 xs t ≡ values_put w n a xs
-  unfolding values_put
-  all_put e0 f =
-      let put : put_mid 234 25 xs t ≡ chosen true = rw (e0, values_given) (ap (λ (u : List Float). take 234 xs ++ (K ++ u)) (drop-drop 25 234 xs)) in
-      put ∙ ap chosen (sym f)
-
-  pub some_put : t ≡ take 11 k → a.nodes ≡ false → put_mid 234 11 xs t ≡ values_put w n a xs
-  unfolding values_put
-  some_put e0 f =
-      let split : drop 11 (drop 234 xs) ≡ part 245 14 xs ++ drop 259 xs =
-      drop-drop 11 234 xs ∙ sym (take-append-drop 14 (drop 245 xs)) ∙ ap (λ (u : List Float). part 245 14 xs ++ u) (drop-drop 14 245 xs) in
-      let put : put_mid 234 11 xs t ≡ chosen false =
-      rw (e0, values_given, split) (ap (λ (u : List Float). take 234 xs ++ u) (sym (append_assoc (take 11 K) (part 245 14 xs) (drop 259 xs)))) in
-      put ∙ ap chosen (sym f)
+pub some_put : (w : List ℤ) (n : Input) (a : Need) (xs k t : List Float) (v : RecordValues)
+    → t ≡ take 11 k → k ≡ expansion_numbers v.values → v ≡ record_values_of w n a → a.nodes ≡ false → put_mid 234 11 xs t ≡ values_put w n a xs
+unfolding values_put record_values_of
+some_put w n a xs k t v e0 e1 e2 f =
+    let K = expansion_numbers (expansion_values_of (view_of w n) a) in
+    let put : put_mid 234 11 xs t ≡ take 234 xs ++ (take 11 K ++ drop 245 xs) = rw (e0, e1, e2) (ap (λ (u : List Float). take 234 xs ++ (take 11 K ++ u)) (drop-drop 11 234 xs)) in
+    put ∙ ap (λ (b : Bool). take 234 xs ++ cond b K (take 11 K ++ drop 245 xs)) (sym f)
 
 -- ---- the record's numbers before them, and between the two what no altitude changes
 
@@ -93,34 +74,33 @@ behind : (n : Input) (vs : List Float) → drop 234 (record_numbers n ++ drop 14
 behind n vs =
     sym (drop-drop 220 14 (record_numbers n ++ drop 14 vs)) ∙ ap (drop 220) (drop_at (record_numbers n) (drop 14 vs) 14 (record_fourteen n)) ∙ drop-drop 220 14 vs
 
-values_behind : (xs k : List Float) → length xs ≡ 415 → drop 234 (take 234 xs ++ k) ≡ k
+values_behind : (xs k : List Float) → length xs ≡ 259 → drop 234 (take 234 xs ++ k) ≡ k
 values_behind xs k len = drop_at (take 234 xs) k 234 (length-take-le 234 xs (omega (arith, len)))
 
 pub fill_law : (w : List ℤ) (n : Input) (xs vs zs r s : List Float) (a : Need) (p : Parts)
-    → length xs ≡ 415
+    → length xs ≡ 259
     → zs ≡ refilled_of w n (put_mid 0 14 vs s)
     → s ≡ r
     → r ≡ record_numbers n
     → vs ≡ values_put w n a xs
     → a ≡ need_of p
     → p ≡ all_parts
-    → zs ≡ filled_of w n xs
-unfolding filled_of values_put need_of all_parts
+    → zs ≡ station_numbers w n
+unfolding station_numbers values_put need_of all_parts
 fill_law w n xs vs zs r s a p len e0 e1 e2 e3 e4 e5 =
-    let l = expansion_values_given (view_of w n) (need_of all_parts) (drop 259 xs) in
-    let put : vs ≡ take 234 xs ++ (expansion_numbers l ++ drop 259 xs) = rw (e4, e5) at e3 in
+    let l = expansion_values_of (view_of w n) (need_of all_parts) in
+    let put : vs ≡ take 234 xs ++ expansion_numbers l = rw (e4, e5) at e3 in
     let written : put_mid 0 14 vs s ≡ record_numbers n ++ drop 14 vs = rw (e1, e2) in
     e0 ∙ ap (refilled_of w n) written
-    ∙ refilled_is w n _ l (drop 259 xs) (take_at (record_numbers n) (drop 14 vs) 14 (record_fourteen n)) (behind n vs ∙ ap (drop 234) put ∙ values_behind xs (expansion_numbers l ++ drop 259 xs) len)
+    ∙ refilled_is w n _ l (take_at (record_numbers n) (drop 14 vs) 14 (record_fourteen n)) (behind n vs ∙ ap (drop 234) put ∙ values_behind xs (expansion_numbers l) len)
 
-eleven_and_fourteen : (l : ExpansionValues) (xs : List Float) → length xs ≡ 415 → length (take 11 (expansion_numbers l) ++ part 245 14 xs) ≡ 25
+eleven_and_fourteen : (l : ExpansionValues) (xs : List Float) → length xs ≡ 259 → length (take 11 (expansion_numbers l) ++ drop 245 xs) ≡ 25
 eleven_and_fourteen l xs len =
     let long : 11 ≤ length (expansion_numbers l) = rw (twenty_five l) (lit≤ tt) in
-    let room : 14 ≤ length (drop 245 xs) = rw (length-drop 245 xs) (omega (arith, len)) in
-    grown (take 11 (expansion_numbers l)) (part 245 14 xs) 11 14 (length-take-le 11 (expansion_numbers l) long) (length-take-le 14 (drop 245 xs) room)
+    grown (take 11 (expansion_numbers l)) (drop 245 xs) 11 14 (length-take-le 11 (expansion_numbers l) long) (length-drop 245 xs ∙ omega (arith, len))
 
 pub fill_sec_law : (w : List ℤ) (n : Input) (xs vs zs r s : List Float) (a : Need)
-    → length xs ≡ 415
+    → length xs ≡ 259
     → zs ≡ refilled_of w n (put_mid 0 14 vs s)
     → s ≡ r
     → r ≡ record_numbers n
@@ -129,20 +109,12 @@ pub fill_sec_law : (w : List ℤ) (n : Input) (xs vs zs r s : List Float) (a : N
     → zs ≡ sec_filled w n xs
 unfolding sec_filled values_put globe7_sets
 fill_sec_law w n xs vs zs r s a len e0 e1 e2 e3 e4 =
-    let l = expansion_values_given (view_of w n) globe7_sets (drop 259 xs) in
-    let k : List Float = take 11 (expansion_numbers l) ++ part 245 14 xs in
-    let put : vs ≡ take 234 xs ++ (k ++ drop 259 xs) = rw e4 at e3 in
+    let l = expansion_values_of (view_of w n) globe7_sets in
+    let k : List Float = take 11 (expansion_numbers l) ++ drop 245 xs in
+    let put : vs ≡ take 234 xs ++ k = rw e4 at e3 in
     let written : put_mid 0 14 vs s ≡ record_numbers n ++ drop 14 vs = rw (e1, e2) in
     e0 ∙ ap (refilled_of w n) written
-    ∙ refilled_from w n _ k (drop 259 xs) (take_at (record_numbers n) (drop 14 vs) 14 (record_fourteen n)) (behind n vs ∙ ap (drop 234) put ∙ values_behind xs (k ++ drop 259 xs) len) (eleven_and_fourteen l xs len)
-
--- the season of the record's day first, then what is worked out of it
-pub fill_anew_law : (w : List ℤ) (n : Input) (xs t zs : List Float)
-    → length xs ≡ 415 → t ≡ season_of (of_int binary64 n.doy) → zs ≡ filled_of w n (put_mid 259 156 xs t) → zs ≡ station_numbers w n
-fill_anew_law w n xs t zs len e f =
-    let nothing : drop 156 (drop 259 xs) ≡ [] = drop-drop 156 259 xs ∙ ap (λ (i : ℕ). drop i xs) (sym len) ∙ drop-length xs in
-    let put : drop 259 (put_mid 259 156 xs t) ≡ t ++ drop 156 (drop 259 xs) = drop_at (take 259 xs) _ 259 (length-take-le 259 xs (omega (arith, len))) in
-    f ∙ filled_told w n (put_mid 259 156 xs t) (put ∙ ap (λ (u : List Float). t ++ u) nothing ∙ append-nil t ∙ e)
+    ∙ refilled_from w n _ k (take_at (record_numbers n) (drop 14 vs) 14 (record_fourteen n)) (behind n vs ∙ ap (drop 234) put ∙ values_behind xs k len) (eleven_and_fourteen l xs len)
 
 -- ---- preparing
 
@@ -185,11 +157,11 @@ module _ (c : Change) (whole : List ℤ) (xs : List Float) where
   unfolding change_answer
   change_no_whole h = kept (Refused 4 27) (simp (ne_eqb _ _ h)) refl
 
-  pub change_no_numbers : length whole ≡ 27 → (length xs ≡ 415 → ⊥) → Changed (Refused 4 415) xs
+  pub change_no_numbers : length whole ≡ 27 → (length xs ≡ 259 → ⊥) → Changed (Refused 4 259) xs
   unfolding change_answer
-  change_no_numbers e h = kept (Refused 4 415) (simp (eq-eqb _ _ e, ne_eqb _ _ h)) refl
+  change_no_numbers e h = kept (Refused 4 259) (simp (eq-eqb _ _ e, ne_eqb _ _ h)) refl
 
-  pub change_met : length whole ≡ 27 → length xs ≡ 415 → (w : List ℤ) (m : Input) (a : Answer) (ys : List Float)
+  pub change_met : length whole ≡ 27 → length xs ≡ 259 → (w : List ℤ) (m : Input) (a : Answer) (ys : List Float)
       → w ≡ drop 3 whole → m ≡ change_of c (record_in whole xs) → a ≡ judged_of w m → ys ≡ cond (accepted_of (judged_of w m)) (refilled_by c w m xs) xs → Changed a ys
   unfolding change_answer changed_numbers
   change_met e f w m a ys ew em ea ey =
@@ -229,7 +201,7 @@ pub renewed : (old w : List ℤ) (n : Input) (xs zs : List Float) (b : Bool) →
 unfolding renewed_of
 renewed old w n xs zs b e t h = rw (sym e ∙ t) h
 
-pub made_anew : (old w : List ℤ) (n : Input) (xs zs : List Float) (b : Bool) → b ≡ same_expansions old w → b ≡ false → zs ≡ filled_of w n xs → zs ≡ renewed_of old w n xs
+pub made_anew : (old w : List ℤ) (n : Input) (xs zs : List Float) (b : Bool) → b ≡ same_expansions old w → b ≡ false → zs ≡ station_numbers w n → zs ≡ renewed_of old w n xs
 unfolding renewed_of
 made_anew old w n xs zs b e t h = rw (sym e ∙ t) h
 
@@ -245,11 +217,11 @@ module _ (w whole : List ℤ) (xs : List Float) where
   unfolding switches_answer
   switches_no_whole h = stays (Refused 4 27) (simp (ne_eqb _ _ h)) refl
 
-  pub switches_no_numbers : length whole ≡ 27 → (length xs ≡ 415 → ⊥) → Switched (Refused 4 415) whole xs
+  pub switches_no_numbers : length whole ≡ 27 → (length xs ≡ 259 → ⊥) → Switched (Refused 4 259) whole xs
   unfolding switches_answer
-  switches_no_numbers e h = stays (Refused 4 415) (simp (eq-eqb _ _ e, ne_eqb _ _ h)) refl
+  switches_no_numbers e h = stays (Refused 4 259) (simp (eq-eqb _ _ e, ne_eqb _ _ h)) refl
 
-  module _ (e : length whole ≡ 27) (f : length xs ≡ 415) (n : Input) (a : Answer) (ys : List ℤ) (v : Bool)
+  module _ (e : length whole ≡ 27) (f : length xs ≡ 259) (n : Input) (a : Answer) (ys : List ℤ) (v : Bool)
       (en : n ≡ record_in whole xs) (ea : a ≡ judged_of w n) (ey : ys ≡ row_taken w n whole) (ev : v ≡ accepted_of a) where
     met : switches_answer w whole xs ≡ judged_of w n
     unfolding switches_answer

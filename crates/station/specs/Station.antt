@@ -1,7 +1,5 @@
 -- Document 02's W-201 and W-213: a prepared station, and what its slices and the lent row hold after each call.
 use Rattle.std.specs.Prelude.{ℕ, cond, List, ◌++◌, ℤ, length, take, drop, Float}
-use Rattle.std.specs.Float.{binary64}
-use Rattle.std.specs.Float.Ieee.{of_int}
 use Rattle.numbers.specs.Literals.{0·0}
 use Rattle.setting.specs.declared.Input.{Input}
 use Rattle.needed_sets.specs.declared.Need.{Need}
@@ -10,10 +8,8 @@ use Rattle.views.specs.View.{view_of}
 use Rattle.switch_rows.specs.Rows.{same_expansions}
 use Rattle.acceptance.specs.Acceptance.{judged_of, accepted_of, with_alt_of}
 use Rattle.expansion_values.specs.ExpansionValues.{expansion_values_of}
-use Rattle.expansion_values.specs.Sets.{expansion_values_given}
 use Rattle.plan.specs.declared.ExpansionValues.{ExpansionValues}
 use Rattle.station_values.specs.StationValues.{expansion_numbers, expansion_values_in, globe7_sets, site_under}
-use Rattle.station_values.specs.WholeSeason.{season_of}
 use Rattle.stored_parts.specs.Parts.{all_parts}
 use Rattle.stored.specs.Stored.{need_of, part, stored_of, row_stored}
 use Rattle.drag_sum.specs.DragSum.{dragged_of}
@@ -24,30 +20,23 @@ use Rattle.station_answer.specs.Answers.{Change, to_sec, to_lst, to_long, to_flu
 unfoldable pub held_of : List ℤ → Input → ExpansionValues → List Float
 held_of w n l = stored_of all_parts (sw_of w) (site_under (sw_of w) n) l
 
--- the record's numbers, behind them what no altitude changes, behind that the expansions' values, behind these the season of the record's day
+-- the record's numbers, behind them what no altitude changes, behind that the expansions' values
 unfoldable pub station_numbers : List ℤ → Input → List Float
 station_numbers w n =
     let l = expansion_values_of (view_of w n) (need_of all_parts) in
-    record_numbers n ++ (held_of w n l ++ (expansion_numbers l ++ season_of (of_int binary64 n.doy)))
+    record_numbers n ++ (held_of w n l ++ expansion_numbers l)
 
--- the expansions' values of a record under a row in their places, out of the season that is there: globe7's eleven, and glob7s' fourteen where a asks
--- for their sets
+-- the expansions' values of a record under a row in their places: globe7's eleven, and glob7s' fourteen where a asks for their sets
 unfoldable pub values_put : List ℤ → Input → Need → List Float → List Float
 values_put w n a xs =
-    let k = expansion_numbers (expansion_values_given (view_of w n) a (drop 259 xs)) in
-    take 234 xs ++ (cond a.nodes k (take 11 k ++ part 245 14 xs) ++ drop 259 xs)
+    let k = expansion_numbers (expansion_values_of (view_of w n) a) in
+    take 234 xs ++ cond a.nodes k (take 11 k ++ drop 245 xs)
 
--- the same as station_numbers, out of the season that the numbers hold, whatever it is
-unfoldable pub filled_of : List ℤ → Input → List Float → List Float
-filled_of w n xs =
-    let l = expansion_values_given (view_of w n) (need_of all_parts) (drop 259 xs) in
-    record_numbers n ++ (held_of w n l ++ (expansion_numbers l ++ drop 259 xs))
-
--- the same with glob7s' fourteen values, too, as the numbers hold them
+-- the same as station_numbers, with glob7s' fourteen values as the numbers hold them
 unfoldable pub sec_filled : List ℤ → Input → List Float → List Float
 sec_filled w n xs =
-    let k = take 11 (expansion_numbers (expansion_values_given (view_of w n) globe7_sets (drop 259 xs))) ++ part 245 14 xs in
-    record_numbers n ++ (held_of w n (expansion_values_in k) ++ (k ++ drop 259 xs))
+    let k = take 11 (expansion_numbers (expansion_values_of (view_of w n) globe7_sets)) ++ drop 245 xs in
+    record_numbers n ++ (held_of w n (expansion_values_in k) ++ k)
 
 -- the slices afterwards: refused, as they were
 unfoldable pub whole_after : List ℤ → Input → List ℤ → ℕ → List ℤ
@@ -70,7 +59,7 @@ altitude_drag whole xs alt row =
 
 -- a record in the place of the station's, where it is accepted
 unfoldable pub replaced_of : List ℤ → Input → List Float → List Float
-replaced_of w n xs = cond (accepted_of (judged_of w n)) (filled_of w n xs) xs
+replaced_of w n xs = cond (accepted_of (judged_of w n)) (station_numbers w n) xs
 
 -- the same where sec alone is another
 unfoldable pub replaced_sec : List ℤ → Input → List Float → List Float
@@ -79,10 +68,10 @@ replaced_sec w n xs = cond (accepted_of (judged_of w n)) (sec_filled w n xs) xs
 -- the numbers of a changed record: sec leaves glob7s' values as they are
 abbrev pub refilled_by : Change → List ℤ → Input → List Float → List Float
 refilled_by (to_sec s) w n xs = sec_filled w n xs
-refilled_by (to_lst l) w n xs = filled_of w n xs
-refilled_by (to_long g) w n xs = filled_of w n xs
-refilled_by (to_fluxes a f) w n xs = filled_of w n xs
-refilled_by (to_move s l g) w n xs = filled_of w n xs
+refilled_by (to_lst l) w n xs = station_numbers w n
+refilled_by (to_long g) w n xs = station_numbers w n
+refilled_by (to_fluxes a f) w n xs = station_numbers w n
+refilled_by (to_move s l g) w n xs = station_numbers w n
 
 -- the numbers afterwards: refused, as they were; the whole numbers stay
 unfoldable pub changed_numbers : Change → List ℤ → List Float → List Float
@@ -96,7 +85,7 @@ refilled_of w n xs = take 14 xs ++ (held_of w n (expansion_values_in (part 234 2
 
 -- the numbers under the row w in the place of the row old: where the entries 1 to 14 have the same effects, no expansion is worked out again
 unfoldable pub renewed_of : List ℤ → List ℤ → Input → List Float → List Float
-renewed_of old w n xs = cond (same_expansions old w) (refilled_of w n xs) (filled_of w n xs)
+renewed_of old w n xs = cond (same_expansions old w) (refilled_of w n xs) (station_numbers w n)
 
 -- the slices afterwards: refused, as they were
 unfoldable pub switched_whole : List ℤ → List ℤ → List Float → List ℤ

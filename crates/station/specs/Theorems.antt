@@ -31,7 +31,7 @@ use Rattle.station_record.specs.Record.{mark_of, history_in, station_whole, reco
 use Rattle.station_answer.specs.Answers.{station_answer, altitude_answer, with_sec_of, with_lst_of, with_long_of, with_fluxes_of, Change, to_sec, to_lst, to_long, to_fluxes, to_move, change_of, change_answer, switches_answer}
 use Rattle.station_values.specs.StationValues.{site_under}
 use Rattle.station.specs.Station.{held_of, station_numbers, whole_after, station_numbers_after, altitude_row, refilled_by, changed_numbers, switched_whole, switched_numbers}
-use Rattle.station.specs.Renewed.{season_held, record_fourteen, numbers_long, numbers_front, numbers_season, filled_told, renewed_told, sec_told}
+use Rattle.station.specs.Renewed.{record_fourteen, numbers_long, numbers_front, renewed_told, sec_told}
 
 -- ---- stations that were given: prepared, then any number of changes and new rows, refused ones among them
 
@@ -165,21 +165,12 @@ pub change_refused : (c : Change) (whole : List ℤ) (xs : List Float) → accep
 unfolding changed_numbers
 change_refused c whole xs e = rw e
 
--- No change sets another day, so the season that the numbers hold is the changed record's
-pub season_kept : (w : List ℤ) (n : Input) (c : Change) → drop 259 (station_numbers w n) ≡ season_held (change_of c n)
-unfolding with_sec_of with_lst_of with_long_of with_fluxes_of
-season_kept w n (to_sec y) = numbers_season w n
-season_kept w n (to_lst y) = numbers_season w n
-season_kept w n (to_long y) = numbers_season w n
-season_kept w n (to_fluxes a f) = numbers_season w n
-season_kept w n (to_move s l g) = numbers_season w n
-
 refilled_by_lem : (w : List ℤ) (n : Input) (c : Change) → refilled_by c w (change_of c n) (station_numbers w n) ≡ station_numbers w (change_of c n)
 refilled_by_lem w n (to_sec s) = sec_told w n s
-refilled_by_lem w n (to_lst l) = filled_told w _ (station_numbers w n) (season_kept w n (to_lst l))
-refilled_by_lem w n (to_long g) = filled_told w _ (station_numbers w n) (season_kept w n (to_long g))
-refilled_by_lem w n (to_fluxes a f) = filled_told w _ (station_numbers w n) (season_kept w n (to_fluxes a f))
-refilled_by_lem w n (to_move s l g) = filled_told w _ (station_numbers w n) (season_kept w n (to_move s l g))
+refilled_by_lem w n (to_lst l) = refl
+refilled_by_lem w n (to_long g) = refl
+refilled_by_lem w n (to_fluxes a f) = refl
+refilled_by_lem w n (to_move s l g) = refl
 
 change_told : (w : List ℤ) (n : Input) (c : Change) → Held w n
     → changed_numbers c (station_whole w n) (station_numbers w n) ≡ station_numbers w (cond (accepted_of (judged_of w (change_of c n))) (change_of c n) n)
@@ -256,7 +247,7 @@ kept_station w n (c ∷ cs) h =
     (ap (λ (s : List ℤ × List Float). station_after s.0 s.1 cs) (call_told c w n h) ∙ r.0, r.1)
 
 -- so it equals the one that preparing that record with that row anew gives, whatever memory is lent
-pub as_prepared : (w : List ℤ) (n : Input) (cs : List Call) (ys : List ℤ) (xs : List Float) → Held w n → length ys ≡ 27 → length xs ≡ 415
+pub as_prepared : (w : List ℤ) (n : Input) (cs : List Call) (ys : List ℤ) (xs : List Float) → Held w n → length ys ≡ 27 → length xs ≡ 259
     → station_after (station_whole w n) (station_numbers w n) cs
     ≡ (whole_after (held_after w n cs).0 (held_after w n cs).1 ys (length xs), station_numbers_after (held_after w n cs).0 (held_after w n cs).1 (length ys) xs)
 unfolding whole_after station_numbers_after station_answer
@@ -339,7 +330,7 @@ unfolding altitude_answer
 in_range len whole count z h =
     let a = passed (eqb len 11) 4 11 _ h in
     let b = passed (eqb (length whole) 27) 4 27 _ a.1 in
-    let c = passed (eqb count 415) 4 415 _ b.1 in
+    let c = passed (eqb count 259) 4 259 _ b.1 in
     let d = passed (finite_of z) 2 3 _ c.1 in
     let g = passed (day_within (get_or whole 1 (pos 0))) 3 1 _ d.1 in
     (passed (within_of 0·0 2500·0 z) 3 3 _ g.1).0
@@ -385,7 +376,7 @@ day_kept w n cs h =
     rw r.0 (day_held (held_after w n cs).0 (held_after w n cs).1 r.1)
 
 -- Slices of zeros, never prepared: no altitude is accepted
-pub unprepared_refused : (z : Float) → altitude_answer 11 (replicate 27 (pos 0)) 415 z ≡ cond (not (finite_of z)) (Refused 2 3) (Refused 3 1)
+pub unprepared_refused : (z : Float) → altitude_answer 11 (replicate 27 (pos 0)) 259 z ≡ cond (not (finite_of z)) (Refused 2 3) (Refused 3 1)
 unfolding altitude_answer
 unprepared_refused z = refl
 
@@ -427,7 +418,7 @@ change_kept w n cs c h =
     rw r.0 (change_met (held_after w n cs).0 (held_after w n cs).1 c r.1)
 
 -- what preparing accepts is held
-pub prepared_held : (w : List ℤ) (n : Input) → length w ≡ 24 → length n.ap_array ≡ 7 → station_answer w n 27 415 ≡ Accepted → Held w (with_alt_of n 0·0)
+pub prepared_held : (w : List ℤ) (n : Input) → length w ≡ 24 → length n.ap_array ≡ 7 → station_answer w n 27 259 ≡ Accepted → Held w (with_alt_of n 0·0)
 unfolding station_answer with_alt_of
 prepared_held w n e f t = record { row = e; seven = f; zero = refl; taken = t }
 

@@ -5,11 +5,11 @@
 ghost use Rattle.std.specs.Prelude.{◌≡◌, length};
 ghost use Rattle.acceptance.specs.Acceptance.{judged_of};
 ghost use Rattle.station_answer.specs.Answers.{to_sec, to_lst, to_long, to_fluxes, to_move, station_answer, altitude_answer, change_answer, switches_answer};
-ghost use Rattle.station.specs.Station.{refilled_of, station_numbers, values_put, filled_of, sec_filled, whole_after, station_numbers_after, altitude_row, altitude_drag, replaced_of, replaced_sec, changed_numbers, renewed_of, switched_whole, switched_numbers};
+ghost use Rattle.station.specs.Station.{refilled_of, station_numbers, values_put, sec_filled, whole_after, station_numbers_after, altitude_row, altitude_drag, replaced_of, replaced_sec, changed_numbers, renewed_of, switched_whole, switched_numbers};
 
 use acceptance::{Answer, accepted, judge, with_alt};
 use drag_sum::drag_on;
-use expansion_values::record_values_in;
+use expansion_values::record_values;
 use needed_sets::Need;
 use setting::Input;
 use setting::switches::tselec;
@@ -17,7 +17,7 @@ use station_answer::{
     altitude_answer, station_answer, take_row, to_fluxes, to_g_long, to_lst, to_move, to_sec,
 };
 use station_record::{mixing_in, put_whole, record_in, record_numbers, row_in, units_in};
-use station_values::{expansion_numbers, expansion_values_in, globe7_sets, put_season, site_under};
+use station_values::{expansion_numbers, expansion_values_in, globe7_sets, site_under};
 use stored::{need_of, put, station_row_on, store};
 use stored_parts::all_parts;
 use switch_rows::same_expansions;
@@ -26,7 +26,7 @@ use switch_rows::same_expansions;
 
 // What no altitude changes, out of the expansions' values that the numbers hold. It is handed no View, so no expansion is worked out here.
 pub fn refill(w: [i32; 24], n: Input, numbers: &mut [f64])
-    requires { length numbers.old ≡ 415 }
+    requires { length numbers.old ≡ 259 }
     ensures { numbers.new ≡ refilled_of w n numbers.old }
 {
     let f = tselec(w);
@@ -37,13 +37,13 @@ pub fn refill(w: [i32; 24], n: Input, numbers: &mut [f64])
     store(p, sw, x, l, &mut numbers[0..234]);
 }
 
-// The expansions' values of a record under a switch row, out of the season that the numbers hold, into their places: globe7's eleven, and glob7s' fourteen
-// where a asks for their sets.
+// The expansions' values of a record under a switch row into their places: globe7's eleven, and glob7s' fourteen where a asks for their sets.
 pub fn put_values(w: [i32; 24], n: Input, a: Need, numbers: &mut [f64])
-    requires { length numbers.old ≡ 415 }
+    requires { length numbers.old ≡ 259 }
     ensures { numbers.new ≡ values_put w n a numbers.old }
 {
-    let v = record_values_in(w, n, a, &numbers[259..415]);
+    let mut season = [0.0; 156];
+    let v = record_values(w, n, a, &mut season);
     let k = expansion_numbers(v.values);
     if a.nodes {
         put(&mut numbers[234..259], &k);
@@ -52,10 +52,10 @@ pub fn put_values(w: [i32; 24], n: Input, a: Need, numbers: &mut [f64])
     put(&mut numbers[234..245], &k[0..11]);
 }
 
-// What a record and a switch row give, into the numbers of a station, whose season stays.
+// What a record and a switch row give, into the numbers of a station.
 pub fn fill(w: [i32; 24], n: Input, numbers: &mut [f64])
-    requires { length numbers.old ≡ 415 }
-    ensures { numbers.new ≡ filled_of w n numbers.old }
+    requires { length numbers.old ≡ 259 }
+    ensures { numbers.new ≡ station_numbers w n }
 {
     let p = all_parts();
     let a = need_of(p);
@@ -65,18 +65,9 @@ pub fn fill(w: [i32; 24], n: Input, numbers: &mut [f64])
     refill(w, n, numbers);
 }
 
-// The same with the season of the record's day first, whole: no change sets another day, and every row and every change finds there what it reads.
-pub fn fill_anew(w: [i32; 24], n: Input, numbers: &mut [f64])
-    requires { length numbers.old ≡ 415 }
-    ensures { numbers.new ≡ station_numbers w n }
-{
-    put_season(n, &mut numbers[259..415]);
-    fill(w, n, numbers);
-}
-
-// What a record and a switch row give where sec alone is another: glob7s reads no sec, and its fourteen values stay too.
+// The same where sec alone is another: glob7s reads no sec, and its fourteen values stay.
 pub fn fill_sec(w: [i32; 24], n: Input, numbers: &mut [f64])
-    requires { length numbers.old ≡ 415 }
+    requires { length numbers.old ≡ 259 }
     ensures { numbers.new ≡ sec_filled w n numbers.old }
 {
     let a = globe7_sets();
@@ -100,7 +91,7 @@ pub fn prepare(w: [i32; 24], n: Input, whole: &mut [i32], numbers: &mut [f64]) -
     }
     let m = with_alt(n, 0.0);
     put_whole(w, m, whole);
-    fill_anew(w, m, numbers);
+    fill(w, m, numbers);
     a
 }
 
@@ -137,7 +128,7 @@ pub fn gtd7d(whole: &[i32], numbers: &[f64], alt: f64, out: &mut [f64]) -> Answe
 
 // A record that takes the place of the station's: judged first, and written only if it is accepted.
 pub fn changed(w: [i32; 24], n: Input, numbers: &mut [f64]) -> Answer
-    requires { length numbers.old ≡ 415 }
+    requires { length numbers.old ≡ 259 }
     ensures { (result ≡ judged_of w n) × (numbers.new ≡ replaced_of w n numbers.old) }
 {
     let a = judge(w, n);
@@ -150,7 +141,7 @@ pub fn changed(w: [i32; 24], n: Input, numbers: &mut [f64]) -> Answer
 
 // The same where sec alone is another.
 pub fn changed_sec(w: [i32; 24], n: Input, numbers: &mut [f64]) -> Answer
-    requires { length numbers.old ≡ 415 }
+    requires { length numbers.old ≡ 259 }
     ensures { (result ≡ judged_of w n) × (numbers.new ≡ replaced_sec w n numbers.old) }
 {
     let verdict = judge(w, n);
@@ -167,8 +158,8 @@ pub fn change_sec(whole: &[i32], numbers: &mut [f64], sec: f64) -> Answer
     if whole.len() != 27 {
         return Answer::Refused(4, 27);
     }
-    if numbers.len() != 415 {
-        return Answer::Refused(4, 415);
+    if numbers.len() != 259 {
+        return Answer::Refused(4, 259);
     }
     let w = row_in(whole);
     let m = to_sec(whole, numbers, sec);
@@ -181,8 +172,8 @@ pub fn change_lst(whole: &[i32], numbers: &mut [f64], lst: f64) -> Answer
     if whole.len() != 27 {
         return Answer::Refused(4, 27);
     }
-    if numbers.len() != 415 {
-        return Answer::Refused(4, 415);
+    if numbers.len() != 259 {
+        return Answer::Refused(4, 259);
     }
     let w = row_in(whole);
     let m = to_lst(whole, numbers, lst);
@@ -195,8 +186,8 @@ pub fn change_g_long(whole: &[i32], numbers: &mut [f64], g_long: f64) -> Answer
     if whole.len() != 27 {
         return Answer::Refused(4, 27);
     }
-    if numbers.len() != 415 {
-        return Answer::Refused(4, 415);
+    if numbers.len() != 259 {
+        return Answer::Refused(4, 259);
     }
     let w = row_in(whole);
     let m = to_g_long(whole, numbers, g_long);
@@ -209,8 +200,8 @@ pub fn change_fluxes(whole: &[i32], numbers: &mut [f64], f107a: f64, f107: f64) 
     if whole.len() != 27 {
         return Answer::Refused(4, 27);
     }
-    if numbers.len() != 415 {
-        return Answer::Refused(4, 415);
+    if numbers.len() != 259 {
+        return Answer::Refused(4, 259);
     }
     let w = row_in(whole);
     let m = to_fluxes(whole, numbers, f107a, f107);
@@ -224,8 +215,8 @@ pub fn change_move(whole: &[i32], numbers: &mut [f64], sec: f64, lst: f64, g_lon
     if whole.len() != 27 {
         return Answer::Refused(4, 27);
     }
-    if numbers.len() != 415 {
-        return Answer::Refused(4, 415);
+    if numbers.len() != 259 {
+        return Answer::Refused(4, 259);
     }
     let w = row_in(whole);
     let m = to_move(whole, numbers, sec, lst, g_long);
@@ -236,7 +227,7 @@ pub fn change_move(whole: &[i32], numbers: &mut [f64], sec: f64, lst: f64, g_lon
 
 // The numbers under the row w in the place of the row old; the expansions' values stay where the rows give the same.
 pub fn renew(old: [i32; 24], w: [i32; 24], n: Input, numbers: &mut [f64])
-    requires { length numbers.old ≡ 415 }
+    requires { length numbers.old ≡ 259 }
     ensures { numbers.new ≡ renewed_of old w n numbers.old }
 {
     if same_expansions(old, w) {
@@ -255,8 +246,8 @@ pub fn change_switches(w: [i32; 24], whole: &mut [i32], numbers: &mut [f64]) -> 
     if whole.len() != 27 {
         return Answer::Refused(4, 27);
     }
-    if numbers.len() != 415 {
-        return Answer::Refused(4, 415);
+    if numbers.len() != 259 {
+        return Answer::Refused(4, 259);
     }
     let n = record_in(whole, numbers);
     let old = row_in(whole);

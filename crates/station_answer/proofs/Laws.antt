@@ -21,20 +21,20 @@ passed true n k a h = (refl, h)
 passed false n k a h = absurd (false≢true h)
 
 module _ (len : ℕ) (whole : List ℤ) (count : ℕ) (alt : Float) where
-  pub altitude_fits : accepted_of (altitude_answer len whole count alt) ≡ true → (len ≡ 11) × (length whole ≡ 27) × (count ≡ 415)
+  pub altitude_fits : accepted_of (altitude_answer len whole count alt) ≡ true → (len ≡ 11) × (length whole ≡ 27) × (count ≡ 259)
   unfolding altitude_answer
   altitude_fits h =
       let a = passed (eqb len 11) 4 11 _ h in
       let b = passed (eqb (length whole) 27) 4 27 _ a.1 in
-      let c = passed (eqb count 415) 4 415 _ b.1 in
-      (eqb-true len 11 a.0, eqb-true (length whole) 27 b.0, eqb-true count 415 c.0)
+      let c = passed (eqb count 259) 4 259 _ b.1 in
+      (eqb-true len 11 a.0, eqb-true (length whole) 27 b.0, eqb-true count 259 c.0)
 
-pub station_fits : (w : List ℤ) (n : Input) (ints count : ℕ) → accepted_of (station_answer w n ints count) ≡ true → (ints ≡ 27) × (count ≡ 415)
+pub station_fits : (w : List ℤ) (n : Input) (ints count : ℕ) → accepted_of (station_answer w n ints count) ≡ true → (ints ≡ 27) × (count ≡ 259)
 unfolding station_answer
 station_fits w n ints count h =
     let a = passed (eqb ints 27) 4 27 _ h in
-    let b = passed (eqb count 415) 4 415 _ a.1 in
-    (eqb-true ints 27 a.0, eqb-true count 415 b.0)
+    let b = passed (eqb count 259) 4 259 _ a.1 in
+    (eqb-true ints 27 a.0, eqb-true count 259 b.0)
 
 -- ---- a new row
 

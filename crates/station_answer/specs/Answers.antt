@@ -14,7 +14,7 @@ use Rattle.station_record.specs.Record.{station_whole, record_in}
 unfoldable pub station_answer : List ℤ → Input → ℕ → ℕ → Answer
 station_answer w n ints count =
     cond (not (eqb ints 27)) (Refused 4 27)
-    (cond (not (eqb count 415)) (Refused 4 415)
+    (cond (not (eqb count 259)) (Refused 4 259)
     (judged_of w (with_alt_of n 0·0)))
 
 -- ---- an altitude: 4 for the row, for the two slices; 2 at place 3; 3 at place 1 where the doy that is stored is no day, as in slices that were never
@@ -24,7 +24,7 @@ unfoldable pub altitude_answer : ℕ → List ℤ → ℕ → Float → Answer
 altitude_answer len whole count alt =
     cond (not (eqb len 11)) (Refused 4 11)
     (cond (not (eqb (length whole) 27)) (Refused 4 27)
-    (cond (not (eqb count 415)) (Refused 4 415)
+    (cond (not (eqb count 259)) (Refused 4 259)
     (cond (not (finite_of alt)) (Refused 2 3)
     (cond (not (day_within (get_or whole 1 (pos 0)))) (Refused 3 1)
     (cond (not (within_of 0·0 2500·0 alt)) (Refused 3 3)
@@ -62,7 +62,7 @@ change_of (to_move s l g) n = with_long_of (with_lst_of (with_sec_of n s) l) g
 unfoldable pub change_answer : Change → List ℤ → List Float → Answer
 change_answer c whole xs =
     cond (not (eqb (length whole) 27)) (Refused 4 27)
-    (cond (not (eqb (length xs) 415)) (Refused 4 415)
+    (cond (not (eqb (length xs) 259)) (Refused 4 259)
     (judged_of (drop 3 whole) (change_of c (record_in whole xs))))
 
 -- ---- a new switch row (W-213)
@@ -71,7 +71,7 @@ change_answer c whole xs =
 unfoldable pub switches_answer : List ℤ → List ℤ → List Float → Answer
 switches_answer w whole xs =
     cond (not (eqb (length whole) 27)) (Refused 4 27)
-    (cond (not (eqb (length xs) 415)) (Refused 4 415)
+    (cond (not (eqb (length xs) 259)) (Refused 4 259)
     (judged_of w (record_in whole xs)))
 
 -- the whole numbers with the row w, where the record is accepted under it

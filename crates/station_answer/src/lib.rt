@@ -50,7 +50,7 @@ pub fn with_fluxes(n: Input, f107a: f64, f107: f64) -> Input
 
 // The record of a station with the change made.
 pub fn to_sec(whole: &[i32], numbers: &[f64], sec: f64) -> Input
-    requires { (length whole.now ≡ 27) × (length numbers.now ≡ 415) }
+    requires { (length whole.now ≡ 27) × (length numbers.now ≡ 259) }
     ensures { result ≡ change_of (to_sec sec) (record_in whole.now numbers.now) }
 {
     let n = record_in(whole, numbers);
@@ -58,7 +58,7 @@ pub fn to_sec(whole: &[i32], numbers: &[f64], sec: f64) -> Input
 }
 
 pub fn to_lst(whole: &[i32], numbers: &[f64], lst: f64) -> Input
-    requires { (length whole.now ≡ 27) × (length numbers.now ≡ 415) }
+    requires { (length whole.now ≡ 27) × (length numbers.now ≡ 259) }
     ensures { result ≡ change_of (to_lst lst) (record_in whole.now numbers.now) }
 {
     let n = record_in(whole, numbers);
@@ -66,7 +66,7 @@ pub fn to_lst(whole: &[i32], numbers: &[f64], lst: f64) -> Input
 }
 
 pub fn to_g_long(whole: &[i32], numbers: &[f64], g_long: f64) -> Input
-    requires { (length whole.now ≡ 27) × (length numbers.now ≡ 415) }
+    requires { (length whole.now ≡ 27) × (length numbers.now ≡ 259) }
     ensures { result ≡ change_of (to_long g_long) (record_in whole.now numbers.now) }
 {
     let n = record_in(whole, numbers);
@@ -74,7 +74,7 @@ pub fn to_g_long(whole: &[i32], numbers: &[f64], g_long: f64) -> Input
 }
 
 pub fn to_fluxes(whole: &[i32], numbers: &[f64], f107a: f64, f107: f64) -> Input
-    requires { (length whole.now ≡ 27) × (length numbers.now ≡ 415) }
+    requires { (length whole.now ≡ 27) × (length numbers.now ≡ 259) }
     ensures { result ≡ change_of (to_fluxes f107a f107) (record_in whole.now numbers.now) }
 {
     let n = record_in(whole, numbers);
@@ -82,7 +82,7 @@ pub fn to_fluxes(whole: &[i32], numbers: &[f64], f107a: f64, f107: f64) -> Input
 }
 
 pub fn to_move(whole: &[i32], numbers: &[f64], sec: f64, lst: f64, g_long: f64) -> Input
-    requires { (length whole.now ≡ 27) × (length numbers.now ≡ 415) }
+    requires { (length whole.now ≡ 27) × (length numbers.now ≡ 259) }
     ensures { result ≡ change_of (to_move sec lst g_long) (record_in whole.now numbers.now) }
 {
     let n = record_in(whole, numbers);
@@ -100,8 +100,8 @@ pub fn station_answer(w: [i32; 24], n: Input, ints: usize, count: usize) -> Answ
     if ints != 27 {
         return Answer::Refused(4, 27);
     }
-    if count != 415 {
-        return Answer::Refused(4, 415);
+    if count != 259 {
+        return Answer::Refused(4, 259);
     }
     let m = with_alt(n, 0.0);
     judge(w, m)
@@ -145,8 +145,8 @@ pub fn altitude_answer(len: usize, whole: &[i32], count: usize, alt: f64) -> Ans
     if ints != 27 {
         return Answer::Refused(4, 27);
     }
-    if count != 415 {
-        return Answer::Refused(4, 415);
+    if count != 259 {
+        return Answer::Refused(4, 259);
     }
     if !finite(alt) {
         return Answer::Refused(2, 3);

@@ -8,7 +8,7 @@ use Rattle.setting.specs.declared.History.TheVariants.{Absent, Present}
 use Rattle.setting.specs.ApHistory.{absent_of}
 use Rattle.setting.specs.Switches.{is_one, on_off}
 
--- ---- what the two slices hold: 27 whole numbers and 415 numbers, the record's fourteen first
+-- ---- what the two slices hold: 27 whole numbers and 259 numbers, the record's fourteen first
 
 -- 1 where the history is there
 unfoldable pub mark_of : History → ℤ

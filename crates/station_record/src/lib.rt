@@ -140,7 +140,7 @@ pub fn record_numbers(n: Input) -> [f64; 14]
 
 // The record that a station holds, at altitude 0.
 pub fn record_in(whole: &[i32], numbers: &[f64]) -> Input
-    requires { (length whole.now ≡ 27) × (length numbers.now ≡ 415) }
+    requires { (length whole.now ≡ 27) × (length numbers.now ≡ 259) }
     ensures { result ≡ record_in whole.now numbers.now }
 {
     let year = whole_number(whole, 0);

@@ -17,8 +17,8 @@ put-whole-requires c κs =
     let at = c.before.before in
     (station_fits _ _ _ _ (verdict at.before.before.station-answer.ensures at.before.accepted.ensures (not-false _ at.if1.false))).0
 
-fill-anew-requires : tie.Need-fill-anew-requires
-fill-anew-requires c κs =
+fill-requires : tie.Need-fill-requires
+fill-requires c κs =
     let at = c.before.before.before.before.before in
     (station_fits _ _ _ _ (verdict at.before.before.station-answer.ensures at.before.accepted.ensures (not-false _ at.if1.false))).1
 
@@ -29,10 +29,10 @@ returns-2 c =
     let at = m.before in
     let j = at.before.before.station-answer in
     taken _ _ _ _ j.result m.with-alt.result at.before.accepted.result _ _ j.ensures at.before.accepted.ensures (not-false _ at.if1.false)
-    m.with-alt.ensures put.put_whole.ensures c.before.before.fill-anew.ensures
+    m.with-alt.ensures put.put_whole.ensures c.before.before.fill.ensures
 
 pub prepare_spec : {M : Type 1} → statement M
 prepare_spec =
     tie.close
-    (tie.spec (λ c κs. search rules) (λ c κs. search rules) returns (λ c κs. search rules) put-whole-requires fill-anew-requires
+    (tie.spec (λ c κs. search rules) (λ c κs. search rules) returns (λ c κs. search rules) put-whole-requires fill-requires
     (λ c. search rules) (λ c. search rules) returns-2)

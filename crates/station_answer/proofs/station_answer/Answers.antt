@@ -9,11 +9,11 @@ pub returns-then-ints-ne27 : goal.returns-then-ints-ne27
 unfolding station_answer
 returns-then-ints-ne27 c = simp (ne_eqb _ _ c.if-ints-ne27.true)
 
-pub returns-then-count-ne415 : goal.returns-then-count-ne415
+pub returns-then-count-ne259 : goal.returns-then-count-ne259
 unfolding station_answer
-returns-then-count-ne415 c = simp (eq-eqb _ _ c.if-ints-ne27.false, ne_eqb _ _ c.if-count-ne415.true)
+returns-then-count-ne259 c = simp (eq-eqb _ _ c.if-ints-ne27.false, ne_eqb _ _ c.if-count-ne259.true)
 
 pub returns : goal.returns
 unfolding station_answer
 returns c =
-    simp (eq-eqb _ _ c.if-ints-ne27.false, eq-eqb _ _ c.if-count-ne415.false) (c.judge.ensures ∙ ap (judged_of c.args.w) c.with_alt-m.ensures)
+    simp (eq-eqb _ _ c.if-ints-ne27.false, eq-eqb _ _ c.if-count-ne259.false) (c.judge.ensures ∙ ap (judged_of c.args.w) c.with_alt-m.ensures)

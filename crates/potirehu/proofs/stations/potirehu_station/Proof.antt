@@ -16,7 +16,7 @@ returns : tie.Need-returns
 returns c = station_refused c.before.before.before.before.before.args.year c.before.before.before.before.before.args.doy c.before.before.before.before.before.args.fields.now c.before.before.before.before.before.args.ap-array.now c.before.before.before.before.before.args.switches.now c.before.before.before.before.before.args.whole.now c.before.before.before.before.before.args.numbers.now (Refused 4 27) _ (no_whole c.before.before.before.before.before.args.year c.before.before.before.before.before.args.doy c.before.before.before.before.before.args.fields.now c.before.before.before.before.before.args.ap-array.now c.before.before.before.before.before.args.switches.now c.before.before.before.before.before.args.whole.now c.before.before.before.before.before.args.numbers.now c.before.if1.true) refl c.code.ensures
 
 returns-2 : tie.Need-returns-2
-returns-2 c = station_refused c.before.before.before.before.before.before.args.year c.before.before.before.before.before.before.args.doy c.before.before.before.before.before.before.args.fields.now c.before.before.before.before.before.before.args.ap-array.now c.before.before.before.before.before.before.args.switches.now c.before.before.before.before.before.before.args.whole.now c.before.before.before.before.before.before.args.numbers.now (Refused 4 415) _ (no_numbers c.before.before.before.before.before.before.args.year c.before.before.before.before.before.before.args.doy c.before.before.before.before.before.before.args.fields.now c.before.before.before.before.before.before.args.ap-array.now c.before.before.before.before.before.before.args.switches.now c.before.before.before.before.before.before.args.whole.now c.before.before.before.before.before.before.args.numbers.now c.before.before.if1.false c.before.if2.true) refl c.code2.ensures
+returns-2 c = station_refused c.before.before.before.before.before.before.args.year c.before.before.before.before.before.before.args.doy c.before.before.before.before.before.before.args.fields.now c.before.before.before.before.before.before.args.ap-array.now c.before.before.before.before.before.before.args.switches.now c.before.before.before.before.before.before.args.whole.now c.before.before.before.before.before.before.args.numbers.now (Refused 4 259) _ (no_numbers c.before.before.before.before.before.before.args.year c.before.before.before.before.before.before.args.doy c.before.before.before.before.before.before.args.fields.now c.before.before.before.before.before.before.args.ap-array.now c.before.before.before.before.before.before.args.switches.now c.before.before.before.before.before.before.args.whole.now c.before.before.before.before.before.before.args.numbers.now c.before.before.if1.false c.before.if2.true) refl c.code2.ensures
 
 returns-3 : tie.Need-returns-3
 returns-3 c = let t = sym c.before.before.accepted.ensures ∙ not-true _ c.before.if3.true in

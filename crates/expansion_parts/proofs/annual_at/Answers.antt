@@ -1,0 +1,12 @@
+-- `annual_at` meets its contract.
+use mathlib.Core.Path.{sym, ◌∙◌, ap}
+use lib.Ieee.{Float}
+use Rattle.views.specs.Phases.{annual_cos_of}
+use Rattle.expansion_parts.proofs.annual_at.Goals as goal
+
+pub returns-then-plus_zero : goal.returns-then-plus_zero
+returns-then-plus_zero c = let A = c.args in
+    c.requires ∙ ap (λ (y : Float). annual_cos_of A.doy y) (sym (c.plus_zero.ensures.0 c.if-plus_zero.true))
+
+pub returns : goal.returns
+returns c = c.annual_cos.ensures

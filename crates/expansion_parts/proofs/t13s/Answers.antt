@@ -1,0 +1,11 @@
+-- `t13s` meets its contract.
+use Rattle.expansion_parts.specs.ExpansionParts.{t13s_of}
+use Rattle.expansion_parts.proofs.t13s.Goals as goal
+
+pub returns-then-sw14 : goal.returns-then-sw14
+unfolding t13s_of
+returns-then-sw14 c = simp (← c.terdiurnal_s.ensures) (simp c.if-sw14.true)
+
+pub returns : goal.returns
+unfolding t13s_of
+returns c = simp c.if-sw14.false

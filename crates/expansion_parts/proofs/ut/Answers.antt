@@ -1,0 +1,12 @@
+-- `ut` meets its contract.
+use mathlib.Core.Path.{sym, ◌∙◌, ap}
+use lib.Ieee.{Float}
+use Rattle.views.specs.Phases.{ut_cos_of}
+use Rattle.expansion_parts.proofs.ut.Goals as goal
+
+pub returns-then-plus_zero : goal.returns-then-plus_zero
+returns-then-plus_zero c = let A = c.args in
+    c.requires.ut ∙ ap (λ (y : Float). ut_cos_of A.v.sec y) (sym (c.plus_zero.ensures.0 c.if-plus_zero.true))
+
+pub returns : goal.returns
+returns c = c.ut_cos.ensures

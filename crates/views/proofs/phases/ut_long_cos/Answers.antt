@@ -1,0 +1,7 @@
+-- `ut_long_cos` meets its contract.
+use Rattle.views.specs.Phases.{ut_long_cos_of}
+use Rattle.views.proofs.phases.ut_long_cos.Goals as goal
+
+pub returns : goal.returns
+unfolding ut_long_cos_of
+returns c = simp (← c.cos.ensures)
