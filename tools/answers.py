@@ -188,6 +188,10 @@ def answer(walk, place, variable, body, keep_place=False):
             if not m[3]:
                 out += m[0]
                 continue
+            if m[3] == "at" and not m[4]:
+                # the word of `rw .. at ..`
+                out += m[0]
+                continue
             if m[3] in aliases:
                 new, end = walk.path(aliases[m[3]], m[4].split(".")[1:])
                 out += ".".join([variable] + (["before"] * walk.hops(place, end) if end is not None else new))
