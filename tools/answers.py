@@ -56,7 +56,7 @@ def blocks(text):
             block.pop()
         m = re.match(r"((?:abbrev |pub |unfoldable |data |record |mutual )*)(" + W + r")", line)
         name = m[2] if m else ""
-        is_signature = line.startswith("module ") or bool(re.match(r"((?:abbrev |pub |unfoldable )*)" + W + r"(?: [({].*[)}])*\s*:(?!:)", line)) or re.match(r"(pub )?(data|record|mutual)\b", line)
+        is_signature = line.startswith("module ") or bool(re.match(r"((?:abbrev |pub |unfoldable )*)" + W + r"(?: [({].*[)}])*\s*:(?!:)", line)) or re.match(r"(pub )?(data|record|mutual)\s", line)
         if is_signature or not out:
             out.append(dict(name=name, marks=m[1] if m else "", comments=comments, lines=block, equations=[], signature="\n".join(block)))
             comments = []
@@ -107,6 +107,17 @@ class Walk:
             n += 1
         return n
 
+    def found(self, place, step):
+        """The place with a step of that name: on the way to the goal, or else anywhere."""
+        way = []
+        while place and self.places.get(place):
+            way.append(self.places[place])
+            place = self.places[place][1]
+        for p in way + list(self.places.values()):
+            if p[2][0] and same(p[2][0]) == same(step):
+                return p
+        return None
+
     def path(self, place, fields):
         """The words of a path from a place: its new text behind `c`, and the place if it ends at one."""
         here, out, first = place, [], True
@@ -130,9 +141,9 @@ class Walk:
                     out.append(f)
                     self.renames = self.args if f in ("args", "ranges") else {}
                     continue
-                new = self.steps.get(same(f))
-                out.append(new or f)
-                self.renames = {}
+                found = self.found(place, f)
+                out.append(found[2][1] if found else f)
+                self.renames = dict(found[4]) if found and len(found) > 4 else {}
                 continue
             if f == "rest" and len(out) == 1 and out[0].startswith("in_default"):
                 out.append("in_default-own")
@@ -301,7 +312,7 @@ def convert(folder, listed, module, where):
                         eqs.append(e)
                         continue
                     params = [p for p in mm2[1].split() if p != "κs"]
-                    variable = params[-1] if params else "c"
+                    variable = "c" if "c" in params or not params else params[-1]
                     body = answer(walk, place, variable, mm2[2])
                     eqs.append(f"{need} {' '.join(params)} ={body}" if params else f"{need} ={body}")
                 answers.append("\n".join(b["comments"] + sig + eqs))

@@ -16,8 +16,11 @@ def main(argv):
     said = open(argv[0], encoding="utf-8").read()
     done = 0
     seen = set()
-    for m in re.finditer(r"(?m)^(\./[^\s:]+):(\d+):(\d+): error: `[^`]*`: write the clause `([^`]+)`", said):
-        path, row, clause = m[1], int(m[2]), m[4]
+    asked = [(m[1], m[3]) for m in re.finditer(r"(?m)^(\./[^\s:]+):(\d+):\d+: error: `[^`]*`: write the clause `([^`]+)`", said)]
+    for m in re.finditer(r"(?m)^(\./[^\s:]+):\d+:\d+: error: `([^`]*)`: write the clauses\n((?:  .*\n)+)", said):
+        name = m[2]
+        asked += [(m[1], line.strip()) for line in m[3].split("\n")[::-1] if line.strip().startswith(name + " ") and " = " in line]
+    for path, clause in asked:
         if (path, clause) in seen:
             continue
         seen.add((path, clause))

@@ -3,7 +3,7 @@ use Rattle.std.specs.Prelude.{◌≡◌, List, Bool, true, false, not, ◌||◌,
 use Rattle.std.proofs.Math.Path.{refl, sym}
 use Rattle.std.proofs.Common.{◌∙◌, ap, ap₂, subst, true≢false, mul_assoc, mul_left_comm, mul-pos, eqb→eq, ltb→lt}
 use Rattle.std.specs.Bool.{beq}
-use Rattle.std.specs.Float.{inf, fin, binary64}
+use Rattle.std.specs.Float.{nan, inf, fin, binary64}
 use Rattle.std.specs.Float.Ieee.{up, down, unlike, round, mul, lt, eq, le}
 use Rattle.std.specs.Float.Ieee.Fits.{and_l, down_pos}
 use Rattle.std.specs.Float.Ieee.Scale.{round_same}
@@ -41,6 +41,11 @@ no_sign false false = refl
 -- numbers that compare equal have one square
 same_square : (x y : Float) → T (eq x y) → x ⊗ x ≡ y ⊗ y
 unfolding eq mul
+same_square nan y h = elim h [ ]
+same_square (inf s) nan h = elim h [ ]
+same_square (inf s) (fin t n d) h = elim h [ ]
+same_square (fin s m e) nan h = elim h [ ]
+same_square (fin s m e) (inf t) h = elim h [ ]
 same_square (inf s) (inf t) h = ap inf (no_sign s t)
 same_square (fin s m e) (fin t n d) h =
     let a = m * up e in
