@@ -15,7 +15,7 @@ WHOLE, LONG = ctypes.c_int32, ctypes.c_int64
 SLICE = (POINTER, LENGTH)
 RECORD = (WHOLE, WHOLE, *SLICE, *SLICE, *SLICE)
 
-STATION_WHOLE, STATION_NUMBERS = 27, 415
+STATION_WHOLE, STATION_NUMBERS = 27, 259
 """The lengths of a station's two slices."""
 BANDS = 1601
 """The length of a table of bands."""
