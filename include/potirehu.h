@@ -3,7 +3,7 @@
    in a descent, two boards' logs held against each other, and the elementary functions it is built on. Nothing is kept between calls; only memcpy and memset
    are needed from outside. docs/RULES.md has every rule.
 
-   The archive of 'rt staticlib potirehu' is for x86-64 Linux; boards/build makes those for other processors, and docs/BOARDS.md has them. Lengths are
+   The archive of 'scripts/staticlib potirehu' is for x86-64 Linux; boards/build makes those for other processors, and docs/BOARDS.md has them. Lengths are
    uint64_t on every processor.
 
    An answer of 2^32 or more is a refusal: its number times 2^32 plus a place, which is cut to its lower 32 bits (only 18, of more than 2^32 settings, and 4, of

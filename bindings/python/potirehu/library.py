@@ -68,7 +68,7 @@ def path() -> pathlib.Path:
 def _load() -> Dict[str, Any]:
     file = path()
     if not file.is_file():
-        raise ImportError(f"potirehu: {file} is missing: run 'rt staticlib potirehu' and then 'bindings/python/build', or name the library in POTIREHU_SO.")
+        raise ImportError(f"potirehu: {file} is missing: run 'scripts/staticlib potirehu' and then 'bindings/python/build', or name the library in POTIREHU_SO.")
     library = ctypes.CDLL(str(file.resolve()))
     calls = {name: getattr(library, "potirehu_" + name) for name in ARGUMENTS}
     for name, call in calls.items():
