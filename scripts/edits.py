@@ -71,7 +71,7 @@ class Edit:
 
 
 def edits():
-    crates = [re.split(r"[ :]", line)[0] for line in (ROOT / "crates.txt").read_text().splitlines() if not line.startswith("#")]
+    crates = [re.split("[ :]", line)[0] for line in (ROOT / "crates.txt").read_text().splitlines() if not line.startswith("#")]
     return [Edit(crate, path) for crate in crates for path in sorted((ROOT / "crates" / crate / "must-fail").glob("*.edit"))]
 
 
