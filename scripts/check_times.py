@@ -111,7 +111,7 @@ def main():
         sys.exit(__doc__)
     if sys.argv[1] == "--write":
         return write()
-    if "rt prove" not in subprocess.run(["rt", "help"], capture_output=True, text=True, errors="replace").stderr:
+    if "rt prove" not in subprocess.run(["rt", "help"], stdout=subprocess.PIPE, stderr=subprocess.STDOUT, text=True, errors="replace").stdout:
         sys.exit("check_times.py: these trees are written for an older kit, and this rt has no command prove")
     folder = pathlib.Path(sys.argv[1]).resolve()
     folder.mkdir(parents=True, exist_ok=True)
