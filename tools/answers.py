@@ -188,6 +188,10 @@ def answer(walk, place, variable, body, keep_place=False):
             if not m[3]:
                 out += m[0]
                 continue
+            if m[3] == "at" and not m[4]:
+                # the word of `rw .. at ..`
+                out += m[0]
+                continue
             if m[3] in aliases:
                 new, end = walk.path(aliases[m[3]], m[4].split(".")[1:])
                 out += ".".join([variable] + (["before"] * walk.hops(place, end) if end is not None else new))
@@ -232,6 +236,8 @@ def convert(folder, listed, module, where):
     if not said:
         for i, g in enumerate(goals):
             if re.fullmatch(r"\(λ c( κs)?\. search rules\)", re.sub(r"\s+", " ", g)):
+                if walk.needs[i].startswith("returns") and any(e.startswith("unfolding") for e in last["equations"]):
+                    used.setdefault(f"(λ c. search rules){' ' * i}", []).append(i)
                 continue
             used.setdefault(g, []).append(i)
     else:
@@ -300,7 +306,7 @@ def convert(folder, listed, module, where):
                     eqs.append(f"{need} {' '.join(params)} ={body}" if params else f"{need} ={body}")
                 answers.append("\n".join(b["comments"] + sig + eqs))
             else:
-                m3 = re.match(r"\(λ (c)(?: κs)?\.(.*)\)$", g, re.S)
+                m3 = re.match(r"\(λ (c)(?: κs)?\.(.*)\)$", g.strip(), re.S)
                 if m3:
                     unfolding = "".join(e + "\n" for e in last["equations"] if e.startswith("unfolding"))
                     answers.append(f"pub {need} : goal.{need}\n{unfolding}{need} c ={answer(walk, place, 'c', m3[2])}")

@@ -27,6 +27,25 @@ def parts_of(text, at):
     return None, []
 
 
+def body_of(text, at):
+    """The place of the bracket that a declaration's body ends in, behind its `let`s."""
+    end = text.find("\n\n", at)
+    end = len(text) if end < 0 else end
+    depth, start = 0, at
+    for i in range(at, end):
+        if text[i] in "([{":
+            depth += 1
+        if text[i] in ")]}":
+            depth -= 1
+        if depth == 0 and re.match(r"\sin\s", text[i : i + 4]):
+            start = i + 3
+    while start < end and text[start].isspace():
+        start += 1
+    while start < end and text[start] != "(":
+        start += 1
+    return start
+
+
 def main(argv):
     said = open(argv[0], encoding="utf-8").read()
     said = re.sub(r"\n  ", " ", said)
@@ -54,9 +73,10 @@ def main(argv):
                 done += 1
                 continue
             if kind == "tuple":
-                while at < len(text) and text[at] != "(":
-                    at += 1
+                at = body_of(text, at)
                 end, parts = parts_of(text, at)
+                while end and len(parts) < len(names) and parts[-1].startswith("(") and parts_of(parts[-1], 0)[0] == len(parts[-1]):
+                    parts[-1:] = parts_of(parts[-1], 0)[1]
                 if end and len(parts) == len(names):
                     text = text[:at] + "record { " + "; ".join(f"{n} = {p}" for n, p in zip(names, parts)) + " }" + text[end:]
                     done += 1

@@ -6,23 +6,29 @@
 ghost use Rattle.std.specs.Prelude.{◌<◌, ◌≤◌, ◌≡◌, length};
 
 use line_answer::{feed, finish, start};
+use std::io::{Read, Write};
 
-fn say_unread() {
-    io::write_all(2, b"lines: the input cannot be read\n");
+// On standard error; where that fails too, nothing more can be said.
+fn say(rt: &HostRuntime, text: &[u8]) -> bool {
+    rt.stderr().write_all(text).is_ok()
 }
 
-fn say_unwritten() {
-    io::write_all(2, b"lines: the answers cannot be written\n");
+fn say_unread(rt: &HostRuntime) -> bool {
+    say(rt, b"lines: the input cannot be read\n")
+}
+
+fn say_unwritten(rt: &HostRuntime) -> bool {
+    say(rt, b"lines: the answers cannot be written\n")
 }
 
 // Whether the answers were written.
-fn print(out: &[u8], used: usize) -> bool
+fn print(rt: &HostRuntime, out: &[u8], used: usize) -> bool
     requires { used ≤ length out.now }
 {
-    if io::write_all(1, &out[..used]) {
+    if rt.stdout().write_all(&out[..used]).is_ok() {
         return true;
     }
-    say_unwritten();
+    say_unwritten(rt);
     false
 }
 
@@ -38,32 +44,34 @@ fn turns_left(turns: u64, n: usize) -> u64
     turns - 1
 }
 
-fn read_all(chunk: &mut [u8], line: &mut [u8], out: &mut [u8])
+fn read_all(rt: &HostRuntime, chunk: &mut [u8], line: &mut [u8], out: &mut [u8])
     requires { (length chunk.old ≡ 512) × (length line.old ≡ 512) × (length out.old ≡ 98816) }
 {
     let mut p = start();
     let mut turns = u64::MAX;
     while 0 < turns {
-        let got = libc::read(0, chunk);
-        if got < 0 {
-            say_unread();
-            return;
+        match rt.stdin().read(chunk) {
+            Ok(n) => {
+                p = feed(&chunk[..n], line, out, p);
+                if !print(rt, out, p.used) {
+                    return;
+                }
+                turns = turns_left(turns, n);
+            }
+            Err(_) => {
+                say_unread(rt);
+                return;
+            }
         }
-        let n = io::count(got, chunk);
-        p = feed(&chunk[..n], line, out, p);
-        if !print(out, p.used) {
-            return;
-        }
-        turns = turns_left(turns, n);
     }
     let used = finish(line, out, p);
-    print(out, used);
+    print(rt, out, used);
 }
 
 // A chunk of 512 bytes ends at most 512 lines, with at most 193 bytes of answer each.
-fn main() {
+fn main(rt: HostRuntime) {
     let mut chunk: [u8; 512] = [0; 512];
     let mut line: [u8; 512] = [0; 512];
     let mut out: [u8; 98816] = [0; 98816];
-    read_all(&mut chunk, &mut line, &mut out);
+    read_all(&rt, &mut chunk, &mut line, &mut out);
 }

@@ -66,6 +66,7 @@ two_up (fin false m e) p q =
 
 not_negative : (x : Float) → Signed false x → T (eq x (neg 𝟏)) → ⊥
 unfolding eq neg
+not_negative nan s t = elim s [ ]
 not_negative (inf true) s t = true≢false s
 not_negative (inf false) s t = t
 not_negative (fin true m e) s t = true≢false s

@@ -1,4 +1,3 @@
 // Demand 3 and its kin: definitions and theorems only, in specs/.
 
 #![tactic(auto)]
-

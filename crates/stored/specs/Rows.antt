@@ -493,6 +493,7 @@ clash : {A : Type 0} → false ≡ true → A
 clash e = absurd (false≢true e)
 
 holds : (b : Bool) → T b → b ≡ true
+holds false t = elim t [ ]
 holds true t = refl
 
 some : (a b c : ℕ) → 0 < b → 0 < c → 0 < a + b * c
