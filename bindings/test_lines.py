@@ -1,4 +1,4 @@
-"""Tests of ./lines: the stored answers, and a sentence and status 1 where it cannot read or write. The line program must be there (rt check lines)."""
+"""Tests of ./lines: the stored answers, and a sentence and status 1 where it cannot read or write. The line program must be there (scripts/program lines)."""
 
 import os
 import pathlib

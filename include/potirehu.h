@@ -3,7 +3,7 @@
    in a descent, two boards' logs held against each other, and the elementary functions it is built on. Nothing is kept between calls; only memcpy and memset
    are needed from outside. docs/RULES.md has every rule.
 
-   The archive of 'rt staticlib potirehu' is for x86-64 Linux; boards/build makes those for other processors, and docs/BOARDS.md has them. Lengths are
+   The archive of 'scripts/staticlib potirehu' is for x86-64 Linux; boards/build makes those for other processors, and docs/BOARDS.md has them. Lengths are
    uint64_t on every processor.
 
    An answer of 2^32 or more is a refusal: its number times 2^32 plus a place, which is cut to its lower 32 bits (only 18, of more than 2^32 settings, and 4, of
@@ -244,7 +244,7 @@ uint64_t potirehu_gtd7_known(uint32_t known, int32_t year, int32_t doy, const do
    bits that flip in its arrays: they give wrong rows and no refusal. Where that can happen keep a copy and compare it before use, or prepare anew from
    the record now and then. */
 #define POTIREHU_STATION_WHOLE 27
-#define POTIREHU_STATION_NUMBERS 415
+#define POTIREHU_STATION_NUMBERS 259
 
 /* Prepares a station in whole and numbers, the record's own altitude not looked at. Answers 0; or 4 at the length needed, for whole, numbers,
    fields, ap_array or switches of another length, in this order, then what potirehu_gtd7 refuses of the record, and leaves whole and numbers as
@@ -281,7 +281,7 @@ POTIREHU_CHECKED
 uint64_t potirehu_station_fluxes(const int32_t *whole, uint64_t n_whole, double *numbers, uint64_t n_numbers, double f107a, double f107);
 
 /* Moves the station: sec, lst and g_long in one change, in the same way, so that it is never of two times or places at once; refused, all three stay. What
-   has no change, doy, g_lat, ap and the history, is prepared anew; that takes a third more than a move (docs/FIGURES.md). */
+   has no change, doy, g_lat, ap and the history, is prepared anew; that takes as long as a change (docs/FIGURES.md). */
 POTIREHU_CHECKED
 uint64_t potirehu_station_move(const int32_t *whole, uint64_t n_whole, double *numbers, uint64_t n_numbers, double sec, double lst, double g_long);
 

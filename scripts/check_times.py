@@ -2,7 +2,8 @@
 """Measures how long it takes to prove the tree of each change request's merge commit, and the tree before it.
 
 `check_times.py FOLDER` checks each tree that is not yet in docs/generated/check-times.tsv out below FOLDER, runs `rt prove` there from nothing with two
-jobs, and adds a line. It can be stopped at any time and taken up again: what is measured stays.
+jobs, and adds a line. It can be stopped at any time and taken up again: what is measured stays. These trees are written for an older kit, whose rt has that
+command; with another rt it measures nothing.
 `check_times.py --write` puts the figures into docs/FIGURES.md, between its marks, and into the paragraph `Check.` of each note in docs/changes/ whose two trees
 are measured."""
 import datetime
@@ -110,6 +111,8 @@ def main():
         sys.exit(__doc__)
     if sys.argv[1] == "--write":
         return write()
+    if "rt prove" not in subprocess.run(["rt", "help"], stdout=subprocess.PIPE, stderr=subprocess.STDOUT, text=True, errors="replace").stdout:
+        sys.exit("check_times.py: these trees are written for an older kit, and this rt has no command prove")
     folder = pathlib.Path(sys.argv[1]).resolve()
     folder.mkdir(parents=True, exist_ok=True)
     done = {row["commit"] for row in rows()}

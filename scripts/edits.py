@@ -2,7 +2,7 @@
 """Writes docs/generated/edits.md: every wrong edit, the sentence that its file begins with, what it changes, and where it is refused.
 
 `edits.py` writes the page; where an edit is refused stands in docs/generated/edits.tsv.
-`edits.py --logs FOLDER` takes that out of a run of the gate first: FOLDER is its target/must-fail.
+`edits.py --logs FILE` takes that first out of FILE, what `rt ci` or `rt must-fail` printed over these files.
 `edits.py --check` fails where the page is another, a sentence is missing, too long or there twice, an edit does not fit its file, or README's count is off."""
 import re
 import sys
@@ -46,7 +46,7 @@ class Edit:
         self.label = f"{crate}/{path.stem}"
         self.words = re.sub(r"(?<=[37]2)_5", ".5", path.stem).replace("_", " ")
         lines = path.read_text().splitlines()
-        self.sentence = "" if not lines or lines[0].startswith(("file:", "old:", "new:")) else lines[0]
+        self.sentence = lines[0][2:] if lines and lines[0].startswith("# ") else ""
         self.pairs = []
         file = old = ""
         for line in lines:
@@ -71,7 +71,7 @@ class Edit:
 
 
 def edits():
-    crates = [line.split(":")[0] for line in (ROOT / "crates.txt").read_text().splitlines() if not line.startswith("#")]
+    crates = [re.split("[ :]", line)[0] for line in (ROOT / "crates.txt").read_text().splitlines() if not line.startswith("#")]
     return [Edit(crate, path) for crate in crates for path in sorted((ROOT / "crates" / crate / "must-fail").glob("*.edit"))]
 
 
@@ -81,36 +81,36 @@ def read_places():
     return dict(line.split("\t", 1) for line in PLACES.read_text().splitlines() if not line.startswith("#"))
 
 
-def place_in(log):
-    """The function whose proof has the first error, or the lemma or definition, with its file; where there is no error, the first function without a proof."""
-    for line in log.splitlines():
-        if ": error: " in line:
-            file, said = line.split(": error: ", 1)
-            function = re.search(r"/(\w+)/Proof\.antt", file)
-            if function:
-                return f"`{function[1]}`"
-            name = re.match(r"`([^`]+)`", said)
-            return (f"`{name[1]}` of " if name else "") + Path(file.split(":")[0]).name
-    function = re.search(r"^fn [\w:]*?(\w+): no proof", log, re.MULTILINE)
-    return f"`{function[1]}`" if function else ""
+def place_in(edit, said):
+    """The function whose goal or proof is said to fail first, or the lemma or definition, with its file. An edit keeps the lines of a file."""
+    found = re.match(r"(?:note: )?(?:\./)?(\S+?):(\d+):\d+: (?:error: )?(?:`([^`]+)`: )?", said)
+    if not found:
+        return ""
+    file, line, name = Path(found[1]), int(found[2]), found[3]
+    if file.name in ("Answers.antt", "Invariants.antt", "Proof.antt"):
+        return f"`{file.parent.name}`"
+    source = edit.path.parent.parent / file
+    if file.suffix == ".rt" and source.is_file():
+        above = source.read_text().splitlines()[:line]
+        functions = [function[1] for function in (re.match(r"\s*(?:pub )?(?:extern \"C\" )?fn (\w+)", text) for text in above) if function]
+        return f"`{functions[-1]}`" if functions else ""
+    return (f"`{name}` of " if name else "") + file.name
 
 
-def take_logs(every, folder):
-    if not folder.is_dir():
-        sys.exit(f"{folder} is no folder")
+def take_logs(every, file):
+    if not file.is_file():
+        sys.exit(f"{file} is no file")
     places = read_places()
-    lacking = 0
-    for edit in every:
-        result, log = folder / edit.crate / f"{edit.name}.res", folder / edit.crate / edit.name / ".log"
-        found = place_in(log.read_text()) if result.is_file() and result.read_text().strip() == "refused" and log.is_file() else ""
-        if found:
-            places[edit.label] = found
-        else:
-            lacking += 1
-    labels = {edit.label for edit in every}
-    kept = "".join(f"{label}\t{places[label]}\n" for label in sorted(places) if label in labels)
+    labels = {edit.label: edit for edit in every}
+    refused = set()
+    for line in file.read_text(errors="replace").splitlines():
+        said = re.match(r"rt: must-fail (\S+)\.edit: refused, as it must be(?: \(.*?\))?: (.*)", line)
+        if said and said[1] in labels:
+            refused.add(said[1])
+            places[said[1]] = place_in(labels[said[1]], said[2]) or places.get(said[1], "")
+    kept = "".join(f"{label}\t{places[label]}\n" for label in sorted(places) if label in labels and places[label])
     PLACES.write_text("# Where each wrong edit is refused, out of a run of the gate. Made by scripts/edits.py --logs.\n" + kept)
-    print(f"{folder} has {len(every) - lacking} of {len(every)} edits as refused")
+    print(f"{file} has {len(refused)} of {len(every)} edits as refused")
 
 
 def cell(text):

@@ -21,10 +21,9 @@ LITERALS = """
 
 HEAD = """\
 -- The literals of the model: 0·5 is the f64 that Rust reads from 0.5, and its lemma gives the decimal. Made by scripts/literals.py.
-use Prim.Native.Nat.{ℕ, _*_, _^_}
-use mathlib.Core.Path.{_≡_, refl}
-use mathlib.Core.Bool.{false}
-use lib.Ieee.{Float, binary64, ofBits, round}
+use Rattle.std.specs.Prelude.{ℕ, ◌*◌, ◌^◌, ◌≡◌, refl, false, Float}
+use Rattle.std.specs.Float.{binary64}
+use Rattle.std.specs.Float.Ieee.{of_bits, round}
 
 -- n / 10 ^ k, rounded once
 unfoldable pub dec : ℕ → ℕ → Float
@@ -58,8 +57,8 @@ def main():
         definition, value = decimal(text)
         assert value == Fraction(text), text
         opened = definition.split()[0]
-        out.append(f"abbrev pub {name} : Float\n{name} = ofBits binary64 0x{bits(text):016x}\n")
-        out.append(f"pub is-{name} : {name} ≡ {definition}\nunfolding ofBits {opened} round\nis-{name} = refl\n")
+        out.append(f"abbrev pub {name} : Float\n{name} = of_bits binary64 0x{bits(text):016x}\n")
+        out.append(f"pub is-{name} : {name} ≡ {definition}\nunfolding of_bits {opened} round\nis-{name} = refl\n")
     text = "\n".join(out)
     path = Path(__file__).resolve().parent.parent / "crates/numbers/specs/Literals.antt"
     if "--check" in sys.argv:

@@ -25,7 +25,7 @@ for edit in re.findall(r"\w+/must-fail/\w+", text):
     if not (root / "crates" / f"{edit}.edit").exists():
         sys.exit(f"docs/READING.md: {edit} is not there")
 
-crates = [line.split(":")[0] for line in (root / "crates.txt").read_text().splitlines() if not line.startswith("#")]
+crates = [re.split("[ :]", line)[0] for line in (root / "crates.txt").read_text().splitlines() if not line.startswith("#")]
 lists = (root / "docs" / "MAP.md").read_text().split("\n## Product", 1)[1]
 named = []
 for line in lists.splitlines():

@@ -30,15 +30,17 @@ def code(found):
     arms = "".join(f"        {i} => {x},\n" for i, x in enumerate(found[:-1]))
     return f"""// The phases of the season's cosines, as one function that matches on the place: a constant array that is indexed by a variable is built on the stack
 // at each use, and a match becomes a table in read-only memory.
-ghost use mathlib.Core.Path.{{_≡_}};
-ghost use Prim.Native.Nat.{{_<_}};
-ghost use Rattle·numbers.specs.Arithmetic.{{_‼_}};
-ghost use Rattle·season_phases·specs.specs.Phases.{{placePhases}};
+
+#![tactic(auto)]
+
+ghost use Rattle.std.specs.Prelude.{{◌≡◌, ◌<◌}};
+ghost use Rattle.numbers.specs.Arithmetic.{{◌‼◌}};
+ghost use Rattle.season_phases.specs.Phases.{{place_phases}};
 
 // The phase of a place, in days. Made by scripts/season.py.
 pub fn season_phase(i: usize) -> f64
-    requires {{ ⌜ i < {len(found)} ⌝ }}
-    ensures {{ λ r. ⌜ r ≡ placePhases ‼ i ⌝ }}
+    requires {{ i < {len(found)} }}
+    ensures {{ result ≡ place_phases ‼ i }}
 {{
     match i {{
 {arms}        _ => {found[-1]},
@@ -47,39 +49,31 @@ pub fn season_phase(i: usize) -> f64
 """
 
 
-def proof(found):
-    arms = "".join(f"    (λ c. phase-at (c .match .keys{i + 1}) refl)\n" for i in range(len(found) - 1))
+def answers(found):
+    sets = ["pt_t", "ps_t"] + [f"pd_t{k}" for k in range(9)] + [f"ptl_t{k}" for k in range(4)] + [f"pma_t{k}" for k in range(10)]
+    unfolding = f"unfolding place_phases season_phases phases_of globe7_sets glob7s_sets {' '.join(sets)} neg of_bits"
     last = len(found) - 1
-    sets = ["ptT", "psT"] + [f"pdT{k}" for k in range(9)] + [f"ptlT{k}" for k in range(4)] + [f"pmaT{k}" for k in range(10)]
-    names = ", ".join(sets)
+    arms = "".join(f"pub returns-in-{i} : goal.returns-in-{i}\n{unfolding}\nreturns-in-{i} c = phase_at c.in-{i}.is refl\n\n" for i in range(last))
     return f"""-- `season_phase` meets its contract. Made by scripts/season.py.
 use Prim.Native.Nat.{{ℕ}}
-use mathlib.Core.Path.{{_≡_, refl, sym, ap, _∙_}}
+use mathlib.Core.Path.{{◌≡◌, refl, sym, ap, ◌∙◌}}
 use native.Mathlib.Omega.{{arith}}
-use lib.Ieee.{{Float, neg, ofBits}}
-use Rattle·numbers.specs.Arithmetic.{{_‼_}}
-use Rattle·tables.specs.Tables.{{{names}}}
-use Rattle·needed_sets.specs.Sets.{{globe7Sets, glob7sSets}}
-use Rattle·fixed_point.proofs.Arms.{{rest-above}}
-use Rattle·season_phases·specs.specs.Phases.{{placePhases, seasonPhases, phasesOf}}
-use Rattle·season_phases·proofs.proofs.season_phase.Statement.{{statement}}
-use Rattle·season_phases·proofs.proofs.season_phase.Tie as tie
+use lib.Ieee.{{Float, neg, of_bits}}
+use Rattle.numbers.specs.Arithmetic.{{◌‼◌}}
+use Rattle.tables.specs.Tables.{{{", ".join(sets)}}}
+use Rattle.needed_sets.specs.Sets.{{globe7_sets, glob7s_sets}}
+use Rattle.fixed_point.proofs.Arms.{{rest_above}}
+use Rattle.season_phases.specs.Phases.{{place_phases, season_phases, phases_of}}
+use Rattle.season_phases.proofs.season_phase.Goals as goal
 
 -- the arm of the key k gives the phase at k
-phase-at : {{i k : ℕ}} {{x : Float}} → i ≡ k → x ≡ placePhases ‼ k → x ≡ placePhases ‼ i
-phase-at e f = f ∙ sym (ap (λ (j : ℕ). placePhases ‼ j) e)
+phase_at : {{i k : ℕ}} {{x : Float}} → i ≡ k → x ≡ place_phases ‼ k → x ≡ place_phases ‼ i
+phase_at e f = f ∙ sym (ap (λ (j : ℕ). place_phases ‼ j) e)
 
--- past the last key one place is left
-beyond : tie.Need-returns-{len(found)}
-unfolding placePhases seasonPhases phasesOf globe7Sets glob7sSets {" ".join(sets)} neg ofBits
-beyond c = let e : c .before .args .i ≡ {last} = omega (arith, rest-above {last} (c .before .args .i) (c .match .rest), c .before .pre) in phase-at e refl
-
-pub season-phase-spec : {{M : Type 1}} → statement M
-unfolding placePhases seasonPhases phasesOf globe7Sets glob7sSets {" ".join(sets)} neg ofBits
-season-phase-spec =
-    tie.close
-    (tie.spec
-{arms}    beyond)
+{arms}-- past the last key one place is left
+pub returns-in_default : goal.returns-in_default
+{unfolding}
+returns-in_default c = let e : c.args.i ≡ {last} = omega (arith, rest_above {last} c.args.i c.in_default.in_default-own.rest, c.requires) in phase_at e refl
 """
 
 
@@ -89,7 +83,7 @@ def main(words):
     found = phases(read(folder))
     assert len(found) == 156
     wrong = 0
-    for path, text in ((CRATE / "src/lib.rt", code(found)), (CRATE / "proofs/season_phase/Proof.antt", proof(found))):
+    for path, text in ((CRATE / "src/lib.rt", code(found)), (CRATE / "proofs/season_phase/Answers.antt", answers(found))):
         if check:
             wrong += path.read_text() != text
         else:

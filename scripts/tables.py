@@ -54,7 +54,7 @@ def array(row, indent):
 def entries(row):
     """The row in the definitions: five numbers a line."""
     lines = [row[k:k + 5] for k in range(0, len(row), 5)]
-    return " ∷\n    ".join(" ∷ ".join(f"ofBits binary64 0x{bits(x):016x}" for x in line) for line in lines) + " ∷ []"
+    return " ∷\n    ".join(" ∷ ".join(f"of_bits binary64 0x{bits(x):016x}" for x in line) for line in lines) + " ∷ []"
 
 
 def functions(tables):
@@ -63,14 +63,17 @@ def functions(tables):
         for i, row in enumerate(rows):
             index = str(i) if nested else ""
             constant = name + index if name in BY_ROW or not nested else f"{name}[{i}]"
-            yield name.lower() + index, name.lower() + "T" + index, row, constant
+            yield name.lower() + index, name.lower() + "_t" + index, row, constant
 
 
 def code(tables):
     out = [
         "// The coefficient tables of tables.rs, and a function for each row. Made by scripts/tables.py.",
-        "ghost use mathlib.Core.Path.{_≡_};",
-        "ghost use Rattle·tables·specs.specs.Tables.{" + ", ".join(d for _, d, _, _ in functions(tables)) + "};",
+        "",
+        "#![tactic(auto)]",
+        "",
+        "ghost use Rattle.std.specs.Prelude.{◌≡◌};",
+        "ghost use Rattle.tables.specs.Tables.{" + ", ".join(d for _, d, _, _ in functions(tables)) + "};",
         "",
     ]
     for name, (rows, nested) in tables.items():
@@ -84,15 +87,16 @@ def code(tables):
         else:
             out.append(f"pub const {name}: [f64; {len(rows[0])}] = {array(rows[0], 0)};\n")
     for function, definition, row, constant in functions(tables):
-        out.append(f"pub fn {function}() -> [f64; {len(row)}]\n    ensures {{ λ r. ⌜ r ≡ {definition} ⌝ }}\n{{\n    {constant}\n}}\n")
+        out.append(f"pub fn {function}() -> [f64; {len(row)}]\n    ensures {{ result ≡ {definition} }}\n{{\n    {constant}\n}}\n")
     return "\n".join(out)
 
 
 def definitions(tables):
     out = [
         "-- The tables of tables.rs, number by number. Made by scripts/tables.py.",
-        "use mathlib.Core.List.{List, [], _∷_}",
-        "use lib.Ieee.{Float, binary64, ofBits}",
+        "use Rattle.std.specs.Prelude.{List, [], ◌∷◌, Float}",
+        "use Rattle.std.specs.Float.{binary64}",
+        "use Rattle.std.specs.Float.Ieee.{of_bits}",
         "",
     ]
     seen = None
@@ -106,7 +110,7 @@ def definitions(tables):
 
 
 def of(name):
-    return re.sub(r"^([A-Z]+)(\d*)$", lambda m: m[1].lower() + "T" + m[2], name)
+    return re.sub(r"^([A-Z]+)(\d*)$", lambda m: m[1].lower() + "_t" + m[2], name)
 
 
 def names():
@@ -117,24 +121,19 @@ def names():
         )
     return (
         "-- The coefficient sets by name: the eleven that globe7 is given, and the fourteen that glob7s is. Made by scripts/tables.py.\n"
-        "use mathlib.Core.List.{List}\nuse lib.Ieee.{Float}\n"
-        f"use Rattle·tables·specs.specs.Tables.{{{', '.join(map(of, WIDE + NARROW))}}}\n\n"
+        "use Rattle.std.specs.Prelude.{List, Float}\n"
+        f"use Rattle.tables.specs.Tables.{{{', '.join(map(of, WIDE + NARROW))}}}\n\n"
         + one("Wide", WIDE) + "\n" + one("Narrow", NARROW)
     )
 
 
-def proof(function, definition, constant):
-    read_row = "[" in constant
-    needs = "use borrow.Author.Needs.{needs}\n" if read_row else ""
+def answers(function, definition):
     return (
         f"-- `{function}` is the definition's list. Made by scripts/tables.py.\n"
-        f"use mathlib.Core.Path.{{refl}}\n{needs}"
-        f"use Rattle·tables·specs.specs.Tables.{{{definition}}}\n"
-        f"use Rattle·tables·proofs.proofs.{function}.Statement.{{statement}}\n"
-        f"use Rattle·tables·proofs.proofs.{function}.Tie as tie\n\n"
-        f"returns : tie.Need-returns\nunfolding {definition}\nreturns c = refl\n\n"
-        f"pub {function}-spec : {{M : Type 1}} → statement M\n"
-        f"{function}-spec = tie.close (tie.spec {'(λ c. search needs) ' if read_row else ''}returns)\n"
+        "use mathlib.Core.Path.{refl}\n"
+        f"use Rattle.tables.specs.Tables.{{{definition}}}\n"
+        f"use Rattle.tables.proofs.{function}.Goals as goal\n\n"
+        f"pub returns : goal.returns\nunfolding {definition}\nreturns c = refl\n"
     )
 
 
@@ -158,8 +157,8 @@ def main():
     folders = [a for a in sys.argv[1:] if not a.startswith("--")]
     tables = read(Path(folders[0]) if folders else ROOT.parent / "shared/docs/src")
     files = {"src/lib.rt": code(tables), "specs/Tables.antt": definitions(tables), "specs/Names.antt": names()}
-    for function, definition, _, constant in functions(tables):
-        files[f"proofs/{function}/Proof.antt"] = proof(function, definition, constant)
+    for function, definition, _, _ in functions(tables):
+        files[f"proofs/{function}/Answers.antt"] = answers(function, definition)
     for path, text in files.items():
         if "--check" in sys.argv:
             assert (CRATE / path).read_text() == text, f"{path} differs from what the script writes"

@@ -128,19 +128,19 @@ class Installation(unittest.TestCase):
         shutil.copytree(HERE, copied / "bindings/python", ignore=shutil.ignore_patterns("__pycache__"))
         build = copied / "bindings/python/build"
         missing = self.run_in(build)
-        self.assertEqual((missing.returncode, missing.stderr), (2, "build: target/staticlib/libpotirehu.a is missing: run 'rt staticlib potirehu' first.\n"))
+        self.assertEqual((missing.returncode, missing.stderr), (2, "build: target/staticlib/libpotirehu.a is missing: run 'scripts/staticlib potirehu' first.\n"))
         archive = copied / "target/staticlib/libpotirehu.a"
         archive.parent.mkdir(parents=True)
         shutil.copyfile(ROOT / "target/staticlib/libpotirehu.a", archive)
         os.utime(archive, (1, 1))
         old = self.run_in(build)
         self.assertEqual((old.returncode, old.stderr.count("\n")), (2, 1))
-        self.assertRegex(old.stderr, "is older than crates.*: run 'rt staticlib potirehu' first")
+        self.assertRegex(old.stderr, "is older than crates.*: run 'scripts/staticlib potirehu' first")
         self.assertFalse((copied / "target/python/libpotirehu.so").exists())
         installed = self.run_in(sys.executable, "-m", "pip", "install", "--target", self.folder / "there", copied / "bindings/python")
         self.assertNotEqual(installed.returncode, 0)
         if "No module named pip" not in installed.stderr:
-            self.assertIn("run 'rt staticlib potirehu' first", installed.stdout + installed.stderr)
+            self.assertIn("run 'scripts/staticlib potirehu' first", installed.stdout + installed.stderr)
 
 
 if __name__ == "__main__":

@@ -584,7 +584,7 @@ class Refusals(unittest.TestCase):
         run = subprocess.run(
             [sys.executable, "-c", "import potirehu"], cwd=HERE, env={**os.environ, "POTIREHU_SO": "/nowhere/libpotirehu.so"}, capture_output=True, text=True
         )
-        self.assertIn("run 'rt staticlib potirehu' and then 'bindings/python/build'", run.stderr.splitlines()[-1])
+        self.assertIn("run 'scripts/staticlib potirehu' and then 'bindings/python/build'", run.stderr.splitlines()[-1])
 
 
 if __name__ == "__main__":

@@ -14,7 +14,7 @@ fn main() {
     println!("cargo:rerun-if-changed={}", library.display());
     if !library.is_file() {
         eprintln!(
-            "There is no {}: run `rt staticlib potirehu` in the root of the repository, or set POTIREHU_LIB to the folder that has libpotirehu.a.",
+            "There is no {}: run `scripts/staticlib potirehu` in the root of the repository, or set POTIREHU_LIB to the folder that has libpotirehu.a.",
             library.display()
         );
         process::exit(1);

@@ -1,7 +1,7 @@
 #!/usr/bin/env python3
 """compare.py [count] [seed]: the model of docs/ELEMENTARY.md against the built library, bit by bit.
 
-Needs target/staticlib/libpotirehu.a (rt staticlib potirehu) and a C compiler. Fails at the first function that differs anywhere.
+Needs target/staticlib/libpotirehu.a (scripts/staticlib potirehu) and a C compiler. Fails at the first function that differs anywhere.
 """
 import math
 import random

@@ -96,17 +96,17 @@ LISTS = [
     ("logarithm_tables/specs/Tables.antt", "reciprocals =", RECIPROCALS, 16),
     ("logarithm_tables/specs/Tables.antt", "logarithms =", LOGARITHMS, 5),
     (SERIES, "factors =", FACTORS, 0),
-    (SERIES, "expAdding true =", every(2, 0), 0),
-    (SERIES, "expTaking true =", every(2, 1), 0),
-    (SERIES, "sinAdding =", every(4, 1), 0),
-    (SERIES, "sinTaking =", every(4, 3), 0),
-    (SERIES, "cosAdding =", every(4, 0), 0),
-    (SERIES, "cosTaking =", every(4, 2), 0),
-    (SERIES, "logFactors =", LOG_FACTORS, 0),
+    (SERIES, "exp_adding true =", every(2, 0), 0),
+    (SERIES, "exp_taking true =", every(2, 1), 0),
+    (SERIES, "sin_adding =", every(4, 1), 0),
+    (SERIES, "sin_taking =", every(4, 3), 0),
+    (SERIES, "cos_adding =", every(4, 0), 0),
+    (SERIES, "cos_taking =", every(4, 2), 0),
+    (SERIES, "log_factors =", LOG_FACTORS, 0),
     ("elementary_bounds/proofs/ExpSeries.antt", "lower = homogeneous (2 ^ 58)", LOWER, 0),
     ("elementary_bounds/proofs/LogSeries.antt", "upper =", UPPER, 0),
-    ("elementary_bounds/proofs/LogSeries.antt", "lowerAdding =", [max(v, 0) for v in BELOW], 0),
-    ("elementary_bounds/proofs/LogSeries.antt", "lowerTaking =", [max(-v, 0) for v in BELOW], 0),
+    ("elementary_bounds/proofs/LogSeries.antt", "lower_adding =", [max(v, 0) for v in BELOW], 0),
+    ("elementary_bounds/proofs/LogSeries.antt", "lower_taking =", [max(-v, 0) for v in BELOW], 0),
 ]
 
 check = sys.argv[1:] == ["--check"]
@@ -134,41 +134,31 @@ def settle(path, name, text, start, end, same, block):
     print(f"{path}: {name} written")
 
 
-def proof(crate, name, count, lists):
-    """The proof of a table's function: an arm gives the entries at its key, and no index is left past the last."""
+def answers(crate, name, count, lists):
+    """The answers to the goals of a table's function: an arm gives the entries at its key, and no index is left past the last."""
 
     def arm(k):
-        entries = [f"entry-at {table} (c .match .keys{k + 1}) refl" for table in lists]
-        return "(λ c. " + (entries[0] if len(entries) == 1 else "(" + ", ".join(entries) + ")") + ")"
+        entries = [f"entry_at {table} c.in-{k}.is refl" for table in lists]
+        given = entries[0] if len(entries) == 1 else "(" + ", ".join(entries) + ")"
+        return f"pub returns-in-{k} : goal.returns-in-{k}\nunfolding {' '.join(lists)}\nreturns-in-{k} c = {given}\n"
 
-    row = 3 if len(lists) == 1 else 1
-    arms = "\n".join("    " + " ".join(arm(k) for k in range(start, min(start + row, count))) for start in range(0, count, row))
-    module = f"Rattle·{crate}·proofs.proofs.{name}"
     return f"""-- `{crate}::{name}` meets its contract. Made by scripts/elementary/generate.py. Assumes nothing.
 use mathlib.Core.Path.{{refl}}
 use native.Mathlib.Omega.{{arith}}
-use Rattle·{crate}·specs.specs.Tables.{{{", ".join(lists)}}}
-use Rattle·fixed_point.proofs.Arms.{{entry-at, rest-above}}
-use {module}.Statement.{{statement}}
-use {module}.Tie as tie
+use Rattle.{crate}.specs.Tables.{{{", ".join(lists)}}}
+use Rattle.fixed_point.proofs.Arms.{{entry_at, rest_above}}
+use Rattle.{crate}.proofs.{name}.Goals as goal
 
+{chr(10).join(map(arm, range(count)))}
 -- past the last key: no index is left
-beyond : tie.Need-returns-{count + 1}
-beyond c = omega (arith, rest-above {count} (c .before .args .i) (c .match .rest))
-
-pub {name.replace("_", "-")}-spec : {{M : Type 1}} → statement M
-unfolding {" ".join(lists)}
-{name.replace("_", "-")}-spec =
-    tie.close
-    (tie.spec
-{arms}
-    beyond)
+pub returns-in_default : goal.returns-in_default
+returns-in_default c = omega (arith, rest_above {count} c.args.i c.in_default.in_default-own.rest)
 """
 
 
 for crate, name, values, lists in ARMS:
-    path = f"{crate}/proofs/{name}/Proof.antt"
-    text = proof(crate, name, len(values), lists)
+    path = f"{crate}/proofs/{name}/Answers.antt"
+    text = answers(crate, name, len(values), lists)
     there = (ROOT / path).read_text() if (ROOT / path).exists() else ""
     settle(path, name, there, 0, len(there), there == text, text)
 

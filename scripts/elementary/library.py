@@ -7,7 +7,7 @@ from pathlib import Path
 ROOT = Path(__file__).resolve().parents[2]
 archive, shared = ROOT / "target/staticlib/libpotirehu.a", ROOT / "target/elementary/libpotirehu.so"
 if not archive.exists():
-    sys.exit("no target/staticlib/libpotirehu.a: run 'rt staticlib potirehu' first")
+    sys.exit("no target/staticlib/libpotirehu.a: run 'scripts/staticlib potirehu' first")
 shared.parent.mkdir(parents=True, exist_ok=True)
 subprocess.run(["cc", "-shared", "-o", shared, "-Wl,--whole-archive", archive, "-Wl,--no-whole-archive"], check=True)
 library = ctypes.CDLL(str(shared))

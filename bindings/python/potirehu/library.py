@@ -15,7 +15,7 @@ WHOLE, LONG = ctypes.c_int32, ctypes.c_int64
 SLICE = (POINTER, LENGTH)
 RECORD = (WHOLE, WHOLE, *SLICE, *SLICE, *SLICE)
 
-STATION_WHOLE, STATION_NUMBERS = 27, 415
+STATION_WHOLE, STATION_NUMBERS = 27, 259
 """The lengths of a station's two slices."""
 BANDS = 1601
 """The length of a table of bands."""
@@ -68,7 +68,7 @@ def path() -> pathlib.Path:
 def _load() -> Dict[str, Any]:
     file = path()
     if not file.is_file():
-        raise ImportError(f"potirehu: {file} is missing: run 'rt staticlib potirehu' and then 'bindings/python/build', or name the library in POTIREHU_SO.")
+        raise ImportError(f"potirehu: {file} is missing: run 'scripts/staticlib potirehu' and then 'bindings/python/build', or name the library in POTIREHU_SO.")
     library = ctypes.CDLL(str(file.resolve()))
     calls = {name: getattr(library, "potirehu_" + name) for name in ARGUMENTS}
     for name, call in calls.items():

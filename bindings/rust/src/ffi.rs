@@ -5,7 +5,7 @@
 //! calls nothing back; where a length is not the one it needs, it refuses. A pointer with the length 0 is not looked at.
 
 pub const WHOLE: usize = 27;
-pub const NUMBERS: usize = 415;
+pub const NUMBERS: usize = 259;
 pub const BANDS: usize = 1601;
 pub const NINE: usize = 9;
 pub const COUNTS: usize = 17;
