@@ -37,7 +37,7 @@ use Rattle.profile.specs.declared.unchecked.Shape.{Shape}
 use Rattle.species.specs.Species.{n2_of}
 use Rattle.gts7_arithmetic.specs.declared.Gts7Output.{Gts7Output}
 use Rattle.stages.specs.Stages.{shape_plan, n2_plan, gts7_plan}
-use Rattle.footing.specs.Below.{gts7_is}
+use Rattle.footing.proofs.Below.{gts7_is}
 
 -- an accepted answer passed the first test
 first_passed : (b : Bool) (a : Answer) → accepted_of (cond (not b) (Refused 4 11) a) ≡ true → b ≡ true

@@ -18,7 +18,7 @@ use Rattle.lower_atmosphere.specs.LowerAtmosphere.{meso_plan, lower_plan, gtd7_a
 use Rattle.footing.specs.declared.Footing.{Footing}
 use Rattle.footing.specs.declared.Summit.{Summit}
 use Rattle.footing.specs.Footing.{footing_of, summit_of, row_below_of}
-use Rattle.footing.specs.Below.{row_is, summit_is}
+use Rattle.footing.proofs.Below.{row_is, summit_is}
 use Rattle.atmosphere.specs.Atmosphere.{gtd7_plan, eleven_from}
 
 -- one of two plans, by a test whose value is known

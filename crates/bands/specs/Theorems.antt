@@ -16,7 +16,7 @@ use Rattle.band_table.proofs.Theorems.{no_row_lem}
 use Rattle.band_form.specs.Bands.{bands_of, Gave}
 use Rattle.band_form.proofs.Theorems.{one_band}
 use Rattle.shutoff.specs.Shut.{Alike}
-use Rattle.shutoff.specs.Theorems.{demand_3}
+use Rattle.shutoff.proofs.Theorems.{demand_3}
 use Rattle.bands.specs.Bands.{at_metre, banded_answer, banded_after}
 
 -- ---- a metre outside 0 to 2,500,000

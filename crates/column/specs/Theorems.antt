@@ -9,7 +9,7 @@ use Rattle.acceptance.specs.Refusals.{no_refusal}
 use Rattle.numbers.specs.Literals.{0·0}
 use Rattle.atmosphere.specs.Atmosphere.{eleven_of}
 use Rattle.shutoff.specs.Shut.{Alike}
-use Rattle.shutoff.specs.Theorems.{first_accepted, Known, known, known_at, alike_at, eleven≡}
+use Rattle.shutoff.proofs.Theorems.{first_accepted, Known, known, known_at, alike_at, eleven≡}
 use Rattle.altitudes.specs.Altitudes.{judged_all_of, column_answer}
 use Rattle.column.specs.Column.{column_rows, column_after}
 

@@ -16,9 +16,9 @@ use Rattle.acceptance.specs.Acceptance.{accepted_of, with_alt_of}
 use Rattle.acceptance.specs.Refusals.{Never}
 use Rattle.atmosphere.specs.Atmosphere.{eleven_of}
 use Rattle.shutoff.specs.Shut.{Alike}
-use Rattle.shutoff.specs.Theorems.{eleven≡}
+use Rattle.shutoff.proofs.Theorems.{eleven≡}
 use Rattle.altitudes.specs.Altitudes.{column_answer}
-use Rattle.altitudes.specs.Room.{at_most_512, room_never_4}
+use Rattle.altitudes.proofs.Room.{at_most_512, room_never_4}
 use Rattle.column.specs.Theorems.{column_known, at_altitude}
 use Rattle.crossings_list.specs.declared.Listing.{Listing}
 use Rattle.crossings_list.specs.declared.Listing.TheVariants as listing

@@ -15,7 +15,7 @@ use Rattle.acceptance.specs.declared.Answer.{Answer}
 use Rattle.acceptance.specs.declared.Answer.TheVariants.{Accepted, Refused}
 use Rattle.acceptance.specs.Acceptance.{day_within, judged_of, accepted_of, with_alt_of}
 use Rattle.atmosphere.specs.Atmosphere.{eleven_of}
-use Rattle.shutoff.specs.Theorems.{row_written}
+use Rattle.shutoff.proofs.Theorems.{row_written}
 use Rattle.station_record.specs.Record.{station_whole}
 use Rattle.station_answer.specs.Answers.{station_answer, altitude_answer}
 use Rattle.station.specs.Station.{station_numbers, whole_after, station_numbers_after, altitude_row}

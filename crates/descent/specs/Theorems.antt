@@ -14,7 +14,7 @@ use Rattle.acceptance.specs.declared.Answer.{Answer}
 use Rattle.acceptance.specs.declared.Answer.TheVariants.{Accepted, Refused}
 use Rattle.acceptance.specs.Acceptance.{judged_of, accepted_of, with_alt_of}
 use Rattle.shutoff.specs.Shut.{shut, AlikeBut, Alike}
-use Rattle.shutoff.specs.Theorems.{Known, known, known_at, alike_at, eleven≡}
+use Rattle.shutoff.proofs.Theorems.{Known, known, known_at, alike_at, eleven≡}
 use Rattle.descent_orbits.specs.declared.Ending.{Ending}
 use Rattle.descent_orbits.specs.declared.Ending.TheVariants.{Spent}
 use Rattle.descent_orbits.specs.declared.Descended.{Descended}

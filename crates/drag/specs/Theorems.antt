@@ -12,7 +12,7 @@ use Rattle.acceptance.specs.declared.Answer.TheVariants.{Accepted}
 use Rattle.acceptance.specs.Acceptance.{accepted_of}
 use Rattle.atmosphere.specs.Atmosphere.{eleven_of, answer_of, row_after}
 use Rattle.shutoff.specs.Shut.{one, Alike}
-use Rattle.shutoff.specs.Theorems.{demand_3}
+use Rattle.shutoff.proofs.Theorems.{demand_3}
 use Rattle.drag_sum.specs.DragSum.{drag_sum_of, drag_mass_of, dragged_of}
 use Rattle.drag.specs.Drag.{drag_of, drag_after}
 use Rattle.drag.specs.Length.{eleven_long}

@@ -24,7 +24,7 @@ use Rattle.expansion_values.specs.ExpansionValues.{legendre_in, quiet_of, active
 use Rattle.needed_sets.specs.NeededSets.{glob7s_end}
 use Rattle.needed_sets.specs.Sets.{globe7_sets, globe7_set, glob7s_sets, glob7s_set}
 use Rattle.season.specs.Season.{seasons_at, longitude_seasons_at, season_into}
-use Rattle.season.specs.Filled.{seasoned}
+use Rattle.season.proofs.Filled.{seasoned}
 use Rattle.expansion_parts.specs.declared.Seasons.{Seasons}
 use Rattle.expansion_values.specs.Sets.{globe7_before, glob7s_before, wide_given, globe7_values_given, glob7s_at_given, glob7s_values_given, named_values, expansion_values_given, record_values_given}
 use Rattle.expansion_values.specs.InSeason.{longitude_in, record_in_season}

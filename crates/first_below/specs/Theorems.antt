@@ -19,10 +19,10 @@ use Rattle.acceptance.specs.Acceptance.{accepted_of, with_alt_of}
 use Rattle.acceptance.specs.Refusals.{test_passed, Never}
 use Rattle.atmosphere.specs.Atmosphere.{eleven_of}
 use Rattle.shutoff.specs.Shut.{Alike}
-use Rattle.shutoff.specs.Theorems.{eleven≡}
+use Rattle.shutoff.proofs.Theorems.{eleven≡}
 use Rattle.drag.specs.Length.{eleven_long}
 use Rattle.altitudes.specs.Altitudes.{column_answer}
-use Rattle.altitudes.specs.Room.{at_most_512, room_never_4}
+use Rattle.altitudes.proofs.Room.{at_most_512, room_never_4}
 use Rattle.column.specs.Column.{column_rows, column_after}
 use Rattle.column.specs.Theorems.{column_known, at_altitude, rows≡, column_written}
 use Rattle.first_below_list.specs.declared.First.{First}

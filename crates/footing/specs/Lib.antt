@@ -1,4 +1,3 @@
--- The definitions that the contracts of this crate cite (Footing), that the row below 72.5 km is gtd7's (Below), and of which values it is made (Same).
+-- The definitions that the contracts of this crate cite (Footing), and of which values the row below 72.5 km is made (Same).
 pub mod Footing
-pub mod Below
 pub mod Same

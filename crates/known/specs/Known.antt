@@ -7,7 +7,7 @@ use Rattle.acceptance.specs.declared.Answer.TheVariants.{Refused}
 use Rattle.acceptance.specs.Acceptance.{accepted_of}
 use Rattle.atmosphere.specs.Atmosphere.{eleven_of}
 use Rattle.known_record.specs.KnownRecord.{only_known, known_refusal, filled_answer}
-use Rattle.known_record.specs.Refusals.{answer_is}
+use Rattle.known_record.proofs.Refusals.{answer_is}
 use Rattle.counts.specs.Counts.{counts_of}
 
 -- 4 for a row that is not of length 11; then 2, 1, 3, 10, with 1 by the fields that count under the row

@@ -15,11 +15,11 @@ use Rattle.acceptance.specs.Refusals.{no_refusal}
 use Rattle.atmosphere.specs.Atmosphere.{eleven_of, answer_of, row_after}
 use Rattle.shutoff.specs.Fields.{Value, whole, float, missing, fields, field}
 use Rattle.shutoff.specs.Shut.{nine_is_minus_one, shut, Alike}
-use Rattle.shutoff.specs.Theorems.{demand_3}
+use Rattle.shutoff.proofs.Theorems.{demand_3}
 use Rattle.counts.specs.Counts.{counts_of, counts_at}
 use Rattle.known_record.specs.KnownRecord.{AllKnown, only_known, lacking, lacking_field, unfit_known, filled_answer}
 use Rattle.known_record.specs.Lowest.{Lowest}
-use Rattle.known_record.specs.Refusals.{counts_known, history_there, one_place, one_where, filled_all, all_kept_lem}
+use Rattle.known_record.proofs.Refusals.{counts_known, history_there, one_place, one_where, filled_all, all_kept_lem}
 use Rattle.known.specs.Known.{known_answer, known_row, filled_answer_at, filled_is}
 use Rattle.known.specs.Fields.{AgreeIn, field_kept, history_kept, same_fields}
 

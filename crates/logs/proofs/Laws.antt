@@ -13,7 +13,7 @@ use Rattle.logs.specs.declared.Report.{Report}
 use Rattle.logs.specs.declared.Answer.TheVariants.{Counted, Refused}
 use Rattle.logs.specs.Logs.{Entry, entries_of, Finding, pair, single1, single2, apart, findings, finding_number, finding_numbers, unfit_log, seconds_rise_from, seconds_rise, accepted_logs, refusal, report_of}
 use Rattle.logs.specs.Lent.{counted_of, lent_answer, lent_after}
-use Rattle.logs.specs.Theorems.{length_log, only_first}
+use Rattle.logs.proofs.Theorems.{length_log, only_first}
 use Rattle.logs.specs.Steps.{meet_of, front_of, taken1, taken2}
 
 -- ---- the fronts

@@ -17,7 +17,7 @@ use Rattle.plan.specs.Plan.{Plan, Ask, either, ◌>>=◌, ends, told, fields_aft
 use Rattle.needed_sets.specs.declared.Need.{Need}
 use Rattle.needed_sets.specs.NeededSets.{need_at, with_high}
 use Rattle.season.specs.Season.{season_into}
-use Rattle.season.specs.Filled.{seasoned, serves}
+use Rattle.season.proofs.Filled.{seasoned, serves}
 use Rattle.expansion_values.specs.Sets.{expansion_values_given}
 use Rattle.expansion_values.specs.InSeason.{longitude_on, in_season}
 use Rattle.expansion_values.specs.ExpansionValues.{expansion_values_of}

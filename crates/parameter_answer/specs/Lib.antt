@@ -1,3 +1,2 @@
 -- The definitions that the contracts of this crate cite, and what they mean for a user.
 pub mod ParameterAnswer
-pub mod Theorems

@@ -14,7 +14,7 @@ use Rattle.acceptance.specs.declared.Answer.TheVariants.{Accepted}
 use Rattle.acceptance.specs.Acceptance.{accepted_of}
 use Rattle.atmosphere.specs.Atmosphere.{eleven_of, answer_of, row_after}
 use Rattle.shutoff.specs.Shut.{Alike}
-use Rattle.shutoff.specs.Theorems.{demand_3}
+use Rattle.shutoff.proofs.Theorems.{demand_3}
 use Rattle.drag.specs.Length.{eleven_long}
 use Rattle.record_list.specs.RecordList.{record_at}
 use Rattle.records.specs.Records.{row_at, with_row, rows_to}

@@ -17,7 +17,7 @@ use Rattle.setting.specs.declared.Input.{Input}
 use Rattle.needed_sets.specs.declared.Need.{Need}
 use Rattle.needed_sets.specs.NeededSets.{need_at}
 use Rattle.season.specs.Season.{Seasoned, season_into}
-use Rattle.season.specs.Filled.{seasoned}
+use Rattle.season.proofs.Filled.{seasoned}
 use Rattle.expansion_values.specs.declared.RecordValues.{RecordValues}
 use Rattle.expansion_values.specs.ExpansionValues.{record_values_of}
 use Rattle.expansion_values.specs.Sets.{record_values_given}

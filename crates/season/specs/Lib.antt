@@ -1,3 +1,2 @@
--- The season (Season), and that a season that is filled holds what is read of it (Filled).
+-- The season.
 pub mod Season
-pub mod Filled

@@ -64,3 +64,7 @@ glob7s_season doy n long s =
 
 unfoldable pub season_into : Float → Need → Bool → List Float → List Float
 season_into doy n long s = glob7s_season doy n long (copied_places (globe7_season doy n s))
+
+-- every set is needed
+abbrev pub all_needed : Need
+all_needed = record { high = true; pt = true; ps = true; nodes = true; meso = true; tropo = true }

@@ -1,14 +1,10 @@
--- Demand 3: its list (Shut), its theorem (Theorems), the proof behind it; switch 10's row for the expansions (Ten), and the coefficient that they raise (Raised).
--- Zeroed has lst, f107a and f107, which W-210's rows multiply by zero, over laws of floats (Size, Zero) and sizes (Fit); Agree has the other fields.
+-- Demand 3: its list (Shut), and laws of floats (Size, Zero), of sizes (Fit), of switch 9 (Nine) and of the View (PlainView) that its theorem in proofs/ stands on;
+-- two sets that differ in the coefficient that globe7 raises (Raised).
 pub mod Fields
 pub mod Shut
 pub mod Nine
 pub mod PlainView
-pub mod Agree
 pub mod Size
 pub mod Zero
 pub mod Fit
-pub mod Zeroed
-pub mod Theorems
-pub mod Ten
 pub mod Raised

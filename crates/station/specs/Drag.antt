@@ -7,7 +7,7 @@ use Rattle.acceptance.specs.declared.Answer.TheVariants.{Accepted}
 use Rattle.acceptance.specs.Acceptance.{accepted_of, with_alt_of}
 use Rattle.atmosphere.specs.Atmosphere.{eleven_of, answer_of, row_after}
 use Rattle.shutoff.specs.Shut.{Alike}
-use Rattle.shutoff.specs.Theorems.{alike_at}
+use Rattle.shutoff.proofs.Theorems.{alike_at}
 use Rattle.drag_sum.specs.DragSum.{dragged_of}
 use Rattle.drag.specs.Drag.{drag_of, drag_after}
 use Rattle.drag.specs.Theorems.{demand_3_drag}

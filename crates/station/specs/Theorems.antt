@@ -26,7 +26,7 @@ use Rattle.stored.specs.Stored.{row_stored}
 use Rattle.stored_parts.specs.Held.{all_hold}
 use Rattle.stored.specs.Eleven.{stored_eleven}
 use Rattle.shutoff.specs.Shut.{Alike}
-use Rattle.shutoff.specs.Theorems.{judged_first, known, row_written, alike_at, eleven≡}
+use Rattle.shutoff.proofs.Theorems.{judged_first, known, row_written, alike_at, eleven≡}
 use Rattle.station_record.specs.Record.{mark_of, history_in, station_whole, record_numbers, record_in}
 use Rattle.station_answer.specs.Answers.{station_answer, altitude_answer, with_sec_of, with_lst_of, with_long_of, with_fluxes_of, Change, to_sec, to_lst, to_long, to_fluxes, to_move, change_of, change_answer, switches_answer}
 use Rattle.station_values.specs.StationValues.{site_under}

@@ -13,7 +13,8 @@ use Rattle.setting.specs.Entries.{filled_before, filled_at, length_filled}
 use Rattle.needed_sets.specs.declared.Need.{Need}
 use Rattle.views.specs.View.{view_of}
 use Rattle.season.specs.Season.{Seasoned, place_cosine, globe7_season, copied_places, glob7s_season, season_into}
-use Rattle.season.specs.Filled.{all_needed, seasoned, whole_serves}
+use Rattle.season.specs.Season.{all_needed}
+use Rattle.season.proofs.Filled.{seasoned, whole_serves}
 use Rattle.expansion_values.specs.ExpansionValues.{expansion_values_of}
 use Rattle.expansion_values.specs.Sets.{expansion_values_given}
 use Rattle.expansion_values.specs.InSeason.{longitude_on, in_season}

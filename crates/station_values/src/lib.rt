@@ -6,7 +6,7 @@
 ghost use Rattle.std.specs.Prelude.{◌≡◌, length};
 ghost use Rattle.std.specs.Float.{binary64};
 ghost use Rattle.std.specs.Float.Ieee.{of_int};
-ghost use Rattle.season.specs.Filled.{all_needed};
+ghost use Rattle.season.specs.Season.{all_needed};
 ghost use Rattle.station_values.specs.StationValues.{expansion_numbers, expansion_values_in, globe7_sets, site_under};
 ghost use Rattle.station_values.specs.WholeSeason.{season_of};
 

@@ -1,4 +1,3 @@
 -- The tables that the contracts cite, their names, and the rule that holds of every number in them.
 pub mod Tables
 pub mod Names
-pub mod Rule

@@ -16,7 +16,7 @@ use Rattle.acceptance.specs.declared.Answer.{Answer}
 use Rattle.acceptance.specs.declared.Answer.TheVariants.{Accepted, Refused}
 use Rattle.acceptance.specs.Acceptance.{accepted_of}
 use Rattle.parameter_answer.specs.ParameterAnswer.{answer_with}
-use Rattle.parameter_answer.specs.Theorems.{accepted_fit, accepted_length}
+use Rattle.parameter_answer.proofs.Theorems.{accepted_fit, accepted_length}
 use Rattle.atmosphere.specs.Atmosphere.{eleven_with}
 use Rattle.varied_constants.specs.VariedConstants.{row_with}
 

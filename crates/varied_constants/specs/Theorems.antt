@@ -12,11 +12,11 @@ use Rattle.acceptance.specs.declared.Answer.{Answer}
 use Rattle.acceptance.specs.declared.Answer.TheVariants.{Accepted}
 use Rattle.acceptance.specs.Acceptance.{accepted_of}
 use Rattle.parameter_answer.specs.ParameterAnswer.{answer_with}
-use Rattle.parameter_answer.specs.Theorems.{present_answer, accepted_judged, accepted_low}
+use Rattle.parameter_answer.proofs.Theorems.{present_answer, accepted_judged, accepted_low}
 use Rattle.atmosphere.specs.Atmosphere.{eleven_with, eleven_of, left_with, answer_of, row_after}
 use Rattle.model_state.specs.Left.{marked_below}
 use Rattle.shutoff.specs.Shut.{Alike}
-use Rattle.shutoff.specs.Theorems.{known, eleven_with≡}
+use Rattle.shutoff.proofs.Theorems.{known, eleven_with≡}
 use Rattle.varied_constants.specs.VariedConstants.{row_with}
 
 -- The mass of mixed air among the present nine is the tables' own

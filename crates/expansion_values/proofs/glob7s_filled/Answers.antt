@@ -8,7 +8,7 @@ use Rattle.numbers.specs.Literals.{0·0}
 use Rattle.setting.specs.Switches.{filled}
 use Rattle.setting.proofs.Fill.{filled_more, filled_done}
 use Rattle.expansion_values.specs.Sets.{glob7s_at_given}
-use Rattle.season.specs.Filled.{end_most}
+use Rattle.season.proofs.Filled.{end_most}
 use Rattle.expansion_values.proofs.Laws.{glob7s_length, glob7s_to_end}
 use Rattle.expansion_values.proofs.glob7s_filled.Goals as goal
 

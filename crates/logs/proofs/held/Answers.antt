@@ -1,6 +1,6 @@
 -- `held` meets its contract: each return is an outcome of its definition.
 use mathlib.Core.Path.{sym, ◌∙◌}
-use Rattle.logs.specs.Theorems.{log_fit}
+use Rattle.logs.proofs.Theorems.{log_fit}
 use Rattle.logs.proofs.Laws.{unfit_first, unfit_second, first_falls, second_falls, both_fit}
 use Rattle.logs.proofs.held.Goals as goal
 

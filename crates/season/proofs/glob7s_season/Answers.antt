@@ -1,7 +1,7 @@
 -- `glob7s_season` meets its contract.
 use mathlib.Core.Path.{◌∙◌}
 use lib.Dec.{lit≤}
-use Rattle.season.specs.Filled.{end_most}
+use Rattle.season.proofs.Filled.{end_most}
 use Rattle.season.proofs.Laws.{first_end, none_needed, without_longitude, with_longitude}
 use borrow.Author.Rules.{rules}
 use Rattle.season.proofs.glob7s_season.Goals as goal

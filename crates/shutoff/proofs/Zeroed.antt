@@ -27,7 +27,7 @@ use Rattle.parameters.specs.declared.Parameters.{Parameters}
 use Rattle.gts7_arithmetic.specs.Gts7Arithmetic.{site_from, site_with}
 use Rattle.shutoff.specs.Shut.{one, off, nine_is_zero, shut, Alike}
 use Rattle.shutoff.specs.PlainView.{plain_view}
-use Rattle.shutoff.specs.Agree.{zero_off, float_is}
+use Rattle.shutoff.proofs.Agree.{zero_off, float_is}
 use Rattle.shutoff.specs.Size.{Sized, sized_mul, sized_add, sized_sub, wider}
 use Rattle.shutoff.specs.Zero.{plain, plain_add, plain_times, zero_times, times_zero, zero_times_times, times_zero_times, one_plus, one_minus, exp_plain, weighted_plain}
 use Rattle.shutoff.specs.Fit.{Fit, computed, up_to, dfa_sized, square_sized, wide_sized, narrow_sized, daily_phase, history_phase, flux_sized, local_sized, Good, latitude_good}

@@ -29,9 +29,9 @@ use Rattle.shutoff.specs.Fields.{float, missing, field, fields}
 use Rattle.shutoff.specs.Shut.{others, AlikeBut, Alike}
 use Rattle.shutoff.specs.PlainView.{plain_view, view_is}
 use Rattle.shutoff.specs.Fit.{Fit, fit}
-use Rattle.shutoff.specs.Zeroed.{changed, with_dfa}
-use Rattle.shutoff.specs.Zeroed as zeroed
-use Rattle.shutoff.specs.Agree.{asks_nine, Has, state_itself, run≡, alt≡, doy≡, glat≡, f107a≡}
+use Rattle.shutoff.proofs.Zeroed.{changed, with_dfa}
+use Rattle.shutoff.proofs.Zeroed as zeroed
+use Rattle.shutoff.proofs.Agree.{asks_nine, Has, state_itself, run≡, alt≡, doy≡, glat≡, f107a≡}
 
 -- ---- what acceptance says
 

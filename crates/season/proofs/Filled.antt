@@ -21,7 +21,7 @@ use Rattle.expansion_parts.specs.declared.LongitudeSeasons.{LongitudeSeasons}
 use Rattle.expansion_parts.specs.ExpansionParts.{day_cosines_of, longitude_cosines_of}
 use Rattle.views.specs.Phases.{annual_cos_of}
 use Rattle.season_phases.specs.Phases.{phases_of, season_phases, place_phases}
-use Rattle.season.specs.Season.{seasons_at, longitude_seasons_at, Seasoned, place_cosine, globe7_season, copied_places, first_set, glob7s_season, season_into}
+use Rattle.season.specs.Season.{seasons_at, longitude_seasons_at, Seasoned, place_cosine, globe7_season, copied_places, first_set, glob7s_season, season_into, all_needed}
 
 -- a place holds its cosine
 abbrev Good : Float → List Float → ℕ → Type 0
@@ -479,10 +479,6 @@ serves doy n m b s f g q =
       lower = λ k h e. q.lower k h (g k e);
       longitude = λ _ k h e. q.longitude refl k h (g k e);
     }
-
--- every set is needed
-abbrev pub all_needed : Need
-all_needed = record { high = true; pt = true; ps = true; nodes = true; meso = true; tropo = true }
 
 same : (b : Bool) → cond b true true ≡ true
 same true = refl
