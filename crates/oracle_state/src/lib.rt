@@ -110,8 +110,7 @@ pub fn left(w: [i32; 24], n: Input) -> State
 
 // The State after gtd7 into a slice of 79 numbers, with no check of the record beyond its slices' lengths: 0, or 4 and the length needed, and
 // then the slice as it was.
-#[unsafe(no_mangle)]
-pub extern "C" fn state_after_gtd7(
+pub fn state_after_gtd7(
     year: i32,
     doy: i32,
     fields: &[f64],

@@ -1,2 +1,2 @@
--- What the proofs of this crate share, and its theorems.
+-- What the answer with other constants means for a user.
 pub mod Theorems

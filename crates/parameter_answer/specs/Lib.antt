@@ -1,2 +1,2 @@
--- The definitions that the contracts of this crate cite, and what they mean for a user.
+-- The definitions that the contracts of this crate cite.
 pub mod ParameterAnswer

@@ -1,2 +1,2 @@
--- What the proofs of this crate share, and its theorems.
+-- The rule that holds of every number in the tables.
 pub mod Rule

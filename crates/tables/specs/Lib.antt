@@ -1,3 +1,3 @@
--- The tables that the contracts cite, their names, and the rule that holds of every number in them.
+-- The tables that the contracts cite, and their names.
 pub mod Tables
 pub mod Names
