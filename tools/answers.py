@@ -118,10 +118,27 @@ class Walk:
                 return p
         return None
 
+    def arm(self, place, step):
+        """The arm of the match that says which variant a value is, where the walk told it in a step of its own."""
+        way = []
+        while place and self.places.get(place):
+            way.append(self.places[place])
+            place = self.places[place][1]
+        at = next((i for i, p in enumerate(way) if p[2][0] and same(p[2][0]) == same(step)), None)
+        if at is None or re.search(r"arg|known|struct", step):
+            return None
+        near = sorted((abs(i - at), i) for i, p in enumerate(way) if re.match(r"in[-_]", p[2][1]))
+        return way[near[0][1]][2][1] if near and near[0][0] <= 2 else None
+
     def path(self, place, fields):
         """The words of a path from a place: its new text behind `c`, and the place if it ends at one."""
         here, out, first = place, [], True
         seen = False
+        steps = [f for f in fields if f != "before"]
+        if len(steps) == 3 and steps[1:] == ["given", "1"]:
+            arm = self.arm(place, steps[0])
+            if arm:
+                return [arm, "is"], None
         for f in fields:
             if f == "before" and not seen:
                 p = self.places.get(here)
@@ -331,7 +348,7 @@ def convert(folder, listed, module, where):
         out["Invariants.antt"] = "\n".join(comment + uses + [f"use {module}.Given as goal", ""]) + "\n" + "\n\n".join(invariants) + "\n"
     if answers:
         lts, places = [], []
-        for old in sorted({m for h in helpers for m in re.findall(r"lts\.([^\s(){}.;,]+)", h)}):
+        for old in sorted({m for h in helpers for m in re.findall(r"(?<![\w.])lts\.([^\s(){}.;,]+)", h)}):
             new = walk.place_names[same(old)]
             places.append(f"-- the facts known there\nabbrev {new} : Type 0\n{new} = lts.{old} tie.the-claims reads.Pre reads.Post")
             helpers = [re.sub(r"(?<![\w.])lts\." + re.escape(old) + r"(?![\w'-])", new, h) for h in helpers]

@@ -16,18 +16,7 @@ use Rattle.band_table.specs.Table.{band_row}
 use Rattle.band_table.specs.Kilometres.{kilometres_of_metres}
 use Rattle.band_table.proofs.Laws.{found_inside}
 use Rattle.bands.proofs.Laws.{longer, no_band_lem, in_band}
-use Rattle.bands.proofs.gtd7_in_bands.Lts as lts
-use Rattle.bands.proofs.gtd7_in_bands.Tie as tie
-use Rattle.bands.proofs.gtd7_in_bands.Reads as reads
 use Rattle.bands.proofs.gtd7_in_bands.Goals as goal
-
--- the facts known there
-abbrev After-row_at-r : Type 0
-After-row_at-r = lts.After-row_at tie.the-claims reads.Pre reads.Post
-
--- what `row_at` found, of the metre as given
-row_is : (c : After-row_at-r) → c.row_at-r.result ≡ band_row c.args.table.now c.args.metre
-row_is c = let A = c.args in c.row_at-r.ensures ∙ ap (band_row A.table.now) (to_z-of_z {w = w64} {z = A.metre} (search rules))
 
 pub returns-then-out-ne11 : goal.returns-then-out-ne11
 returns-then-out-ne11 c = let A = c.args in longer A.table.now A.metre A.n A.out.now c.if-out-ne11.true
@@ -35,20 +24,20 @@ returns-then-out-ne11 c = let A = c.args in longer A.table.now A.metre A.n A.out
 pub returns-then-not-r : goal.returns-then-not-r
 returns-then-not-r c =
     let A = c.args in
-    no_band_lem A.table.now A.metre A.n A.out.now c.if-out-ne11.false c.row_at-r.result (row_is at) (not-true _ c.if-not-r.true)
+    no_band_lem A.table.now A.metre A.n A.out.now c.if-out-ne11.false c.row_at-r.result (c.row_at-r.ensures ∙ ap (band_row A.table.now) (to_z-of_z {w = w64} {z = A.metre} (search rules))) (not-true _ c.if-not-r.true)
 
 pub kilometres-requires : goal.kilometres-requires
 kilometres-requires c =
     let A = c.args in
-    let f = found_inside A.table.now A.metre (ap (λ (r : Row). r.found) (sym (row_is at)) ∙ not-false _ c.if-not-r.false) in
+    let f = found_inside A.table.now A.metre (ap (λ (r : Row). r.found) (sym (c.row_at-r.ensures ∙ ap (band_row A.table.now) (to_z-of_z {w = w64} {z = A.metre} (search rules)))) ∙ not-false _ c.if-not-r.false) in
     subst (λ (z : ℤ). (lt_z z (pos 0) ≡ false) × (lt_z (pos 2500000) z ≡ false)) (sym (to_z-of_z {w = w64} {z = A.metre} (search rules))) f
 
 pub returns : goal.returns
 returns c =
     let A = c.args in
-    let k = c.kilometres.ensures ∙ ap kilometres_of_metres (to_z-of_z {c.before.before.before.before.before.before = w64} {z = A.metre} (search rules)) in
+    let k = c.kilometres.ensures ∙ ap kilometres_of_metres (to_z-of_z {w = w64} {z = A.metre} (search rules)) in
     let m = c.with_alt-m.ensures ∙ ap (with_alt_of A.n) k in
-    in_band A.table.now A.metre A.n A.out.now c.if-out-ne11.false c.row_at-r.result (row_is at) (not-false _ c.if-not-r.false)
+    in_band A.table.now A.metre A.n A.out.now c.if-out-ne11.false c.row_at-r.result (c.row_at-r.ensures ∙ ap (band_row A.table.now) (to_z-of_z {w = w64} {z = A.metre} (search rules))) (not-false _ c.if-not-r.false)
     c.gtd7.result _
     (c.gtd7.ensures.0 ∙ ap (λ (n : Input). answer_of c.row_at-r.result.switches n (length A.out.now)) m)
     (c.gtd7.ensures.1 ∙ ap (λ (n : Input). row_after c.row_at-r.result.switches n A.out.now) m)

@@ -25,7 +25,7 @@ pub slice_bounds-listed-end : goal.slice_bounds-listed-end
 slice_bounds-listed-end c =
     let v = c.accepted in
     let k = c.checked-a in
-    omega (arith, checked_few _ _ _ (verdict k.ensures v.ensures (not-false _ c.if-not-accepted.false)))
+    omega (arith, checked_few _ _ _ (verdict k.ensures v.ensures (not-false _ c.if-not-accepted.false-raw)))
 
 pub returns : goal.returns
 returns c =
@@ -34,5 +34,5 @@ returns c =
     let v = c.accepted in
     let k = c.checked-a in
     let A = c.args in
-    answered A.w A.n A.alts.now A.level A.list.now l.result _ _ _ _ (verdict k.ensures v.ensures (not-false _ c.if-not-accepted.false))
+    answered A.w A.n A.alts.now A.level A.list.now l.result _ _ _ _ (verdict k.ensures v.ensures (not-false _ c.if-not-accepted.false-raw))
     ds.ensures refl l.ensures.0 l.ensures.1

@@ -6,4 +6,4 @@ use Rattle.crossings.specs.Crossings.{crossings_refused_or}
 use Rattle.crossings.proofs.refusal.Goals as goal
 
 pub returns-in-Refused : goal.returns-in-Refused
-returns-in-Refused c = sym (ap (λ (a : Answer). crossings_refused_or a (Listed 0)) c.a-1.given.1)
+returns-in-Refused c = sym (ap (λ (a : Answer). crossings_refused_or a (Listed 0)) c.in-Refused.is)

@@ -16,8 +16,8 @@ unfolding host_glob7s
 returns-then-k-ne0 c =
     let A = c.args in
     let told =
-        misfit_told _ _ _ c.misfit-k.ensures.value (glob7s_call_of A.switches.now (record_of A.year A.doy A.fields.now A.ap_array.now) A.p.now (state_of A.state.now))
-        A.numbers.now c.if-k-ne0.true c.packed.ensures in
+    misfit_told _ _ _ c.misfit-k.ensures.value (glob7s_call_of A.switches.now (record_of A.year A.doy A.fields.now A.ap_array.now) A.p.now (state_of A.state.now))
+    A.numbers.now c.if-k-ne0.true c.packed.ensures in
     record { value = told.0; numbers_after = told.1 }
 
 pub switch_row-w-requires : goal.switch_row-w-requires
@@ -39,10 +39,10 @@ returns c =
     let w = c.switch_row-w in
     let n = c.record_of-n.ensures ∙ ap₂ (λ (y d : ℤ). record_of y d A.fields.now A.ap_array.now) (to_z-of_z c.ranges.year) (to_z-of_z c.ranges.doy) in
     let told =
-        fit_told _ _ _ c.misfit-k.ensures.value (glob7s_call_of A.switches.now (record_of A.year A.doy A.fields.now A.ap_array.now) A.p.now (state_of A.state.now)) A.numbers.now
-        c.glob7s-e.result _ c.if-k-ne0.false
-        (c.glob7s-e.ensures
-        ∙ ap₂ (λ (n : Input) (s : State). glob7s_call_of w.result n A.p.now s) n c.state_of-s.ensures
-        ∙ ap (λ (w : List ℤ). glob7s_call_of w (record_of A.year A.doy A.fields.now A.ap_array.now) A.p.now (state_of A.state.now)) w.ensures)
-        c.tell.ensures in
+    fit_told _ _ _ c.misfit-k.ensures.value (glob7s_call_of A.switches.now (record_of A.year A.doy A.fields.now A.ap_array.now) A.p.now (state_of A.state.now)) A.numbers.now
+    c.glob7s-e.result _ c.if-k-ne0.false
+    (c.glob7s-e.ensures
+    ∙ ap₂ (λ (n : Input) (s : State). glob7s_call_of w.result n A.p.now s) n c.state_of-s.ensures
+    ∙ ap (λ (w : List ℤ). glob7s_call_of w (record_of A.year A.doy A.fields.now A.ap_array.now) A.p.now (state_of A.state.now)) w.ensures)
+    c.tell.ensures in
     record { value = told.0; numbers_after = told.1 }

@@ -1,0 +1,15 @@
+-- `orbits` meets its contract: the first i orbits are flown, down to a.
+use mathlib.Core.Path.{◌≡◌}
+use Prim.Native.Nat.{◌≤◌, ◌-◌}
+use lib.ListN.{length}
+use Rattle.descent_orbits.proofs.Turns.{Flown}
+use Rattle.descent.specs.Stored.{station_density}
+use Rattle.descent.proofs.orbits.Given as goal
+
+abbrev pub invariant-loop-i : goal.invariant-loop-i
+invariant-loop-i l =
+    (l.i ≤ length l.settings) × (200000000 ≤ l.a) × (l.a ≤ 1000000000) × (length l.losses ≡ length l.initial.losses)
+    × Flown (station_density l.whole l.numbers) l.start l.settings l.initial.losses l.a l.i l.losses
+
+abbrev pub decreases-loop-i : goal.decreases-loop-i
+decreases-loop-i l = length l.settings - l.i
