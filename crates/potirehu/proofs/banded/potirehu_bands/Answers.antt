@@ -1,0 +1,7 @@
+-- `potirehu_bands` meets its contract.
+use mathlib.Core.Path.{ap, ◌∙◌}
+use Rattle.host_record.specs.Record.{code_of}
+use Rattle.potirehu.proofs.banded.potirehu_bands.Goals as goal
+
+pub returns : goal.returns
+returns c = let a = c.bands-a in (c.code.ensures ∙ ap code_of a.ensures.0, a.ensures.1)
