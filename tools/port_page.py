@@ -109,7 +109,7 @@ def cases(old):
         for name in here:
             if name in there and here[name] != there[name]:
                 more = [l.strip() for l in there[name] if l not in here[name]]
-                if more and all(l.endswith("= elim " + l.split("= elim ")[-1]) and "[ ]" in l for l in more if l):
+                if any(more) and all(l.endswith("= elim " + l.split("= elim ")[-1]) and "[ ]" in l for l in more if l):
                     out.append(f"| {inside.split('/')[0]} | `{name}` | {len([l for l in more if l])}, each `elim h [ ]` |")
     return out
 
@@ -129,10 +129,11 @@ def edits(old, logs):
         if was == now:
             continue
         where = goals.get(label, "")
-        m = re.match(r"(?:note: )?(?:\./)?([^:\s]+):\d+:\d+: (?:error: )?(?:`([^`]+)`)?", where)
-        said = (f"{m[1]}" + (f", `{m[2]}`" if m[2] else "")) if m else (where[:80] or "?")
+        m = re.search(r"(?:note: )?(?:\./)?([^:\s]+):\d+:\d+: (?:error: )?(?:`([^`]+)`)?(?:[^\n]*?\(`([^`]+)`\))?", where)
+        goal = m and (m[2] or m[3])
+        said = (f"{m[1]}" + (f", `{goal}`" if goal else "")) if m else "?"
         out += [f"- `{label}`, refused in {said}" + ("" if was is not None else " (not landed before)")]
-        cut = lambda l: l if len(l) <= 140 else l[:137] + "..."
+        cut = lambda l: l if len(l) <= 150 else "\n      ".join(textwrap.wrap(l, 145, break_long_words=False, break_on_hyphens=False))
         out += ["", "  ```"]
         if was is not None:
             out += ["  LANDED"] + ["  " + cut(l) for l in was]

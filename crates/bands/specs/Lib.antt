@@ -1,3 +1,2 @@
--- The definitions that the contracts of this crate cite (Bands), and what holds of a table that reading gave (Theorems).
+-- The definitions that the contracts of this crate cite.
 pub mod Bands
-pub mod Theorems

@@ -1,4 +1,3 @@
--- The definitions that the contracts of this crate cite (Column; Parts: what is stored), and the column's part of demand 3.
+-- The definitions that the contracts of this crate cite (Column; Parts: what is stored).
 pub mod Column
 pub mod Parts
-pub mod Theorems

@@ -28,7 +28,7 @@ use Rattle.crossings_list.specs.declared.Listing.TheVariants.{Listed}
 use Rattle.crossings_list.specs.CrossingsList.{crossings_of, list_answer, list_after, altitudes_rise}
 use Rattle.crossings.specs.Crossings.{total_density, densities_of, list_of, after_column, crossings_checked, crossings_refused_or, crossings_answer, crossings_after}
 use Rattle.crossings.specs.Stored.{densities_stored}
-use Rattle.crossings.specs.Theorems.{densities_length, checked_column}
+use Rattle.crossings.proofs.Theorems.{densities_length, checked_column}
 
 -- ---- the checks
 

@@ -19,7 +19,7 @@ use Rattle.shutoff.proofs.Theorems.{row_written}
 use Rattle.station_record.specs.Record.{station_whole}
 use Rattle.station_answer.specs.Answers.{station_answer, altitude_answer}
 use Rattle.station.specs.Station.{station_numbers, whole_after, station_numbers_after, altitude_row}
-use Rattle.station.specs.Theorems.{altitude_told, prepared_held, day_held}
+use Rattle.station.proofs.Theorems.{altitude_told, prepared_held, day_held}
 use Rattle.descent_orbits.specs.declared.Orbit.{Orbit}
 use Rattle.descent_orbits.specs.declared.Ending.{Ending}
 use Rattle.descent_orbits.specs.declared.Descended.{Descended}

@@ -24,7 +24,7 @@ use Rattle.drag.specs.Length.{eleven_long}
 use Rattle.altitudes.specs.Altitudes.{column_answer}
 use Rattle.altitudes.proofs.Room.{at_most_512, room_never_4}
 use Rattle.column.specs.Column.{column_rows, column_after}
-use Rattle.column.specs.Theorems.{column_known, at_altitude, rows≡, column_written}
+use Rattle.column.proofs.Theorems.{column_known, at_altitude, rows≡, column_written}
 use Rattle.first_below_list.specs.declared.First.{First}
 use Rattle.first_below_list.specs.declared.First.TheVariants as first
 use Rattle.first_below_list.specs.FirstBelowList.{is_below, row_in, first_below, first_row}

@@ -16,9 +16,9 @@ use Rattle.drag.specs.Drag.{drag_after}
 use Rattle.station_record.specs.Record.{station_whole}
 use Rattle.station_answer.specs.Answers.{station_answer, altitude_answer, Change, switches_answer}
 use Rattle.station.specs.Station.{station_numbers, whole_after, station_numbers_after, altitude_row, altitude_drag, changed_numbers, switched_whole, switched_numbers}
-use Rattle.station.specs.Theorems.{Held, station_of, call_of, call_on, call_told, call_held, prepared_held, altitude_told}
-use Rattle.station.specs.Theorems as station
-use Rattle.station.specs.Drag.{drag_told}
+use Rattle.station.proofs.Theorems.{Held, station_of, call_of, call_on, call_told, call_held, prepared_held, altitude_told}
+use Rattle.station.proofs.Theorems as station
+use Rattle.station.proofs.Drag.{drag_told}
 use Rattle.host_record.specs.Record.{record_of, lengths_of, values_of}
 use Rattle.potirehu.specs.Potirehu.{host_station, host_whole, host_numbers, host_switches, host_switched_whole, host_switched_numbers}
 

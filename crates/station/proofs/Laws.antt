@@ -34,7 +34,7 @@ use Rattle.drag_sum.specs.DragSum.{dragged_of}
 use Rattle.station_record.specs.Record.{station_whole, record_numbers, record_in, units_in, mixing_in}
 use Rattle.station_answer.specs.Answers.{Change, change_of, station_answer, altitude_answer, change_answer, switches_answer, row_taken}
 use Rattle.station.specs.Station.{held_of, refilled_of, station_numbers, values_put, sec_filled, whole_after, station_numbers_after, altitude_row, altitude_drag, refilled_by, changed_numbers, renewed_of, switched_whole, switched_numbers}
-use Rattle.station.specs.Renewed.{record_fourteen, twenty_five, refilled_from, refilled_is}
+use Rattle.station.proofs.Renewed.{record_fourteen, twenty_five, refilled_from, refilled_is}
 
 -- the first 234 of a list and what is stored in them
 pub refill_law : (w : List ℤ) (n : Input) (xs s : List Float) (f : Flags) (x : Site) (l : ExpansionValues) (p : Parts)

@@ -3,7 +3,7 @@ use mathlib.Core.Path.{refl, sym, ◌∙◌}
 use native.Mathlib.Omega.{arith}
 use borrow.Author.Tests.{not-true, not-false}
 use Rattle.atmosphere.proofs.Laws.{verdict}
-use Rattle.crossings.specs.Theorems.{checked_few}
+use Rattle.crossings.proofs.Theorems.{checked_few}
 use Rattle.crossings.proofs.Laws.{checked_altitudes, refused, answered}
 use Rattle.crossings.proofs.crossings.Goals as goal
 

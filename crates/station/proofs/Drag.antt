@@ -14,7 +14,7 @@ use Rattle.drag.specs.Theorems.{demand_3_drag}
 use Rattle.station_record.specs.Record.{station_whole}
 use Rattle.station_answer.specs.Answers.{altitude_answer}
 use Rattle.station.specs.Station.{station_numbers, altitude_row, altitude_drag}
-use Rattle.station.specs.Theorems.{Held, Call, held_after, station_after, kept_station, altitude_told}
+use Rattle.station.proofs.Theorems.{Held, Call, held_after, station_after, kept_station, altitude_told}
 
 -- where the row is written, the sum sees what is written
 seen : (b : Bool) (f : List Float → List Float) (x r : List Float) → cond b (f x) r ≡ cond b (f (cond b x r)) r

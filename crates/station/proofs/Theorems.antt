@@ -31,7 +31,7 @@ use Rattle.station_record.specs.Record.{mark_of, history_in, station_whole, reco
 use Rattle.station_answer.specs.Answers.{station_answer, altitude_answer, with_sec_of, with_lst_of, with_long_of, with_fluxes_of, Change, to_sec, to_lst, to_long, to_fluxes, to_move, change_of, change_answer, switches_answer}
 use Rattle.station_values.specs.StationValues.{site_under}
 use Rattle.station.specs.Station.{held_of, station_numbers, whole_after, station_numbers_after, altitude_row, refilled_by, changed_numbers, switched_whole, switched_numbers}
-use Rattle.station.specs.Renewed.{record_fourteen, numbers_long, numbers_front, renewed_told, sec_told}
+use Rattle.station.proofs.Renewed.{record_fourteen, numbers_long, numbers_front, renewed_told, sec_told}
 
 -- ---- stations that were given: prepared, then any number of changes and new rows, refused ones among them
 

@@ -19,7 +19,7 @@ use Rattle.shutoff.specs.Shut.{Alike}
 use Rattle.shutoff.proofs.Theorems.{eleven≡}
 use Rattle.altitudes.specs.Altitudes.{column_answer}
 use Rattle.altitudes.proofs.Room.{at_most_512, room_never_4}
-use Rattle.column.specs.Theorems.{column_known, at_altitude}
+use Rattle.column.proofs.Theorems.{column_known, at_altitude}
 use Rattle.crossings_list.specs.declared.Listing.{Listing}
 use Rattle.crossings_list.specs.declared.Listing.TheVariants as listing
 use Rattle.crossings_list.specs.CrossingsList.{passes_of, crossings_of, list_answer, list_after, altitudes_rise}
