@@ -1,5 +1,5 @@
-// What a change and a new switch row of a station are carried over with: the season of its day, the expansions' values in the station's numbers, and what the
-// row and the record make of gravity, zhf and the flux factor.
+// What a change and a new switch row of a station are carried over with: the expansions' values in the station's numbers, and what the row and the record make
+// of gravity, zhf and the flux factor; and the whole season of a record's day, which no station holds yet.
 
 #![tactic(auto)]
 
