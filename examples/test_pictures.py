@@ -9,7 +9,7 @@ import unittest
 import xml.etree.ElementTree
 
 ROOT = pathlib.Path(__file__).resolve().parents[1]
-DESCENT, BANDS = (ROOT / "examples/descent.txt").read_bytes(), (ROOT / "examples/bands.txt").read_bytes()
+DESCENT, BANDS = (ROOT / "examples/afternoon.txt").read_bytes(), (ROOT / "examples/bands.txt").read_bytes()
 
 
 class Pictures(unittest.TestCase):

@@ -26,92 +26,112 @@ def read(path):
         return it.read()
 
 
-def declarations(path):
-    """Each declaration of a file: its name, its signature, and all of its text."""
-    text = read(path)
-    bare = re.sub(r"(?m)^\s*--.*\n", "", text)
-    out = {}
-    name = None
-    for line in bare.split("\n"):
-        m = re.match(r"(?P<i>\s*)((?:abbrev|unfoldable|pub|data|record) )*(?P<n>" + W + r")((?: [({].*?[)}])*) :(?!:)", line)
-        if m and not line.startswith("    "):
-            name = m["n"]
-            out.setdefault(name, []).append(line)
-        elif name:
-            out[name].append(line)
-    return out
+SIGNATURE = re.compile(r"((?:abbrev|unfoldable|pub|data|record) )*(?P<n>" + W + r")((?: [({].*?[)}])*) :(?!:)")
 
 
-def signature(lines):
-    """The signature of a declaration on one line."""
-    name = re.match(r"\s*((?:abbrev|unfoldable|pub|data|record) )*(" + W + ")", lines[0])[2]
-    sig = [lines[0].strip()]
-    for line in lines[1:]:
-        if re.match(r"\s*(unfolding\b|" + re.escape(name) + r"(?=[\s]))", line) or not line.strip() or line.strip() == "where":
-            break
-        sig.append(line.strip())
-    return re.sub(r"\s+", " ", " ".join(sig))
+def skeleton(path):
+    """The declarations of a file and of its modules, in order: the headers of the modules around each, its name, its signature, and its text."""
+    out, modules, item = [], [], None
+    lines = [l for l in read(path).split("\n") if l.strip() and not l.lstrip().startswith("--")]
+    for at, line in enumerate(lines):
+        indent = len(line) - len(line.lstrip())
+        while modules and indent <= modules[-1][0]:
+            modules.pop()
+        inside = modules[-1][0] + 2 if modules else 0
+        m = re.match(r"\s*module _ (.*) where$", line)
+        if m and indent == inside:
+            modules.append((indent, m[1]))
+            item = None
+            continue
+        m = SIGNATURE.match(line.strip()) if indent == inside else None
+        if m:
+            item = [[h for _, h in modules], m["n"], [line.strip()], [line.strip()], True]
+            out.append(item)
+        elif item:
+            item[3].append(line.strip())
+            if re.match(r"(unfolding\b|" + re.escape(item[1]) + r"(?=\s)|where$)", line.strip()):
+                item[4] = False
+            if item[4]:
+                item[2].append(line.strip())
+    return [(h, n, re.sub(r"\s+", " ", " ".join(s)), body) for h, n, s, body, _ in out]
 
 
-def wrapped(text):
-    return textwrap.wrap(text, 150, subsequent_indent="    ", break_long_words=False, break_on_hyphens=False)
+def wrapped(text, indent=""):
+    return textwrap.wrap(text, 150, initial_indent=indent, subsequent_indent=indent + "    ", break_long_words=False, break_on_hyphens=False)
 
 
-def moved(old):
-    """By crate and module: the declarations that stood in specs/ of OLD and stand in proofs/ today."""
-    out = {}
+def modules_of(old):
     for path in sorted(glob.glob(f"{old}/crates/*/specs/**/*.antt", recursive=True)):
         inside = os.path.relpath(path, f"{old}/crates")
         crate, module = inside.split("/")[0], inside.split("/specs/")[1][: -len(".antt")]
-        new = f"crates/{crate}/proofs/{module}.antt"
-        if os.path.exists(new):
-            here, there = declarations(path), declarations(new)
-            still = declarations(f"crates/{crate}/specs/{module}.antt") if os.path.exists(f"crates/{crate}/specs/{module}.antt") else {}
-            rows = []
-            for name, lines in here.items():
-                if name in still:
-                    continue
-                if name not in there:
-                    rows.append((name, signature(lines), None))
-                else:
-                    rows.append((name, signature(lines), signature(there[name])))
-            out[f"{crate}/{module}"] = rows
-    return out
+        if module != "Lib":
+            yield path, crate, module
+
+
+def today(crate, module):
+    """The declarations of the module today, in specs/ and in proofs/, by the headers around them and their name."""
+    found = {}
+    for folder in ("specs", "proofs"):
+        path = f"crates/{crate}/{folder}/{module}.antt"
+        if os.path.exists(path):
+            for headers, name, sig, body in skeleton(path):
+                found.setdefault((tuple(headers), name), (folder, sig, body))
+    return found
 
 
 def theorems(old):
     out = []
-    for where, rows in moved(old).items():
-        crate, module = where.split("/")
-        out += [f"`crates/{crate}/specs/{module}.antt` is `crates/{crate}/proofs/{module}.antt`:", "", "```"]
-        for _, sig, new in rows:
-            if new is None:
-                out += wrapped(sig) + ["    (stands elsewhere today: see above)"]
-            elif new == sig:
-                out += wrapped(sig)
+    for path, crate, module in modules_of(old):
+        if not os.path.exists(f"crates/{crate}/proofs/{module}.antt"):
+            continue
+        found = today(crate, module)
+        rows, around = [], []
+        for headers, name, sig, _ in skeleton(path):
+            folder, new, _ = found.get((tuple(headers), name), (None, None, None))
+            if folder == "specs":
+                continue
+            if headers != around:
+                rows += [line for h in headers for line in wrapped(f"module _ {h} where")]
+                around = headers
+            indent = "  " * len(headers)
+            if new == sig:
+                rows += wrapped(sig, indent)
+            elif new is None:
+                rows += wrapped(sig, indent) + [indent + "    -- stands in another module today: see above"]
             else:
-                out += ["-- LANDED:"] + wrapped(sig) + ["-- today:"] + wrapped(new)
-        out += ["```", ""]
+                rows += [indent + "-- LANDED:"] + wrapped(sig, indent) + [indent + "-- today:"] + wrapped(new, indent)
+        if rows:
+            out += [f"What stood in `crates/{crate}/specs/{module}.antt` and stands in `crates/{crate}/proofs/{module}.antt`:", "", "```", *rows, "```", ""]
     return out
 
 
 def cases(old):
-    """The laws in specs/ whose equations changed, with the equations that are new."""
+    """The laws whose equations have impossible cases that are new."""
     out = ["| crate | law | cases that are new |", "|---|---|---|"]
-    for path in sorted(glob.glob(f"{old}/crates/*/**/*.antt", recursive=True)):
-        inside = os.path.relpath(path, f"{old}/crates")
-        if "/specs/" not in inside and not re.fullmatch(r"[^/]+/proofs/[^/]+", inside):
-            continue
-        new = f"crates/{inside}" if os.path.exists(f"crates/{inside}") else "crates/" + inside.replace("/specs/", "/proofs/")
-        if not os.path.exists(new):
-            continue
-        here, there = declarations(path), declarations(new)
-        for name in here:
-            if name in there and here[name] != there[name]:
-                more = [l.strip() for l in there[name] if l not in here[name]]
-                if any(more) and all(l.endswith("= elim " + l.split("= elim ")[-1]) and "[ ]" in l for l in more if l):
-                    out.append(f"| {inside.split('/')[0]} | `{name}` | {len([l for l in more if l])}, each `elim h [ ]` |")
+    files = [(path, crate, module) for path, crate, module in modules_of(old)]
+    for path in sorted(glob.glob(f"{old}/crates/*/proofs/*.antt")):
+        files.append((path, path.split("/")[-3], os.path.basename(path)[: -len(".antt")]))
+    for path, crate, module in files:
+        found = today(crate, module)
+        for headers, name, sig, body in skeleton(path):
+            _, _, new = found.get((tuple(headers), name), (None, None, body))
+            more = [line for line in new if line not in body]
+            if more and all(line.endswith("[ ]") for line in more):
+                out.append(f"| {crate} | `{name}` | {len(more)}, each `elim h [ ]` |")
     return out
+
+
+def lemmas(old):
+    """The lemmas of proofs/ whose statements differ."""
+    out = ["```"]
+    for path in sorted(glob.glob(f"{old}/crates/*/proofs/*.antt")):
+        crate, module = path.split("/")[-3], os.path.basename(path)[: -len(".antt")]
+        found = today(crate, module)
+        for headers, name, sig, _ in skeleton(path):
+            folder, new, _ = found.get((tuple(headers), name), (None, None, None))
+            if new != sig and module != "Lib":
+                out += [f"-- {crate}, LANDED:"] + wrapped(sig) + ["-- today:"] + (wrapped(new) if new else ["(gone)"])
+    return out + ["```"]
 
 
 def edits(old, logs):
@@ -141,16 +161,11 @@ def edits(old, logs):
     return out
 
 
-def names():
-    """By crate, the names that the repository's own definitions and lemmas had, out of the commit of port.py's own spelling."""
-    return None
-
-
 def main(argv):
     old, logs = argv[0], argv[1:]
     path = "docs/PORT.md"
     text = read(path)
-    for key, lines in (("theorems", theorems(old)), ("cases", cases(old)), ("edits", edits(old, logs))):
+    for key, lines in (("theorems", theorems(old)), ("cases", cases(old)), ("lemmas", lemmas(old)), ("edits", edits(old, logs))):
         text = re.sub(rf"(?s)(<!-- made: {key} -->\n).*?(<!-- end: {key} -->)", lambda m: m[1] + "\n".join(lines).rstrip() + "\n" + m[2], text)
     with open(path, "w", encoding="utf-8") as it:
         it.write(text)

@@ -99,6 +99,41 @@ class Options(unittest.TestCase):
         self.refused("the record lacks --f107a, --f107, --ap", *at[:1], "--alt=400", "--lat=60", "--long=-75")
 
 
+# the published sample, whose local time is not that of its second and longitude
+SAMPLE = {"doy": "172", "sec": "29000", "alt": "400", "lat": "60", "long": "-70", "lst": "16", "f107a": "150", "f107": "150", "ap": "4"}
+
+
+class PublishedSample(unittest.TestCase):
+    refused = Options.refused
+
+    def options(self, **fields):
+        return options(**{**SAMPLE, **fields})
+
+    def test_a_record_by_its_fields_is_the_line(self):
+        line = " ".join(SAMPLE.values())
+        by_fields, by_line = density(*self.options()), density(input=line)
+        self.assertEqual((by_fields.returncode, by_fields.stdout), (0, by_line.stdout))
+        self.assertEqual(by_fields.stderr, "density: lst 16, where sec and long give 3.39: more than an hour apart\n")
+        self.assertIn("4.074714e-12", by_fields.stdout)
+        self.assertEqual(density(*self.options(), "--history", "4, 4 4 4 4 4,4").stdout, density(input=line + " 4" * 7).stdout)
+
+    def test_a_value_is_one_number(self):
+        for name in SAMPLE:
+            for value, count in (("", 0), ("  ", 0), ("1 2", 2)):
+                self.refused(f"--{name} wants 1 number, and there are {count}.", *self.options(**{name: value}))
+        self.refused("--sec wants 1 number", *self.options(sec="29000 400", alt=""))
+
+    def test_two_dashes_are_no_value(self):
+        for name in (*SAMPLE, "history", "switches"):
+            self.refused(f"--{name} wants a value", *self.options(), f"--{name}=--")
+
+    def test_a_word_that_is_no_number(self):
+        run = density(*self.options(ap="four"))
+        self.assertEqual(run.returncode, 1)
+        self.assertIn("no record: 'four' is no number", run.stdout)
+        self.assertEqual(density(b"--ap=\xff", *self.options(ap=None)).returncode, 1)
+
+
 def table(text):
     """The words of a table's rows, without its head."""
     return [line.split() for line in text.splitlines()[1:]]
@@ -228,7 +263,7 @@ class Records(unittest.TestCase):
             self.assertEqual((len(words), list(map(repr, fields))), (1, [repr(float(one)) for one in eight]), eight)
 
     def test_the_examples(self):
-        run = density(str(ROOT / "examples/descent.txt"))
+        run = density(str(ROOT / "examples/afternoon.txt"))
         self.assertEqual((run.returncode, run.stderr), (0, ""))
         run = density(str(ROOT / "examples/refused.txt"))
         self.assertEqual((run.returncode, run.stdout.count("refused: "), run.stderr.count("have they changed places?")), (1, 2, 1))

@@ -3,8 +3,8 @@ in words.
 
   PROGRAM --at 2026-11-17T06:00Z --lat 60 --long -70 --alt 100:1000:50 --weather FILE
   PROGRAM --doy 172 --sec 29000 --alt 400 --lat 60 --long -70 --f107a 150 --f107 150 --ap 4
-  PROGRAM examples/descent.txt
-  PROGRAM < examples/descent.txt
+  PROGRAM examples/afternoon.txt
+  PROGRAM < examples/afternoon.txt
 
 A record is one line of 9 numbers, or of 16 with a magnetic history, separated by blanks or commas:
   doy sec alt lat long lst f107a f107 ap [seven values]

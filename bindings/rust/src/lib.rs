@@ -38,7 +38,7 @@ pub use known_in_part::{counts, gtd7_known, known};
 pub use logs::{compare_logs, Finding, Log};
 pub use many_records::{records, records_into, Answer};
 pub use one_altitude::{gtd7, gtd7_with, gtd7d, nrlmsise00, nrlmsise00_with_lst, Parameters};
-pub use record::{local_solar_time, ApArray, Flags, NrlmsiseInput, NrlmsiseOutput, SwitchRow};
+pub use record::{local_solar_time, ApArray, Flags, NrlmsiseInput, NrlmsiseOutput};
 pub use record::{DEFAULT_AP, DEFAULT_F107, DEFAULT_F107A, MAX_ALTITUDE_KM};
 pub use refusal::{Kind, Refusal};
 pub use station::Station;

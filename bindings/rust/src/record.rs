@@ -1,6 +1,5 @@
 //! What a call takes and gives: the record, the switch row and the eleven numbers.
 use std::mem;
-use std::ops::Deref;
 
 /// Magnetic history: daily ap; 3-hour ap now and 3, 6, 9 hours before; means of 12 to 33 and 36 to 57 hours before. 0 to 400 each.
 pub type ApArray = [f64; 7];
@@ -94,55 +93,27 @@ impl NrlmsiseOutput {
 /// The switch row: 1 on, 0 off, 2 main effect off and cross effect on; entry 0 at 1 gives m and kg; entry 9: 1 daily ap, -1 `ap_array`,
 /// 0 neither.
 ///
-/// A row does not change once it is made. In the Rust `astro::atmosphere` the field `switches` is public and can be written to, but what the
-/// model reads was derived from it in `new`: the write changes no number. So that no such line gets an effect unseen, it does not compile
-/// here: leave it out where the old numbers are wanted, or make the row that was meant by [`with`](Flags::with) or [`new`](Flags::new).
+/// A call reads `switches` as they then are. In the Rust `astro::atmosphere`, which derives others from them
+/// in `new`, the numbers do not follow an entry written later.
 ///
 /// ```
 /// use potirehu::Flags;
-/// let after_restart = [7, 8, 9, 10, 14].iter().fold(Flags::metric(), |row, &entry| row.with(entry, 0));
-/// assert_eq!(after_restart.switches[7..11], [0, 0, 0, 0]);
-///
-/// let mut switches = Flags::standard().switches;
-/// switches[0] = 1;
-/// assert_eq!(Flags::new(switches), Flags::metric());
-/// ```
-///
-/// ```compile_fail,E0594
-/// let mut flags = potirehu::Flags::metric();
-/// flags.switches[9] = -1;
-/// ```
-///
-/// ```compile_fail,E0594
-/// let mut flags = potirehu::Flags::metric();
-/// flags.switches = [0; 24];
+/// let mut after_restart = Flags::metric();
+/// for entry in [7, 8, 9, 10, 14] {
+///     after_restart.switches[entry] = 0;
+/// }
+/// assert_eq!(Flags::standard().switches[..2], [0, 1]);
 /// ```
 #[derive(Debug, Clone, Copy, PartialEq, Eq)]
 pub struct Flags {
-    row: SwitchRow,
-}
-
-/// What can be read of [`Flags`], as `flags.switches`.
-#[derive(Debug, Clone, Copy, PartialEq, Eq)]
-#[non_exhaustive]
-pub struct SwitchRow {
     /// The 24 entries as given.
     pub switches: [i32; 24],
-}
-
-// No DerefMut: that is what keeps the entries from being written to.
-impl Deref for Flags {
-    type Target = SwitchRow;
-
-    fn deref(&self) -> &SwitchRow {
-        &self.row
-    }
 }
 
 impl Flags {
     /// The row as given; no value is refused but where its entry 9 is -1 and the record has no `ap_array`.
     pub fn new(switches: [i32; 24]) -> Self {
-        Flags { row: SwitchRow { switches } }
+        Flags { switches }
     }
 
     /// The same row but for one entry, from 0 to 23.
@@ -152,7 +123,7 @@ impl Flags {
     /// assert_eq!(Flags::metric().with(9, -1).switches[9], -1);
     /// ```
     pub fn with(mut self, entry: usize, value: i32) -> Self {
-        self.row.switches[entry] = value;
+        self.switches[entry] = value;
         self
     }
 
@@ -160,12 +131,12 @@ impl Flags {
     pub fn standard() -> Self {
         let mut switches = [1; 24];
         switches[0] = 0;
-        Flags::new(switches)
+        Flags { switches }
     }
 
     /// All on, in m and kg.
     pub fn metric() -> Self {
-        Flags::new([1; 24])
+        Flags { switches: [1; 24] }
     }
 }
 

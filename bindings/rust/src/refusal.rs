@@ -167,10 +167,7 @@ impl fmt::Display for Refusal {
             N2NotMixed => {
                 write!(f, "{field} is below 72.5 km, and N2 is not mixed there: switch 15 is not 1, or the N2 altitude of the nine constants is below 72.5")
             }
-            NoBand => write!(
-                f,
-                "line {place} is no band, has FROM not below TO, ends past 2500001, or is the 65th; Bands::no_band says at which byte it is none"
-            ),
+            NoBand => write!(f, "line {place} is no band, has FROM not below TO, ends past 2500001, or is the 65th"),
             BandOverlap => write!(f, "the band of line {place} overlaps the one before it"),
             BandGap => write!(f, "there is a gap before the band of line {place}, or the table ends short there"),
             UnfitLog => write!(f, "the log of board {place} has more than 256 entries, or not as many seconds as densities"),

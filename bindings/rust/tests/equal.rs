@@ -223,7 +223,8 @@ fn descents_lose_what_gtd7_says() {
     assert_eq!(none, Descent { ending: Ending::Spent, altitude: 200_000_000, losses: vec![] });
     // A flux and an entry 9 far beyond what they mean: the density is NaN.
     let hot = NrlmsiseInput { alt: 300.0, f107a: 1000.0, f107: 0.0, ap: 0.0, ..SAMPLE };
-    let far = Flags::metric().with(9, 1000);
+    let mut far = Flags::metric();
+    far.switches[9] = 1000;
     assert!(gtd7(&hot, &far).unwrap().d[5].is_nan());
     let flown = descent(&hot, &far, 300_000_000, &[1]).unwrap();
     assert_eq!(flown, Descent { ending: Ending::NoDensity, altitude: 300_000_000, losses: vec![] });

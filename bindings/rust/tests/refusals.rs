@@ -9,7 +9,9 @@ fn on() -> Flags {
 }
 
 fn with(entry: usize, value: i32) -> Flags {
-    on().with(entry, value)
+    let mut flags = on();
+    flags.switches[entry] = value;
+    flags
 }
 
 #[track_caller]
@@ -203,9 +205,7 @@ fn numbers_11_12_13_of_bands() {
     let on = ["1"; 24].join(" ");
     let band = |from: i64, to: i64| format!("(band {from} {to} (switches {on}))\n");
     let read = |lines: &[String]| Bands::read(lines.concat().as_bytes());
-    let no_band = |line| {
-        format!("line {line} is no band, has FROM not below TO, ends past 2500001, or is the 65th; Bands::no_band says at which byte it is none")
-    };
+    let no_band = |line| format!("line {line} is no band, has FROM not below TO, ends past 2500001, or is the 65th");
     refused(read(&[band(0, 5), "(band 5)\n".into()]), 11, 2, &no_band(2));
     refused(read(&[band(0, 5), band(5, 5)]), 11, 2, &no_band(2));
     refused(read(&[band(0, 2_500_002)]), 11, 1, &no_band(1));

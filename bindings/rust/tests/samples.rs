@@ -32,7 +32,7 @@ fn published_samples() {
         let mut flags = Flags::standard();
         if line.contains("ap_array") {
             input.ap_array = Some([named(line, "ap_array"); 7]);
-            flags = flags.with(9, -1);
+            flags.switches[9] = -1;
         }
         let figures = [lines.next().unwrap(), lines.next().unwrap()].join(" ");
         let figures: Vec<f64> = figures.split_whitespace().map(|x| x.parse().unwrap()).collect();

@@ -32,8 +32,12 @@ pub fn records() -> [NrlmsiseInput; 3] {
 
 // Switch 15 is 1 in all, so that no altitude is refused.
 pub fn rows_of_switches() -> [Flags; 4] {
-    let history = Flags::metric().with(9, -1);
-    let after_restart = [7, 8, 9, 10, 14].iter().fold(Flags::metric(), |row, &entry| row.with(entry, 0));
+    let mut history = Flags::metric();
+    history.switches[9] = -1;
+    let mut after_restart = Flags::metric();
+    for i in [7, 8, 9, 10, 14] {
+        after_restart.switches[i] = 0;
+    }
     [Flags::standard(), Flags::metric(), history, after_restart]
 }
 
