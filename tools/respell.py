@@ -5,7 +5,7 @@ usage: tools/respell.py [--list]      at the top of the repository; --list print
 
 Definitions, fields and lemmas of specs/ and proofs/ that are written in camel case or with dashes get the spelling of today's Rattle: aboveZero is above_zero,
 accepted-is is accepted_is. Types and facts keep their capital, numbers (1·0E-5) and their lemmas (is-1·0E-5) stay, and so do names of the kit. A lemma that would
-have the name of a definition gets `_lem` behind it. Names of src/ are not touched: there only clauses and `ghost use` lines are read. A second run changes nothing.
+have the name of a definition gets `_lem` behind it. Names of src/ are not touched: there only clauses and `ghost use` lines are read. It is run once, right after port.py.
 Must-fail edits are brought over by tools/edits.py.
 """
 
