@@ -12,7 +12,9 @@ import pickle
 import struct
 import subprocess
 import sys
+import types
 import unittest
+import unittest.mock
 import warnings
 
 HERE = pathlib.Path(__file__).resolve().parent
@@ -203,6 +205,26 @@ class Columns(unittest.TestCase):
             else:
                 self.assertEqual(found[0], index)
                 self.assertEqual(bits(found[1]), bits(rows[index]))
+
+    def test_arrays_come_out_where_they_went_in(self):
+        # a stand-in, for machines without numpy: what is asked of numpy is ndarray, array and empty
+        class Array(list):
+            dtype = types.SimpleNamespace(kind="O")
+            shape = property(lambda self: (len(self),))
+
+        class Empty(array.array):
+            def __new__(cls, shape):
+                made = super().__new__(cls, "d", bytes(8 * math.prod(shape)))
+                made.shape, made.size = shape, math.prod(shape)
+                return made
+
+        stand_in = types.SimpleNamespace(ndarray=Array, array=Array, empty=Empty)
+        with unittest.mock.patch("potirehu.memory.numpy", stand_in), unittest.mock.patch("potirehu.calls.numpy", stand_in):
+            self.assertEqual(potirehu.column(Array([100, 200]), FIRST).shape, (2, 11))
+            self.assertEqual(potirehu.column(Array(), FIRST).shape, (0, 11))
+            self.assertEqual(potirehu.crossings(Array([100, 400]), 1e-10, FIRST).shape, (1,))
+            self.assertEqual(potirehu.descent(300000000, Array([1, 2]), FIRST).losses.shape, (2,))
+            self.assertIs(type(potirehu.column([100, 200], FIRST)), list)
 
     def test_numpy(self):
         if numpy is None:
