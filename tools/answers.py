@@ -107,23 +107,24 @@ class Walk:
             n += 1
         return n
 
-    def found(self, place, step):
-        """The place with a step of that name: on the way to the goal, or else anywhere."""
+    def way(self, place):
+        """A place and those that the walk came by before it, the nearest first."""
         way = []
         while place and self.places.get(place):
             way.append(self.places[place])
             place = self.places[place][1]
-        for p in way + list(self.places.values()):
+        return way
+
+    def found(self, place, step):
+        """The place with a step of that name: on the way to the goal, or else anywhere."""
+        for p in self.way(place) + list(self.places.values()):
             if p[2][0] and same(p[2][0]) == same(step):
                 return p
         return None
 
     def arm(self, place, step):
         """The arm of the match that says which variant a value is, where the walk told it in a step of its own."""
-        way = []
-        while place and self.places.get(place):
-            way.append(self.places[place])
-            place = self.places[place][1]
+        way = self.way(place)
         at = next((i for i, p in enumerate(way) if p[2][0] and same(p[2][0]) == same(step)), None)
         if at is None or re.search(r"arg|known|struct", step):
             return None
