@@ -7,7 +7,7 @@ ghost use Rattle.activity.specs.Activity.{g0_of, sumex_of, weighted_mean_of, exp
 ghost use Rattle.activity.specs.Responses.{responses_of, sg0_from, apt_from};
 
 use elementary::exponential::exp;
-use elementary::power::pow;
+use elementary::power::product;
 use elementary::root::sqrt;
 use numbers::pick;
 
@@ -19,12 +19,12 @@ fn g0(r: f64, p25: f64, a: f64) -> f64
     a - 4.0 + (p25 - 1.0) * (a - 4.0 + (e - 1.0) / r)
 }
 
-// sumex.
+// sumex. Its powers and those of sg0 name their rule of pow, which the compiler does not find from a constant exponent.
 fn sumex(ex: f64) -> f64
     ensures { result ≡ sumex_of ex }
 {
-    let a = pow(ex, 19.0);
-    let b = pow(ex, 0.5);
+    let a = product(ex, 19);
+    let b = sqrt(ex);
     1.0 + (1.0 - a) / (1.0 - ex) * b
 }
 
@@ -85,10 +85,10 @@ pub fn responses_to(p24: f64, p25: f64, ap: [f64; 7]) -> Responses
 fn sg0(ex: f64, g: Responses) -> f64
     ensures { result ≡ sg0_from ex g }
 {
-    let e3 = pow(ex, 3.0);
-    let e4 = pow(ex, 4.0);
-    let e12 = pow(ex, 12.0);
-    let e8 = pow(ex, 8.0);
+    let e3 = product(ex, 3);
+    let e4 = product(ex, 4);
+    let e12 = product(ex, 12);
+    let e8 = product(ex, 8);
     let s = sumex(ex);
     weighted_mean(ex, e3, e4, e12, e8, g.g1, g.g2, g.g3, g.g4, g.g5, g.g6, s)
 }
