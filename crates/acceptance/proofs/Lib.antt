@@ -1,3 +1,4 @@
 -- What the proofs of this crate share.
 pub mod Day
-pub mod Record
+pub mod Lowest
+pub mod Judging

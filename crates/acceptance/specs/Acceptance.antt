@@ -1,18 +1,28 @@
 -- The refusals of the one-altitude call that depend on the record: document 01's 2, then 1, then 3; then document 02's 10.
-use Rattle.std.specs.Prelude.{ℕ, suc, Bool, true, false, cond, not, ◌&&◌, List, [], ◌∷◌, leb, ltb, ℤ, pos, negsuc, Float}
+use Rattle.std.specs.Prelude.{ℕ, suc, Bool, true, false, cond, not, ◌&&◌, List, [], ◌∷◌, leb, ltb, ℤ, pos, negsuc, Option, Some, None, Float}
 use Rattle.std.specs.Float.Ieee.{neg, lt, le}
 use Rattle.numbers.specs.Arithmetic.{◌‼◌}
 use Rattle.numbers.specs.Literals.{0·0, 24·0, 48·0, 72·5, 90·0, 400·0, 1000·0, 2500·0, 86400·0}
 use Rattle.numbers.specs.Tests.{finite_of}
+use Rattle.refusals.specs.Refusals.{Accepted, Answer, Refused, accepted_of}
+use Rattle.refusals.specs.declared.Reason.TheVariants.{HistoryLacking, NotFinite, NotMixed, OutOfRange}
 use Rattle.setting.specs.declared.Input.{Input}
+use Rattle.acceptance.specs.declared.Ranged.{Ranged}
 use Rattle.setting.specs.ApHistory.{absent_of, lacks_history_of}
 use Rattle.setting.specs.Switches.{given, is_one}
-use Rattle.acceptance.specs.declared.Answer.{Answer}
-use Rattle.acceptance.specs.declared.Answer.TheVariants.{Accepted, Refused}
 
 -- lo ≤ x ≤ hi
 unfoldable pub within_of : Float → Float → Float → Bool
 within_of lo hi x = le lo x && le x hi
+
+abbrev range : Float → Float → Float → Ranged
+range lo hi x = record { lo = lo; hi = hi; x = x }
+
+-- the fields from sec to ap, each with its range
+abbrev pub ranges_of : Input → List Ranged
+ranges_of n =
+    range 0·0 86400·0 n.sec ∷ range 0·0 2500·0 n.alt ∷ range (neg 90·0) 90·0 n.g_lat ∷ range (neg 1000·0) 1000·0 n.g_long ∷
+    range (neg 24·0) 48·0 n.lst ∷ range 0·0 1000·0 n.f107a ∷ range 0·0 1000·0 n.f107 ∷ range 0·0 400·0 n.ap ∷ []
 
 -- 1 ≤ doy ≤ 366
 abbrev pub day_within : ℤ → Bool
@@ -71,16 +81,16 @@ outside_of n = lowest 1 (outside_tests n) (array_outside_of (not (absent_of n.hi
 unfoldable pub found_of : ℕ → Bool
 found_of k = ltb k 17
 
+-- that field, if it is one
+abbrev pub field_at : ℕ → Option ℕ
+field_at k = cond (found_of k) (Some k) None
+
 -- 2, then 1, then 3, each with its place; accepted when none fits. A column's and a station's record is judged by these at altitude 0
 unfoldable pub judged_of : List ℤ → Input → Answer
 judged_of w n =
-    cond (found_of (unfit_of n)) (Refused 2 (unfit_of n))
-    (cond (lacks_history_of w n) (Refused 1 10)
-    (cond (found_of (outside_of n)) (Refused 3 (outside_of n)) Accepted))
-
-abbrev pub accepted_of : Answer → Bool
-accepted_of Accepted = true
-accepted_of (Refused n k) = false
+    cond (found_of (unfit_of n)) (Refused NotFinite (unfit_of n))
+    (cond (lacks_history_of w n) (Refused HistoryLacking 10)
+    (cond (found_of (outside_of n)) (Refused OutOfRange (outside_of n)) Accepted))
 
 -- 'below 72.5 km .. wherever switch 15 isn't 1': N2 is not mixed at z, which needs it; one says whether switch 15, as given, is 1
 unfoldable pub unmixed_of : Bool → Float → Bool
@@ -90,7 +100,7 @@ unmixed_of one z = not one && lt z 72·5
 unfoldable pub record_answer : List ℤ → Input → Answer
 record_answer w n =
     cond (not (accepted_of (judged_of w n))) (judged_of w n)
-    (cond (unmixed_of (is_one (given w 15)) n.alt) (Refused 10 3) Accepted)
+    (cond (unmixed_of (is_one (given w 15)) n.alt) (Refused NotMixed 3) Accepted)
 
 -- the record with another altitude
 unfoldable pub with_alt_of : Input → Float → Input

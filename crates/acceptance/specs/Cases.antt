@@ -3,11 +3,11 @@ use Rattle.std.specs.Prelude.{◌≡◌, refl, Bool, true, false, ◌&&◌, List
 use Rattle.std.specs.Float.Ieee.{neg, le, lt, of_bits, round}
 use Rattle.numbers.specs.Literals.{dec, 0·0, 4·0, 16·0, 70·0, 72·5, 100·0, 150·0, 2500·0}
 use Rattle.numbers.specs.Tests.{finite_of}
+use Rattle.refusals.specs.Refusals.{Accepted, Answer, Refused}
+use Rattle.refusals.specs.declared.Reason.TheVariants.{NotMixed, OutOfRange}
 use Rattle.setting.specs.declared.Input.{Input}
 use Rattle.setting.specs.declared.History.TheVariants.{Present}
 use Rattle.setting.specs.ApHistory.{asks_history_of, lacks_history_of}
-use Rattle.acceptance.specs.declared.Answer.{Answer}
-use Rattle.acceptance.specs.declared.Answer.TheVariants.{Accepted, Refused}
 use Rattle.acceptance.specs.Acceptance.{within_of, array_unfit_of, unfit_of, array_outside_of, outside_of, found_of, judged_of, unmixed_of, record_answer}
 
 -- the first published case at an altitude and a longitude, with an array
@@ -37,7 +37,7 @@ pub record AnswerCase : Type 0 where
 unfoldable pub answer_cases : List ℤ → List AnswerCase
 answer_cases w =
     record { given = judged_of w (sample 2500·0 (neg 70·0)); answer = Accepted } ∷
-    record { given = judged_of w (sample (dec 25005 1) (neg 70·0)); answer = Refused 3 3 } ∷
+    record { given = judged_of w (sample (dec 25005 1) (neg 70·0)); answer = Refused OutOfRange 3 } ∷
     []
 
 -- with its array there, no row finds the history lacking
@@ -59,9 +59,9 @@ unfoldable pub mixing : List AnswerCase
 mixing =
     record { given = record_answer (row (pos 1)) (sample 0·0 (neg 70·0)); answer = Accepted } ∷
     record { given = record_answer (row (pos 0)) (sample 72·5 (neg 70·0)); answer = Accepted } ∷
-    record { given = record_answer (row (pos 0)) (sample (dec 72499 3) (neg 70·0)); answer = Refused 10 3 } ∷
-    record { given = record_answer (row (pos 2)) (sample 0·0 (neg 70·0)); answer = Refused 10 3 } ∷
-    record { given = record_answer (row (pos 0)) (sample 0·0 (neg (dec 10005 1))); answer = Refused 3 5 } ∷
+    record { given = record_answer (row (pos 0)) (sample (dec 72499 3) (neg 70·0)); answer = Refused NotMixed 3 } ∷
+    record { given = record_answer (row (pos 2)) (sample 0·0 (neg 70·0)); answer = Refused NotMixed 3 } ∷
+    record { given = record_answer (row (pos 0)) (sample 0·0 (neg (dec 10005 1))); answer = Refused OutOfRange 5 } ∷
     []
 
 pub mixing_hold : map (λ (c : AnswerCase). c.given) mixing ≡ map (λ (c : AnswerCase). c.answer) mixing

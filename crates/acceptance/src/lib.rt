@@ -2,20 +2,16 @@
 
 #![tactic(auto)]
 
-ghost use Rattle.std.specs.Prelude.{◌≡◌, cond};
+ghost use Rattle.std.specs.Prelude.{◌≡◌, cond, not, position};
+ghost use Rattle.numbers.specs.Literals.{0·0, 400·0};
+ghost use Rattle.numbers.specs.Tests.{finite_of};
 ghost use Rattle.setting.specs.Switches.{given, is_one};
-ghost use Rattle.acceptance.specs.Acceptance.{within_of, day_within, array_unfit_of, unfit_of, array_outside_of, outside_of, found_of, judged_of, accepted_of, unmixed_of, record_answer, with_alt_of};
+ghost use Rattle.acceptance.specs.Acceptance.{within_of, day_within, array_unfit_of, unfit_of, array_outside_of, ranges_of, outside_of, field_at, judged_of, unmixed_of, record_answer, with_alt_of};
 
 use numbers::finite;
+use refusals::{Reason, Refusal};
 use setting::Input;
 use setting::ap_history::{absent, lacks_history};
-
-// What a call answers: accepted, or a refusal's number and place.
-#[derive(Clone, Copy)]
-pub enum Answer {
-    Accepted,
-    Refused(usize, usize),
-}
 
 // lo <= x <= hi.
 pub fn within(lo: f64, hi: f64, x: f64) -> bool
@@ -38,111 +34,109 @@ pub fn day_within(n: Input) -> bool
     true
 }
 
-// The field at which a test failed, else the lowest of those behind it.
-pub fn failed_at(failed: bool, field: usize, behind: usize) -> usize
-    ensures { result ≡ cond failed field behind }
+// The index of the first number that is not finite.
+pub fn first_unfit(xs: &[f64]) -> Option<usize>
+    ensures { result ≡ position (λ x. not (finite_of x)) xs.now }
 {
-    if failed {
-        return field;
+    xs.iter().position(|x| !finite(*x))
+}
+
+// The lowest field that is not finite, of those from sec to ap and, where it is there, the history.
+pub fn unfit(n: Input) -> Option<usize>
+    ensures { result ≡ field_at (unfit_of n) }
+{
+    let fields = [
+        n.sec, n.alt, n.g_lat, n.g_long, n.lst, n.f107a, n.f107, n.ap,
+    ];
+    if let Some(i) = first_unfit(&fields) {
+        return Some(2 + i);
     }
-    behind
+    if absent(n.history) {
+        return None;
+    }
+    match first_unfit(&n.ap_array) {
+        Some(i) => Some(10 + i),
+        None => None,
+    }
 }
 
-// The place of the first value of an array that is there and not finite, or 17. The tests stand last first, as the first that fails decides.
-pub fn array_unfit(there: bool, a: [f64; 7]) -> usize
-    ensures { result ≡ array_unfit_of there a }
-{
-    let from_16 = failed_at(there & !finite(a[6]), 16, 17);
-    let from_15 = failed_at(there & !finite(a[5]), 15, from_16);
-    let from_14 = failed_at(there & !finite(a[4]), 14, from_15);
-    let from_13 = failed_at(there & !finite(a[3]), 13, from_14);
-    let from_12 = failed_at(there & !finite(a[2]), 12, from_13);
-    let from_11 = failed_at(there & !finite(a[1]), 11, from_12);
-    failed_at(there & !finite(a[0]), 10, from_11)
+// A number and the range in which it has to lie, ends included.
+#[derive(Clone, Copy)]
+pub struct Ranged {
+    pub lo: f64,
+    pub hi: f64,
+    pub x: f64,
 }
 
-// The lowest field that is not finite, or 17.
-pub fn unfit(n: Input) -> usize
-    ensures { result ≡ unfit_of n }
+pub fn range_of(lo: f64, hi: f64, x: f64) -> Ranged
+    ensures { result ≡ record { lo = lo; hi = hi; x = x } }
 {
-    let h = n.history;
-    let a = n.ap_array;
-    let none = absent(h);
-    let from_10 = array_unfit(!none, a);
-    let from_9 = failed_at(!finite(n.ap), 9, from_10);
-    let from_8 = failed_at(!finite(n.f107), 8, from_9);
-    let from_7 = failed_at(!finite(n.f107a), 7, from_8);
-    let from_6 = failed_at(!finite(n.lst), 6, from_7);
-    let from_5 = failed_at(!finite(n.g_long), 5, from_6);
-    let from_4 = failed_at(!finite(n.g_lat), 4, from_5);
-    let from_3 = failed_at(!finite(n.alt), 3, from_4);
-    failed_at(!finite(n.sec), 2, from_3)
+    Ranged { lo, hi, x }
 }
 
-// The place of the first value of an array that is there and outside 0 to 400, or 17.
-pub fn array_outside(there: bool, a: [f64; 7]) -> usize
-    ensures { result ≡ array_outside_of there a }
+// The fields from sec to ap with their ranges.
+pub fn ranges(n: Input) -> [Ranged; 8]
+    ensures { result ≡ ranges_of n }
 {
-    let from_16 = failed_at(there & !within(0.0, 400.0, a[6]), 16, 17);
-    let from_15 = failed_at(there & !within(0.0, 400.0, a[5]), 15, from_16);
-    let from_14 = failed_at(there & !within(0.0, 400.0, a[4]), 14, from_15);
-    let from_13 = failed_at(there & !within(0.0, 400.0, a[3]), 13, from_14);
-    let from_12 = failed_at(there & !within(0.0, 400.0, a[2]), 12, from_13);
-    let from_11 = failed_at(there & !within(0.0, 400.0, a[1]), 11, from_12);
-    failed_at(there & !within(0.0, 400.0, a[0]), 10, from_11)
+    [
+        range_of(0.0, 86400.0, n.sec),
+        range_of(0.0, 2500.0, n.alt),
+        range_of(-90.0, 90.0, n.g_lat),
+        range_of(-1000.0, 1000.0, n.g_long),
+        range_of(-24.0, 48.0, n.lst),
+        range_of(0.0, 1000.0, n.f107a),
+        range_of(0.0, 1000.0, n.f107),
+        range_of(0.0, 400.0, n.ap),
+    ]
 }
 
-// The lowest field out of its range, or 17.
-pub fn outside(n: Input) -> usize
-    ensures { result ≡ outside_of n }
+// The index of the first number that lies outside its range.
+pub fn first_outside(xs: &[Ranged]) -> Option<usize>
+    ensures { result ≡ position (λ (r : Ranged). not (within_of r.lo r.hi r.x)) xs.now }
 {
-    let h = n.history;
-    let a = n.ap_array;
-    let none = absent(h);
-    let from_10 = array_outside(!none, a);
-    let from_9 = failed_at(!within(0.0, 400.0, n.ap), 9, from_10);
-    let from_8 = failed_at(!within(0.0, 1000.0, n.f107), 8, from_9);
-    let from_7 = failed_at(!within(0.0, 1000.0, n.f107a), 7, from_8);
-    let from_6 = failed_at(!within(-24.0, 48.0, n.lst), 6, from_7);
-    let from_5 = failed_at(!within(-1000.0, 1000.0, n.g_long), 5, from_6);
-    let from_4 = failed_at(!within(-90.0, 90.0, n.g_lat), 4, from_5);
-    let from_3 = failed_at(!within(0.0, 2500.0, n.alt), 3, from_4);
-    let from_2 = failed_at(!within(0.0, 86400.0, n.sec), 2, from_3);
-    failed_at(!day_within(n), 1, from_2)
+    xs.iter().position(|r| !within(r.lo, r.hi, r.x))
 }
 
-// Whether a place is one of the fields 0 to 16.
-pub fn found(k: usize) -> bool
-    ensures { result ≡ found_of k }
+// The index of the first value of a history outside 0 to 400.
+pub fn first_activity_outside(xs: &[f64]) -> Option<usize>
+    ensures { result ≡ position (λ x. not (within_of 0·0 400·0 x)) xs.now }
 {
-    k < 17
+    xs.iter().position(|x| !within(0.0, 400.0, *x))
+}
+
+// The lowest field out of its range, the history's values among them where it is there.
+pub fn outside(n: Input) -> Option<usize>
+    ensures { result ≡ field_at (outside_of n) }
+{
+    if !day_within(n) {
+        return Some(1);
+    }
+    if let Some(i) = first_outside(&ranges(n)) {
+        return Some(2 + i);
+    }
+    if absent(n.history) {
+        return None;
+    }
+    match first_activity_outside(&n.ap_array) {
+        Some(i) => Some(10 + i),
+        None => None,
+    }
 }
 
 // The refusals that a record can meet, in order.
-pub fn judge(w: [i32; 24], n: Input) -> Answer
+pub fn judge(w: [i32; 24], n: Input) -> Result<(), Refusal>
     ensures { result ≡ judged_of w n }
 {
-    let a = unfit(n);
-    if found(a) {
-        return Answer::Refused(2, a);
+    if let Some(field) = unfit(n) {
+        return Err(Reason::NotFinite.at(field));
     }
     if lacks_history(w, n) {
-        return Answer::Refused(1, 10);
+        return Err(Reason::HistoryLacking.at(10));
     }
-    let b = outside(n);
-    if found(b) {
-        return Answer::Refused(3, b);
+    if let Some(field) = outside(n) {
+        return Err(Reason::OutOfRange.at(field));
     }
-    Answer::Accepted
-}
-
-pub fn accepted(a: Answer) -> bool
-    ensures { result ≡ accepted_of a }
-{
-    match a {
-        Answer::Accepted => true,
-        Answer::Refused(n, k) => false,
-    }
+    Ok(())
 }
 
 // Whether switch 15, as it is given, is 1.
@@ -164,18 +158,14 @@ pub fn unmixed(on: bool, alt: f64) -> bool
 }
 
 // The one-altitude call's answer to a record.
-pub fn record_answer(w: [i32; 24], n: Input) -> Answer
+pub fn record_answer(w: [i32; 24], n: Input) -> Result<(), Refusal>
     ensures { result ≡ record_answer w n }
 {
-    let a = judge(w, n);
-    if !accepted(a) {
-        return a;
+    judge(w, n)?;
+    if unmixed(mixing_on(w), n.alt) {
+        return Err(Reason::NotMixed.at(3));
     }
-    let on = mixing_on(w);
-    if unmixed(on, n.alt) {
-        return Answer::Refused(10, 3);
-    }
-    Answer::Accepted
+    Ok(())
 }
 
 // The record with another altitude.

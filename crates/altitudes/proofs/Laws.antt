@@ -1,4 +1,5 @@
 -- The altitudes met one by one, and the answer to a column.
+use Rattle.std.specs.Prelude.{Err, Ok}
 use mathlib.Core.Path.{◌≡◌, refl, sym, ap, subst}
 use mathlib.Core.Bool.{Bool, true, false, cond, not, ◌&&◌, false≢true, and_assoc, and-true}
 use mathlib.Core.List.{List, ◌∷◌}
@@ -13,11 +14,12 @@ use lib.Ieee.{Float, nan, le}
 use Rattle.numbers.specs.Literals.{0·0, 2500·0}
 use Rattle.numbers.specs.Tests.{finite_of}
 use Rattle.numbers.specs.Booleans.{both}
+use Rattle.refusals.specs.Refusals.{Accepted, Answer, Refused, accepted_of}
+use Rattle.refusals.specs.declared.Reason.TheVariants.{NotFinite, NotMixed, OutOfRange, TooMany, WrongLength}
+use Rattle.refusals.specs.declared.Reason.{Reason}
 use Rattle.setting.specs.declared.Input.{Input}
 use Rattle.setting.specs.Switches.{given, is_one}
-use Rattle.acceptance.specs.declared.Answer.{Answer}
-use Rattle.acceptance.specs.declared.Answer.TheVariants.{Accepted, Refused}
-use Rattle.acceptance.specs.Acceptance.{within_of, judged_of, accepted_of, unmixed_of, with_alt_of}
+use Rattle.acceptance.specs.Acceptance.{within_of, judged_of, unmixed_of, with_alt_of}
 use Rattle.altitudes.specs.Altitudes.{altitudes_from, unmixed_from, judged_all_of, column_answer}
 use Rattle.altitudes.specs.Within.{all_within}
 
@@ -38,12 +40,12 @@ module _ (alts : List Float) (k : ℕ) (h : k < length alts) where
   here : altitudes_from k (drop k alts) ≡ altitudes_from k (get_or alts k nan ∷ drop (suc k) alts)
   here = ap (altitudes_from k) (drop-cons alts k nan h)
 
-  pub unfit_here : (b : Bool) → b ≡ finite_of (get_or alts k nan) → not b ≡ true → Refused 2 (17 + k) ≡ altitudes_from k (drop k alts)
+  pub unfit_here : (b : Bool) → b ≡ finite_of (get_or alts k nan) → not b ≡ true → Refused NotFinite (17 + k) ≡ altitudes_from k (drop k alts)
   unfolding altitudes_from
   unfit_here b e t = rw here (simp (← e, t))
 
   pub outside_here : (b c : Bool) → b ≡ finite_of (get_or alts k nan) → not b ≡ false → c ≡ within_of 0·0 2500·0 (get_or alts k nan) → not c ≡ true
-      → Refused 3 (17 + k) ≡ altitudes_from k (drop k alts)
+      → Refused OutOfRange (17 + k) ≡ altitudes_from k (drop k alts)
   unfolding altitudes_from
   outside_here b c e t f u = rw here (simp (← e, ← f) (simp (t, u)))
 
@@ -62,7 +64,7 @@ module _ (on : Bool) (alts : List Float) (k : ℕ) (h : k < length alts) where
   next : unmixed_from on k (drop k alts) ≡ unmixed_from on k (get_or alts k nan ∷ drop (suc k) alts)
   next = ap (unmixed_from on k) (drop-cons alts k nan h)
 
-  pub unmixed_here : (b : Bool) → b ≡ unmixed_of on (get_or alts k nan) → b ≡ true → Refused 10 (17 + k) ≡ unmixed_from on k (drop k alts)
+  pub unmixed_here : (b : Bool) → b ≡ unmixed_of on (get_or alts k nan) → b ≡ true → Refused NotMixed (17 + k) ≡ unmixed_from on k (drop k alts)
   unfolding unmixed_from
   unmixed_here b e t = rw next (simp (← e, t))
 
@@ -77,11 +79,11 @@ all_mixed on alts k e = rw (e, drop-length alts)
 -- ---- the answer
 
 module _ (w : List ℤ) (n : Input) (alts : List Float) (len : ℕ) where
-  pub too_many : 512 < length alts → Refused 5 512 ≡ column_answer w n alts len
+  pub too_many : 512 < length alts → Refused TooMany 512 ≡ column_answer w n alts len
   unfolding column_answer
   too_many h = simp (lt-ltb _ _ h)
 
-  pub too_short : length alts ≤ 512 → len < 11 * length alts → Refused 4 (11 * length alts) ≡ column_answer w n alts len
+  pub too_short : length alts ≤ 512 → len < 11 * length alts → Refused WrongLength (11 * length alts) ≡ column_answer w n alts len
   unfolding column_answer
   too_short g h = simp (le-ltb _ _ g, lt-ltb _ _ h)
 
@@ -89,36 +91,21 @@ module _ (w : List ℤ) (n : Input) (alts : List Float) (len : ℕ) where
   unfolding column_answer
   room_enough g h r e = simp (le-ltb _ _ g, le-ltb _ _ h, e)
 
--- what the record and the altitudes meet, test by test
-module _ (w : List ℤ) (n : Input) (alts : List Float) (m : Input) (a : Answer) (v : Bool) (e : m ≡ with_alt_of n 0·0) (f : a ≡ judged_of w m) (i : v ≡ accepted_of a) where
-  pub record_refused : not v ≡ true → a ≡ judged_all_of w n alts
-  unfolding judged_all_of
-  record_refused t = rw (← e, ← f) (simp (← i) (simp t))
-
-  module _ (t : not v ≡ false) (b : Answer) (u : Bool) (g : b ≡ altitudes_from 0 alts) (j : u ≡ accepted_of b) where
-    pub altitude_refused : not u ≡ true → b ≡ judged_all_of w n alts
-    unfolding judged_all_of
-    altitude_refused s = rw (← e, ← f, ← g) (simp (← i, ← j) (simp (t, s)))
-
-    pub all_judged : not u ≡ false → (on : Bool) (r : Answer) → on ≡ is_one (given w 15) → r ≡ unmixed_from on 0 alts → r ≡ judged_all_of w n alts
-    unfolding judged_all_of
-    all_judged s on r k l = rw (← e, ← f, ← g, ← k, ← l) (simp (← i, ← j) (simp (t, s)))
-
 -- ---- what an accepted answer says
 
 -- an accepted altitude is not above 2500 km, and the others are accepted
-passed : (b : Bool) (n k : ℕ) (a : Answer) → cond (not b) (Refused n k) a ≡ Accepted → (b ≡ true) × (a ≡ Accepted)
+passed : (b : Bool) (n : Reason) (k : ℕ) (a : Answer) → cond (not b) (Refused n k) a ≡ Accepted → (b ≡ true) × (a ≡ Accepted)
 passed true n k a e = (refl, e)
 passed false n k a e = absurd (subst (λ (r : Answer). T (not (accepted_of r))) e tt)
 
 pub not_above : (k : ℕ) (z : Float) (zs : List Float) → altitudes_from k (z ∷ zs) ≡ Accepted → (le z 2500·0 ≡ true) × (altitudes_from (k + 1) zs ≡ Accepted)
 unfolding altitudes_from within_of
 not_above k z zs e =
-    let f = passed (finite_of z) 2 (17 + k) _ e in
-    let g = passed (le 0·0 z && le z 2500·0) 3 (17 + k) _ f.1 in
+    let f = passed (finite_of z) NotFinite (17 + k) _ e in
+    let g = passed (le 0·0 z && le z 2500·0) OutOfRange (17 + k) _ f.1 in
     ((both (le 0·0 z) (le z 2500·0) g.0).1, g.1)
 
-second_passed : (b : Bool) (c : Bool) (n : ℕ) (a : Answer) → accepted_of (cond b (Refused 5 512) (cond c (Refused 4 n) a)) ≡ true → c ≡ false
+second_passed : (b : Bool) (c : Bool) (n : ℕ) (a : Answer) → accepted_of (cond b (Refused TooMany 512) (cond c (Refused WrongLength n) a)) ≡ true → c ≡ false
 second_passed true c n a h = absurd (false≢true h)
 second_passed false true n a h = sym h
 second_passed false false n a h = refl
@@ -127,19 +114,19 @@ pub accepted_room : (w : List ℤ) (n : Input) (alts : List Float) (len : ℕ) �
 unfolding column_answer
 accepted_room w n alts len h = second_passed (ltb 512 (length alts)) (ltb len (11 * length alts)) (11 * length alts) _ h
 
-last_passed : (b c : Bool) (n : ℕ) (r : Answer) → accepted_of (cond b (Refused 5 512) (cond c (Refused 4 n) r)) ≡ true → accepted_of r ≡ true
+last_passed : (b c : Bool) (n : ℕ) (r : Answer) → accepted_of (cond b (Refused TooMany 512) (cond c (Refused WrongLength n) r)) ≡ true → accepted_of r ≡ true
 last_passed true c n r h = absurd (false≢true h)
 last_passed false true n r h = absurd (false≢true h)
 last_passed false false n r h = h
 
 middle_passed : (a b c : Answer) → accepted_of (cond (not (accepted_of a)) a (cond (not (accepted_of b)) b c)) ≡ true → accepted_of b ≡ true
-middle_passed Accepted Accepted c h = refl
-middle_passed Accepted (Refused n k) c h = h
-middle_passed (Refused n k) b c h = absurd (false≢true h)
+middle_passed (Ok v) (Ok u) c h = refl
+middle_passed (Ok v) (Err r) c h = h
+middle_passed (Err r) b c h = absurd (false≢true h)
 
 accepted_is : (a : Answer) → accepted_of a ≡ true → a ≡ Accepted
-accepted_is Accepted h = refl
-accepted_is (Refused n k) h = absurd (false≢true h)
+accepted_is (Ok v) h = refl
+accepted_is (Err r) h = absurd (false≢true h)
 
 pub accepted_altitudes : (w : List ℤ) (n : Input) (alts : List Float) (len : ℕ) → accepted_of (column_answer w n alts len) ≡ true → altitudes_from 0 alts ≡ Accepted
 unfolding column_answer judged_all_of

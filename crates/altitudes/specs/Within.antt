@@ -7,7 +7,7 @@ use Rattle.std.specs.Float.Ieee.{le, lt, eq, of_bits}
 use Rattle.numbers.specs.Literals.{0·0, 2500·0}
 use Rattle.numbers.specs.Tests.{finite_of}
 use Rattle.numbers.specs.Booleans.{both}
-use Rattle.acceptance.specs.declared.Answer.TheVariants.{Accepted}
+use Rattle.refusals.specs.Refusals.{Accepted}
 use Rattle.acceptance.specs.Acceptance.{within_of, unmixed_of}
 use Rattle.altitudes.specs.Altitudes.{altitudes_from, unmixed_from}
 

@@ -10,6 +10,8 @@ use lib.ListN.{length}
 use lib.Ieee.{Float, binary64, of_int, eq, of_bits}
 use Rattle.numbers.specs.Arithmetic.{◌‼◌}
 use Rattle.numbers.specs.Literals.{0·0}
+use Rattle.refusals.specs.Refusals.{Answer, Refused, accepted_of}
+use Rattle.refusals.specs.declared.Reason.TheVariants.{WrongLength}
 use Rattle.setting.specs.declared.Input.{Input}
 use Rattle.setting.specs.Switches.{sw_of}
 use Rattle.views.specs.View.{view_of}
@@ -23,9 +25,6 @@ use Rattle.parameters.specs.Parameters.{present_of}
 use Rattle.parameters.specs.declared.Parameters.{Parameters}
 use Rattle.gts7_arithmetic.specs.Gts7Arithmetic.{HasMass, site_from, site_with, gather_of}
 use Rattle.gts7_arithmetic.specs.Given.{site_given}
-use Rattle.acceptance.specs.declared.Answer.{Answer}
-use Rattle.acceptance.specs.declared.Answer.TheVariants.{Refused}
-use Rattle.acceptance.specs.Acceptance.{accepted_of}
 use Rattle.atmosphere.specs.Atmosphere.{eleven_from, eleven_with, eleven_of, answer_of, row_after}
 use Rattle.atmosphere.specs.Answers.{eleven_told}
 use Rattle.mixing_limits.specs.Limits.{mixed_at, some_mixed}
@@ -40,7 +39,7 @@ use Rattle.stages.specs.Stages.{shape_plan, n2_plan, gts7_plan}
 use Rattle.footing.proofs.Below.{gts7_is}
 
 -- an accepted answer passed the first test
-first_passed : (b : Bool) (a : Answer) → accepted_of (cond (not b) (Refused 4 11) a) ≡ true → b ≡ true
+first_passed : (b : Bool) (a : Answer) → accepted_of (cond (not b) (Refused WrongLength 11) a) ≡ true → b ≡ true
 first_passed true a h = refl
 first_passed false a h = h
 

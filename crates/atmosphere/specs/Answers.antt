@@ -9,7 +9,7 @@ use Rattle.numbers.specs.Literals.{0·0, 1·0, 32·5, 72·5, 300·0}
 use Rattle.elementary.specs.Exp.{exp_of}
 use Rattle.setting.specs.declared.State.{State}
 use Rattle.setting.specs.declared.View.{View}
-use Rattle.setting.specs.declared.Valued.{Valued}
+use Rattle.setting.specs.declared.Left.{Left}
 use Rattle.setting.specs.State.{fresh_of}
 use Rattle.expansion.specs.Expansion.{state_after, globe7_of, glob7s_from, glob7s_of}
 use Rattle.tables.specs.Names.{Wide, Narrow, wide, narrow, PT, PS, PD0, PD1, PD2, PD3, PD4, PD5, PD6, PD7, PD8, PTL0, PTL1, PTL2, PTL3, PMA0, PMA1, PMA2, PMA3, PMA4, PMA5, PMA6, PMA7, PMA8, PMA9}
@@ -108,7 +108,7 @@ module _ (v : View) (n : Need) (hi : n.high ≡ true) where
   plus Q f p k s h e x next =
       let t = h (wide p) (takes_history p ∙ e) in
       kept_ask v (answer_to (expansion_values_of v n)) Q (one_plus_globe7 f p) k s (state_after v (wide p) fresh_of)
-      (ap (λ (r : Valued). 1·0 ⊕ f ⊗ r.value) (same_globe7 v (wide p) s t) ∙ ap (λ (y : Float). 1·0 ⊕ f ⊗ y) (globe7_first v (wide p) ∙ x))
+      (ap (λ (r : Left Float). 1·0 ⊕ f ⊗ r.value) (same_globe7 v (wide p) s t) ∙ ap (λ (y : Float). 1·0 ⊕ f ⊗ y) (globe7_first v (wide p) ∙ x))
       t next
 
   expo : {A : Type 0} (Q : State → Type 0) (f : Float) (p : Wide) (k : Float → Plan A) (s : State)
@@ -121,7 +121,7 @@ module _ (v : View) (n : Need) (hi : n.high ≡ true) where
   expo Q f p k s h e x next =
       let t = h (wide p) (takes_history p ∙ e) in
       kept_ask v (answer_to (expansion_values_of v n)) Q (exp_globe7 f p) k s (state_after v (wide p) fresh_of)
-      (ap (λ (r : Valued). exp_of (f ⊗ r.value)) (same_globe7 v (wide p) s t) ∙ ap (λ (y : Float). exp_of (f ⊗ y)) (globe7_first v (wide p) ∙ x))
+      (ap (λ (r : Left Float). exp_of (f ⊗ r.value)) (same_globe7 v (wide p) s t) ∙ ap (λ (y : Float). exp_of (f ⊗ y)) (globe7_first v (wide p) ∙ x))
       t next
 
   -- a question of glob7s, which leaves the State as it is

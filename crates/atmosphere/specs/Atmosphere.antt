@@ -5,6 +5,8 @@ use Rattle.numbers.specs.Arithmetic.{◌‼◌}
 use Rattle.numbers.specs.Literals.{72·5}
 use Rattle.parameters.specs.Parameters.{present_of}
 use Rattle.parameters.specs.declared.Parameters.{Parameters}
+use Rattle.refusals.specs.Refusals.{Answer, Refused, accepted_of}
+use Rattle.refusals.specs.declared.Reason.TheVariants.{WrongLength}
 use Rattle.setting.specs.declared.Input.{Input}
 use Rattle.setting.specs.declared.State.{State}
 use Rattle.setting.specs.declared.View.{View}
@@ -18,9 +20,7 @@ use Rattle.gts7_arithmetic.specs.Gts7Arithmetic.{site_with}
 use Rattle.stages.specs.Stages.{gts7_plan}
 use Rattle.lower_atmosphere.specs.declared.Gtd7Output.{Gtd7Output}
 use Rattle.lower_atmosphere.specs.LowerAtmosphere.{meso_plan, lower_plan, gtd7_above, gtd7_below}
-use Rattle.acceptance.specs.declared.Answer.{Answer}
-use Rattle.acceptance.specs.declared.Answer.TheVariants.{Refused}
-use Rattle.acceptance.specs.Acceptance.{accepted_of, record_answer}
+use Rattle.acceptance.specs.Acceptance.{record_answer}
 
 -- gtd7: gts7 at 72.5 km or above, and from there down the lower nodes
 unfoldable pub gtd7_plan : List Float → Site → Float → Plan Gtd7Output
@@ -66,7 +66,7 @@ left_of w n = left_with present_of w n
 
 -- the one-altitude call: 4 for a row that is not of length 11, then what the record meets
 unfoldable pub answer_of : List ℤ → Input → ℕ → Answer
-answer_of w n len = cond (not (eqb len 11)) (Refused 4 11) (record_answer w n)
+answer_of w n len = cond (not (eqb len 11)) (Refused WrongLength 11) (record_answer w n)
 
 -- the lent row afterwards: the eleven numbers where the call is accepted, else as it was
 unfoldable pub row_after : List ℤ → Input → List Float → List Float

@@ -13,7 +13,7 @@ ghost use Rattle.plan.specs.Plan.{told, answer_to};
 ghost use Rattle.stages.specs.Stages.{gts7_plan};
 ghost use Rattle.atmosphere.specs.Atmosphere.{eleven_from, eleven_with, eleven_of, answer_of, row_after};
 
-use acceptance::{Answer, accepted, record_answer};
+use acceptance::record_answer;
 use expansion_values::{RecordValues, record_values};
 use footing::{footing_of, row_below, unknown};
 use gts7_arithmetic::{Site, site_from};
@@ -23,6 +23,7 @@ use needed_sets::need_at;
 use numbers::{pick, put_row};
 use parameters::{Parameters, present};
 use plan::ExpansionValues;
+use refusals::{Reason, Refusal};
 use setting::Input;
 use thermosphere::gts7_stage;
 use unmixed::unmixed_row;
@@ -147,23 +148,20 @@ pub fn row_of(w: [i32; 24], n: Input, out: &mut [f64])
 }
 
 // The answer to a record and a row of the length len.
-pub fn answer(w: [i32; 24], n: Input, len: usize) -> Answer
+pub fn answer(w: [i32; 24], n: Input, len: usize) -> Result<(), Refusal>
     ensures { result ≡ answer_of w n len }
 {
     if len != 11 {
-        return Answer::Refused(4, 11);
+        return Err(Reason::WrongLength.at(11));
     }
     record_answer(w, n)
 }
 
 // The one-altitude call: refused, the row as it was; accepted, the row of eleven.
-pub fn gtd7(w: [i32; 24], n: Input, out: &mut [f64]) -> Answer
+pub fn gtd7(w: [i32; 24], n: Input, out: &mut [f64]) -> Result<(), Refusal>
     ensures { (result ≡ answer_of w n (length out.old)) × (out.new ≡ row_after w n out.old) }
 {
-    let a = answer(w, n, out.len());
-    if !accepted(a) {
-        return a;
-    }
+    answer(w, n, out.len())?;
     row_of(w, n, out);
-    a
+    Ok(())
 }

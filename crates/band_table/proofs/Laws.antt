@@ -1,6 +1,7 @@
 -- A table's count, and its bands gone through.
+use Rattle.std.proofs.Common.{None, Some, is_some}
 use mathlib.Core.Path.{◌≡◌, refl, sym, ap, ◌∙◌}
-use mathlib.Core.Bool.{Bool, true, false, cond, true≢false}
+use mathlib.Core.Bool.{Bool, true, false, cond, true≢false, false≢true}
 use mathlib.Core.List.{List}
 use Prim.Native.Nat.{ℕ, zero, suc, ◌+◌, ◌-◌, ◌<◌, ◌≤◌}
 use native.Mathlib.Omega.{arith}
@@ -10,7 +11,7 @@ use lib.IntN.{ℤ, pos, negsuc, nat_abs}
 use lib.ListN.{length, take, drop, get_or}
 use lib.Signed.{lt_z, non_neg}
 use Rattle.line_text.proofs.Choice.{cond_true, cond_false}
-use Rattle.band_table.specs.Table.{band_count, no_row, row_from, band_row}
+use Rattle.band_table.specs.Table.{band_count, row_from, band_row}
 
 -- ---- a count
 
@@ -45,17 +46,17 @@ count_is (negsuc n) z f g h = absurd (true≢false g)
 -- ---- the row
 
 module _ (t : List ℤ) (metre : ℤ) where
-  pub row_length : (length t ≡ 1601 → ⊥) → no_row ≡ band_row t metre
+  pub row_length : (length t ≡ 1601 → ⊥) → None ≡ band_row t metre
   unfolding band_row
   row_length h = cond_false _ _ _ (ne_eqb (length t) 1601 h)
 
   module _ (l : length t ≡ 1601) (x : ℤ) (f : x ≡ metre) where
-    pub row_below : lt_z x (pos 0) ≡ true → no_row ≡ band_row t metre
+    pub row_below : lt_z x (pos 0) ≡ true → None ≡ band_row t metre
     unfolding band_row
     row_below h = cond_true _ _ _ (ap (λ (z : ℤ). lt_z z (pos 0)) (sym f) ∙ h) ∙ cond_true _ _ _ (eq-eqb (length t) 1601 l)
 
     module _ (g : lt_z x (pos 0) ≡ false) where
-      pub row_above : lt_z (pos 2500000) x ≡ true → no_row ≡ band_row t metre
+      pub row_above : lt_z (pos 2500000) x ≡ true → None ≡ band_row t metre
       unfolding band_row
       row_above h =
           cond_true _ _ _ (ap (lt_z (pos 2500000)) (sym f) ∙ h)
@@ -72,11 +73,11 @@ module _ (m : ℕ) (t : List ℤ) (k : ℕ) (metre to : ℤ) (g : 0 < m) (f : to
   above_it : lt_z metre (get_or t k (pos 0)) ≡ b
   above_it = sym (e ∙ ap (lt_z metre) f)
 
-  pub row_here : b ≡ true → (w : List ℤ) → w ≡ take 24 (drop (k + 1) t) → record { found = true; switches = w } ≡ row_from m t k metre
+  pub row_here : b ≡ true → (w : List ℤ) → w ≡ take 24 (drop (k + 1) t) → Some w ≡ row_from m t k metre
   unfolding row_from
   row_here h w i = by m g
     where
-      by : (j : ℕ) → 0 < j → record { found = true; switches = w } ≡ row_from j t k metre
+      by : (j : ℕ) → 0 < j → Some w ≡ row_from j t k metre
       by zero l = absurd (none l)
         where
           none : 0 < 0 → ⊥
@@ -94,17 +95,20 @@ module _ (m : ℕ) (t : List ℤ) (k : ℕ) (metre to : ℤ) (g : 0 < m) (f : to
           none o = omega arith
       by (suc j) l = let p : suc j - 1 ≡ j = omega arith in rw p (cond_false _ _ _ (above_it ∙ h))
 
-pub row_none : (m : ℕ) (t : List ℤ) (k : ℕ) (metre : ℤ) → m ≡ 0 → no_row ≡ row_from m t k metre
+pub row_none : (m : ℕ) (t : List ℤ) (k : ℕ) (metre : ℤ) → m ≡ 0 → None ≡ row_from m t k metre
 unfolding row_from
 row_none m t k metre e = rw e
 
 -- a metre that has a row lies from 0 to 2,500,000
-pub found_inside : (t : List ℤ) (metre : ℤ) → (band_row t metre).found ≡ true → (lt_z metre (pos 0) ≡ false) × (lt_z (pos 2500000) metre ≡ false)
+pub found_inside : (t : List ℤ) (metre : ℤ) (w : List ℤ) → band_row t metre ≡ Some w → (lt_z metre (pos 0) ≡ false) × (lt_z (pos 2500000) metre ≡ false)
 unfolding band_row
-found_inside t metre h = go (eqb (length t) 1601) (lt_z metre (pos 0)) (lt_z (pos 2500000) metre) h
+found_inside t metre w h = go (eqb (length t) 1601) (lt_z metre (pos 0)) (lt_z (pos 2500000) metre) h
   where
-    go : (l a b : Bool) → (cond l (cond a no_row (cond b no_row (row_from (band_count (get_or t 0 (pos 0))) t 1 metre))) no_row).found ≡ true → (a ≡ false) × (b ≡ false)
-    go false a b e = absurd (true≢false (sym e))
-    go true true b e = absurd (true≢false (sym e))
-    go true false true e = absurd (true≢false (sym e))
+    none : {A : Type 0} → None ≡ Some w → A
+    none e = absurd (false≢true (ap is_some e))
+
+    go : (l a b : Bool) → cond l (cond a None (cond b None (row_from (band_count (get_or t 0 (pos 0))) t 1 metre))) None ≡ Some w → (a ≡ false) × (b ≡ false)
+    go false a b e = none e
+    go true true b e = none e
+    go true false true e = none e
     go true false false e = (refl, refl)

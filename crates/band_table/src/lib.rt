@@ -4,24 +4,8 @@
 
 ghost use Rattle.std.specs.Prelude.{◌≡◌, ◌+◌, ◌≤◌, length, take, drop, false, pos};
 ghost use Rattle.std.specs.Int.Signed.{lt_z};
-ghost use Rattle.band_table.specs.Table.{band_count, no_row, band_row};
+ghost use Rattle.band_table.specs.Table.{band_count, band_row};
 ghost use Rattle.band_table.specs.Kilometres.{kilometres_of_metres};
-
-// The row of a metre, if there is one.
-#[derive(Clone, Copy)]
-pub struct Row {
-    pub found: bool,
-    pub switches: [i32; 24],
-}
-
-pub fn no_row() -> Row
-    ensures { result ≡ no_row }
-{
-    Row {
-        found: false,
-        switches: [0; 24],
-    }
-}
 
 // How many bands a table says that it has.
 pub fn count(z: i32) -> usize
@@ -47,44 +31,32 @@ pub fn row_from(table: &[i32], k: usize) -> [i32; 24]
     ensures { result ≡ take 24 (drop k table.now) }
 {
     let mut w: [i32; 24] = [0; 24];
-    let mut i: usize = 0;
-    while i < 24 {
-        let z = table[k + i];
-        w[i] = z;
-        i += 1;
-    }
+    w.copy_from_slice(&table[k..k + 24]);
     w
 }
 
-// Any table, whatever it holds.
-pub fn row_at(table: &[i32], metre: i64) -> Row
+// The row of a metre, if there is one, in any table, whatever it holds.
+pub fn row_at(table: &[i32], metre: i64) -> Option<[i32; 24]>
     ensures { result ≡ band_row table.now metre }
 {
     if table.len() != 1601 {
-        return no_row();
+        return None;
     }
     if metre < 0 {
-        return no_row();
+        return None;
     }
     if 2500000 < metre {
-        return no_row();
+        return None;
     }
-    let z = table[0];
-    let mut left = count(z);
-    let mut k: usize = 1;
-    while 0 < left {
-        let to = table[k];
-        if sooner(metre, to) {
+    let bands = count(table[0]);
+    for i in 0..bands {
+        let k = 1 + 25 * i;
+        if sooner(metre, table[k]) {
             let w = row_from(table, k + 1);
-            return Row {
-                found: true,
-                switches: w,
-            };
+            return Some(w);
         }
-        k += 25;
-        left -= 1;
     }
-    no_row()
+    None
 }
 
 // A whole metre as an altitude in km: one division.

@@ -1,15 +1,13 @@
 -- Densities in a table that reading gave: the one-altitude call's with the row of the one band in which the metre lies; a metre outside every table; and
 -- demand 3 by that row.
-use Rattle.std.specs.Prelude.{ℕ, ◌≤◌, ◌≡◌, ◌⊎◌, Bool, not, List, T, eqb, ℤ, pos, length, get_or, ◌<ℤ◌, Float}
+use Rattle.std.specs.Prelude.{ℕ, ◌≤◌, ◌≡◌, ◌⊎◌, Bool, not, Option, Some, List, eqb, ℤ, pos, length, get_or, ◌<ℤ◌, Float}
 use Rattle.std.proofs.Math.Path.{refl, ap}
-use Rattle.std.proofs.Common.{sym, ◌∙◌, subst}
+use Rattle.std.proofs.Common.{sym, ◌∙◌}
 use Rattle.std.proofs.Math.Bool.{true, false, cond}
+use Rattle.refusals.specs.Refusals.{Accepted, Answer, Refused, accepted_of}
+use Rattle.refusals.specs.declared.Reason.TheVariants.{OutOfRange, WrongLength}
 use Rattle.setting.specs.declared.Input.{Input}
-use Rattle.acceptance.specs.declared.Answer.{Answer}
-use Rattle.acceptance.specs.declared.Answer.TheVariants.{Accepted, Refused}
-use Rattle.acceptance.specs.Acceptance.{accepted_of}
 use Rattle.atmosphere.specs.Atmosphere.{answer_of, eleven_of, row_after}
-use Rattle.band_table.specs.declared.Row.{Row}
 use Rattle.band_table.specs.Band.{no_band}
 use Rattle.band_table.specs.Table.{band_row, OneBand}
 use Rattle.band_table.proofs.Theorems.{no_row_lem}
@@ -17,41 +15,43 @@ use Rattle.band_form.specs.Bands.{bands_of, Gave}
 use Rattle.band_form.proofs.Theorems.{one_band}
 use Rattle.shutoff.specs.Shut.{Alike}
 use Rattle.shutoff.proofs.Theorems.{demand_3}
-use Rattle.bands.specs.Bands.{at_metre, banded_answer, banded_after}
+use Rattle.bands.specs.Bands.{at_metre, eleven_in, banded_answer, banded_after}
 
 -- ---- a metre outside 0 to 2,500,000
 
 -- 'refused with 3, place 3, after the row slice's length and before the record is looked at': in any table, for any record; the row is as it was
 pub metre_refused : (t : List ℤ) (metre : ℤ) (n : Input) (len : ℕ) → (metre <ℤ pos 0) ⊎ (pos 2500000 <ℤ metre)
-    → banded_answer t metre n len ≡ cond (not (eqb len 11)) (Refused 4 11) (Refused 3 3)
+    → banded_answer t metre n len ≡ cond (not (eqb len 11)) (Refused WrongLength 11) (Refused OutOfRange 3)
 unfolding banded_answer
 metre_refused t metre n len h = rw (no_row_lem t metre h)
 
 pub metre_row_kept : (t : List ℤ) (metre : ℤ) (n : Input) (xs : List Float) → (metre <ℤ pos 0) ⊎ (pos 2500000 <ℤ metre) → banded_after t metre n xs ≡ xs
 unfolding banded_after
-metre_row_kept t metre n xs h = rw (metre_refused t metre n (length xs) h) (go (eqb (length xs) 11) _)
+metre_row_kept t metre n xs h =
+    ap (λ (a : Answer). cond (accepted_of a) (eleven_in (band_row t metre) (at_metre n metre) xs) xs) (metre_refused t metre n (length xs) h)
+    ∙ go (eqb (length xs) 11) _
   where
-    go : (b : Bool) (ys : List Float) → cond (accepted_of (cond (not b) (Refused 4 11) (Refused 3 3))) ys xs ≡ xs
+    go : (b : Bool) (ys : List Float) → cond (accepted_of (cond {A = Answer} (not b) (Refused WrongLength 11) (Refused OutOfRange 3))) ys xs ≡ xs
     go true ys = refl
     go false ys = refl
 
 -- ---- a metre that has a row, in any table
 
-module _ (t : List ℤ) (metre : ℤ) (w : List ℤ) (e : band_row t metre ≡ record { found = true; switches = w }) (n : Input) where
+module _ (t : List ℤ) (metre : ℤ) (w : List ℤ) (e : band_row t metre ≡ Some w) (n : Input) where
   -- answer and lent row are the one-altitude call's with that row at that altitude
   pub answer_told : (len : ℕ) → banded_answer t metre n len ≡ answer_of w (at_metre n metre) len
   unfolding banded_answer answer_of
   answer_told len = rw e (both (eqb len 11) _)
     where
-      both : (b : Bool) (x : Answer) → cond (not b) (Refused 4 11) (cond (not b) (Refused 4 11) x) ≡ cond (not b) (Refused 4 11) x
+      both : (b : Bool) (x : Answer) → cond (not b) (Refused WrongLength 11) (cond (not b) (Refused WrongLength 11) x) ≡ cond (not b) (Refused WrongLength 11) x
       both true x = refl
       both false x = refl
 
   pub row_told : (xs : List Float) → banded_after t metre n xs ≡ row_after w (at_metre n metre) xs
   unfolding banded_after row_after
   row_told xs =
-      ap (λ (a : Answer). cond (accepted_of a) (eleven_of (band_row t metre).switches (at_metre n metre)) xs) (answer_told (length xs))
-      ∙ ap (λ (r : Row). cond (accepted_of (answer_of w (at_metre n metre) (length xs))) (eleven_of r.switches (at_metre n metre)) xs) e
+      ap (λ (a : Answer). cond (accepted_of a) (eleven_in (band_row t metre) (at_metre n metre) xs) xs) (answer_told (length xs))
+      ∙ ap (λ (r : Option (List ℤ)). cond (accepted_of (answer_of w (at_metre n metre) (length xs))) (eleven_in r (at_metre n metre) xs) xs) e
 
 -- ---- a table that reading gave
 
@@ -68,27 +68,17 @@ banded t g metre n h =
 
 -- ---- demand 3, by the row of the metre's band
 
-found_of_lem : (b f : Bool) (x : Answer) → cond b (Refused 4 11) (cond (not f) (Refused 3 3) x) ≡ Accepted → f ≡ true
-found_of_lem true f x e = absurd (subst (λ (r : Answer). T (not (accepted_of r))) e tt)
-found_of_lem false true x e = refl
-found_of_lem false false x e = absurd (subst (λ (r : Answer). T (not (accepted_of r))) e tt)
-
-row_found : (t : List ℤ) (metre : ℤ) (n : Input) (len : ℕ) → banded_answer t metre n len ≡ Accepted → band_row t metre ≡ record { found = true; switches = (band_row t metre).switches }
-unfolding banded_answer
-row_found t metre n len e = ap (λ (f : Bool). record { found = f; switches = (band_row t metre).switches }) (found_of_lem (not (eqb len 11)) (band_row t metre).found _ e)
-
--- For any table and metre, and any two accepted runs on records alike under the row that the table has there, one altitude in both: both write
+-- For any table and metre that has a row there, and any two accepted runs on records alike under that row, one altitude in both: both write
 -- the same eleven numbers, and these are the definition's with that row for the one record and for the other.
-pub demand_3_bands : (t : List ℤ) (metre : ℤ) (a b : Input) (xs ys : List Float)
-    → Alike (band_row t metre).switches (at_metre a metre) (at_metre b metre)
+pub demand_3_bands : (t : List ℤ) (metre : ℤ) (a b : Input) (xs ys : List Float) (w : List ℤ)
+    → band_row t metre ≡ Some w
+    → Alike w (at_metre a metre) (at_metre b metre)
     → banded_answer t metre a (length xs) ≡ Accepted
     → banded_answer t metre b (length ys) ≡ Accepted
     → (banded_after t metre a xs ≡ banded_after t metre b ys)
-    × (banded_after t metre a xs ≡ eleven_of (band_row t metre).switches (at_metre a metre))
-    × (banded_after t metre b ys ≡ eleven_of (band_row t metre).switches (at_metre b metre))
-demand_3_bands t metre a b xs ys like e f =
-    let w = (band_row t metre).switches in
-    let r = row_found t metre a (length xs) e in
+    × (banded_after t metre a xs ≡ eleven_of w (at_metre a metre))
+    × (banded_after t metre b ys ≡ eleven_of w (at_metre b metre))
+demand_3_bands t metre a b xs ys w r like e f =
     let d = demand_3 w (at_metre a metre) (at_metre b metre) xs ys like (sym (answer_told t metre w r a (length xs)) ∙ e) (sym (answer_told t metre w r b (length ys)) ∙ f) in
     let p = row_told t metre w r a xs in
     let q = row_told t metre w r b ys in

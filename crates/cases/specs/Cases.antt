@@ -1,9 +1,11 @@
 -- S1 to S10 of document 01: one table, and one statement that covers it; and ccor at e = 70 and -70.
-use Rattle.std.specs.Prelude.{◌≤◌, ◌≡◌, refl, Bool, true, false, List, [], ◌∷◌, ℤ, pos, length, Float}
+use Rattle.std.specs.Prelude.{◌≤◌, ◌≡◌, refl, Bool, true, false, Result, List, [], ◌∷◌, ℤ, pos, length, Float}
 use Rattle.std.specs.Float.Ieee.{neg, of_bits, add, sub, mul, div, lt, le, eq, is_nan, round}
 use Rattle.numbers.specs.Arithmetic.{◌⊕◌, ◌⊖◌, ◌⊘◌, ◌‼◌}
 use Rattle.numbers.specs.Tests.{finite_of}
 use Rattle.numbers.specs.Literals.{dec, 0·0, 0·5, 1·0, 2·0, 3·0, 4·0, 5·0, 70·0, 100·0, 400·0, 1000·0}
+use Rattle.refusals.specs.Refusals.{Accepted, Answer, Refused}
+use Rattle.refusals.specs.declared.Reason.TheVariants.{OutOfRange}
 use Rattle.elementary.specs.Exp.{exp_of}
 use Rattle.exponential_tables.specs.Tables.{coarse, fine}
 use Rattle.mixing.specs.Mixing.{ccor_of, dnet_of}
@@ -15,11 +17,10 @@ use Rattle.setting.specs.declared.State.{State}
 use Rattle.setting.specs.Switches.{given, is_one, sw_of, swc_of}
 use Rattle.setting.specs.ApHistory.{asks_history_of, lacks_history_of}
 use Rattle.setting.specs.Cases.{s5, s6}
-use Rattle.expansion_calls.specs.declared.Expanded.{Expanded}
+use Rattle.setting.specs.declared.Left.{Left}
+use Rattle.expansion_calls.specs.declared.ExpansionRefusal.{ExpansionRefusal}
 use Rattle.expansion_calls.specs.ExpansionCalls.{accepted_call, glob7s_call_of}
 use Rattle.expansion_calls.specs.Cases.{s7}
-use Rattle.acceptance.specs.declared.Answer.{Answer}
-use Rattle.acceptance.specs.declared.Answer.TheVariants.{Accepted, Refused}
 use Rattle.acceptance.specs.Acceptance.{within_of, array_unfit_of, unfit_of, array_outside_of, outside_of, found_of, judged_of, unmixed_of, record_answer}
 use Rattle.acceptance.specs.Cases.{sample, array_there}
 use Rattle.atmosphere.specs.Atmosphere.{answer_of}
@@ -28,7 +29,7 @@ use Rattle.atmosphere.specs.Atmosphere.{answer_of}
 pub data Case : Type 0 where
   number : Float → Float → Case
   answer : Answer → Answer → Case
-  expanded : Expanded → Expanded → Case
+  expanded : Result (Left Float) ExpansionRefusal → Result (Left Float) ExpansionRefusal → Case
   outcome : Outcome Float → Outcome Float → Case
 
 abbrev pub Holds : Case → Type 0
@@ -62,7 +63,7 @@ cases zhm xmm xm r w p n s =
     number (sw_of w ‼ 9) 2·0 ∷ number (swc_of w ‼ 9) 2·0 ∷
     expanded (glob7s_call_of w n p s) (accepted_call (neg 1·0) s) ∷
     answer (answer_of w (sample 400·0 (neg 1000·0)) 11) Accepted ∷
-    answer (answer_of w (sample 400·0 (neg (dec 10005 1))) 11) (Refused 3 5) ∷
+    answer (answer_of w (sample 400·0 (neg (dec 10005 1))) 11) (Refused OutOfRange 5) ∷
     outcome (splint_call xa ya y2a 2 0·5) (gives 3·0) ∷
     outcome (splini_call xa ya y2a 2 0·5) (gives (dec 125 2)) ∷
     []
@@ -76,7 +77,7 @@ spline_holds : (splint_call xa ya y2a 2 0·5 ≡ gives 3·0) × (splini_call xa 
 unfolding splint_call splini_call three_long counted splint_of searched splini_of integral segment_of of_bits dec add sub mul div lt eq neg round
 spline_holds = (refl, refl)
 
-longitude_judged : (w : List ℤ) → (judged_of w (sample 400·0 (neg 1000·0)) ≡ Accepted) × (judged_of w (sample 400·0 (neg (dec 10005 1))) ≡ Refused 3 5)
+longitude_judged : (w : List ℤ) → (judged_of w (sample 400·0 (neg 1000·0)) ≡ Accepted) × (judged_of w (sample 400·0 (neg (dec 10005 1))) ≡ Refused OutOfRange 5)
 unfolding judged_of lacks_history_of outside_of array_outside_of unfit_of array_unfit_of found_of within_of finite_of dec neg le lt round of_bits
 longitude_judged w = (rw (array_there (asks_history_of w)) refl, rw (array_there (asks_history_of w)) refl)
 
@@ -86,7 +87,7 @@ unfolding unmixed_of lt of_bits
 high_mixed true longitude = refl
 high_mixed false longitude = refl
 
-longitude_holds : (w : List ℤ) → (answer_of w (sample 400·0 (neg 1000·0)) 11 ≡ Accepted) × (answer_of w (sample 400·0 (neg (dec 10005 1))) 11 ≡ Refused 3 5)
+longitude_holds : (w : List ℤ) → (answer_of w (sample 400·0 (neg 1000·0)) 11 ≡ Accepted) × (answer_of w (sample 400·0 (neg (dec 10005 1))) 11 ≡ Refused OutOfRange 5)
 unfolding answer_of record_answer
 longitude_holds w =
     let j = longitude_judged w in

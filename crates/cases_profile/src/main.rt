@@ -2,21 +2,10 @@
 
 #![tactic(auto)]
 
-ghost use Rattle.std.specs.Prelude.{◌<◌};
-
 use mixing::{ccor, dnet};
 use profile::unchecked::Profile;
-use profile_calls::{ProfileCall, densm, densu};
-use spline_calls::{SplineValue, SplineWrite, spline, splini, splint};
-
-fn digit(d: u64) -> u8
-    requires { d < 16 }
-{
-    if d < 10 {
-        return 48 + d as u8;
-    }
-    87 + d as u8
-}
+use profile_calls::{densm, densu};
+use spline_calls::{NodesRefusal, spline, splini, splint};
 
 // The bits of x; every NaN has the same.
 fn pattern(x: f64) -> u64 {
@@ -28,57 +17,43 @@ fn pattern(x: f64) -> u64 {
 
 // A space and 16 hexadecimal digits.
 fn show(x: f64) {
-    let mut rest = pattern(x);
-    let mut line: [u8; 17] = [32; 17];
-    let mut k: usize = 16;
-    while 0 < k {
-        let d = digit(rest % 16);
-        line[k] = d;
-        rest = rest / 16;
-        k = k - 1;
-    }
-    io::write_all(1, &line);
+    io::write_all(1, b" ");
+    io::print_hex(1, pattern(x), 16);
 }
 
 // A refusal's number and place in hexadecimal, each of one digit.
-fn refused(number: u64, place: u64) {
-    let a = digit(number % 16);
-    let b = digit(place % 16);
+fn refused(e: NodesRefusal) {
+    let (number, place) = match e {
+        NodesRefusal::NodeCount(place) => (5, place),
+        NodesRefusal::SliceLength(place) => (4, place),
+    };
     io::write_all(1, b" refused ");
-    io::write_all(1, &[a, 32, b]);
+    io::print_hex(1, number, 1);
+    io::write_all(1, b" ");
+    io::print_hex(1, place as u64, 1);
 }
 
-fn value(a: SplineValue) {
+fn value(a: Result<f64, NodesRefusal>) {
     match a {
-        SplineValue::Value(x) => show(x),
-        SplineValue::NodeCount(p) => refused(5, p as u64),
-        SplineValue::SliceLength(p) => refused(4, p as u64),
+        Ok(x) => show(x),
+        Err(e) => refused(e),
     }
 }
 
-fn answer(p: Profile) {
-    match p {
-        Profile::Temperature(t) => show(t),
-        Profile::Density(d, t) => {
+fn outcome(a: Result<Profile, NodesRefusal>) {
+    match a {
+        Ok(Profile::Temperature(t)) => show(t),
+        Ok(Profile::Density(d, t)) => {
             show(d);
             show(t);
         }
+        Err(e) => refused(e),
     }
 }
 
-fn outcome(a: ProfileCall) {
-    match a {
-        ProfileCall::Answer(p) => answer(p),
-        ProfileCall::NodeCount(p) => refused(5, p as u64),
-        ProfileCall::SliceLength(p) => refused(4, p as u64),
-    }
-}
-
-fn written(a: SplineWrite) {
-    match a {
-        SplineWrite::Written => {}
-        SplineWrite::NodeCount(p) => refused(5, p as u64),
-        SplineWrite::SliceLength(p) => refused(4, p as u64),
+fn written(a: Result<(), NodesRefusal>) {
+    if let Err(e) = a {
+        refused(e);
     }
 }
 

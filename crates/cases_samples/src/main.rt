@@ -27,7 +27,7 @@ fn sample(doy: i32, f: [f64; 8], history: History, nine: i32) -> [f64; 11] {
     w[0] = 0;
     w[9] = nine;
     let mut row = [-1.0; 11];
-    gtd7(w, n, &mut row);
+    let _ = gtd7(w, n, &mut row);
     row
 }
 

@@ -10,7 +10,7 @@ ghost use Rattle.fixed_point.specs.Float.{Within};
 ghost use Rattle.circular_functions.specs.Trig.{sine_cubic, versine_of, scaling_of, decrement_of, circular_part, circular_signed, quarter_of, sinusoid_of, circular_reduced, circular_turned, sin_of, cos_of};
 
 use circular_tables::sine_cosine_at;
-use fixed_point::{apart, choose, high, offset, scaled};
+use fixed_point::{choose, high, offset, scaled};
 
 // sin d in units of 2^-50, for d in units of 2^-58, below 2^50: d - d^3/6.
 pub fn cubic(d: u64) -> u64
@@ -90,7 +90,7 @@ pub fn sinusoid(n: u64, t: u64) -> f64
     requires { (n ≤ 2 ^ 32) × (t ≤ 2 ^ 59) }
     ensures { result ≡ sinusoid_of n t }
 {
-    signed(quarter(n, t), part(n % 2, apart(t, 288230376151711744)))
+    signed(quarter(n, t), part(n % 2, t.abs_diff(288230376151711744)))
 }
 
 // The sine of k quarter turns and m, for m in units of 2^-46.

@@ -12,12 +12,12 @@ use lib.Seq.{take-suc, take_at, drop_at, drop-drop, length-take-le}
 use lib.Ieee.{Float, nan, binary64, of_int}
 use Rattle.numbers.specs.Arithmetic.{◌‼◌}
 use Rattle.numbers.specs.Literals.{0·0}
+use Rattle.refusals.specs.Refusals.{Accepted, accepted_of}
 use Rattle.setting.specs.declared.Input.{Input}
 use Rattle.views.specs.View.{view_of}
 use Rattle.gts7_arithmetic.specs.declared.Site.{Site}
 use Rattle.gts7_arithmetic.specs.Gts7Arithmetic.{site_of}
-use Rattle.acceptance.specs.declared.Answer.TheVariants.{Accepted}
-use Rattle.acceptance.specs.Acceptance.{accepted_of, with_alt_of}
+use Rattle.acceptance.specs.Acceptance.{with_alt_of}
 use Rattle.needed_sets.specs.declared.Need.{Need}
 use Rattle.expansion_values.specs.declared.RecordValues.{RecordValues}
 use Rattle.expansion_values.specs.ExpansionValues.{expansion_values_of, record_values_of}

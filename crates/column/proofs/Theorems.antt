@@ -1,10 +1,10 @@
 -- The column's part of demand 3, and what each of a column's rows is.
 use Rattle.std.specs.Prelude.{◌≡◌, refl, cond, List, [], ◌∷◌, ◌++◌, ℕ, ◌*◌, ltb, ℤ, length, drop, Float}
 use Rattle.std.proofs.Common.{sym, ◌∙◌, ap, ap₂}
+use Rattle.refusals.specs.declared.Reason.TheVariants.{TooMany, WrongLength}
+use Rattle.refusals.specs.Refusals.{Accepted, Answer, accepted_of}
 use Rattle.setting.specs.declared.Input.{Input}
-use Rattle.acceptance.specs.declared.Answer.{Answer}
-use Rattle.acceptance.specs.declared.Answer.TheVariants.{Accepted}
-use Rattle.acceptance.specs.Acceptance.{judged_of, accepted_of, with_alt_of}
+use Rattle.acceptance.specs.Acceptance.{judged_of, with_alt_of}
 use Rattle.acceptance.specs.Refusals.{no_refusal}
 use Rattle.numbers.specs.Literals.{0·0}
 use Rattle.atmosphere.specs.Atmosphere.{eleven_of}
@@ -18,7 +18,7 @@ pub record_accepted : (w : List ℤ) (n : Input) (alts : List Float) (len : ℕ)
 unfolding column_answer judged_all_of
 record_accepted w n alts len e =
     first_accepted (judged_of w (with_alt_of n 0·0)) _
-    (no_refusal (ltb len (11 * length alts)) 4 (11 * length alts) _ (no_refusal (ltb 512 (length alts)) 5 512 _ e).1).1
+    (no_refusal (ltb len (11 * length alts)) WrongLength (11 * length alts) _ (no_refusal (ltb 512 (length alts)) TooMany 512 _ e).1).1
 
 -- what demand 3 needs of an accepted column's record, at any altitude
 pub column_known : (w : List ℤ) (n : Input) (alts : List Float) (len : ℕ) (z : Float) → column_answer w n alts len ≡ Accepted → Known w (with_alt_of n z)

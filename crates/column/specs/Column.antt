@@ -1,7 +1,8 @@
 -- Document 01's column: its rows, and the lent buffer afterwards.
 use Rattle.std.specs.Prelude.{◌*◌, cond, List, [], ◌∷◌, ◌++◌, ℤ, length, drop, Float}
+use Rattle.refusals.specs.Refusals.{accepted_of}
 use Rattle.setting.specs.declared.Input.{Input}
-use Rattle.acceptance.specs.Acceptance.{accepted_of, with_alt_of}
+use Rattle.acceptance.specs.Acceptance.{with_alt_of}
 use Rattle.altitudes.specs.Altitudes.{column_answer}
 use Rattle.atmosphere.specs.Atmosphere.{eleven_of}
 

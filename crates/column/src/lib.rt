@@ -3,16 +3,16 @@
 #![tactic(auto)]
 
 ghost use Rattle.std.specs.Prelude.{◌≡◌, ◌++◌, ◌*◌, ◌≤◌, length, take, drop};
+ghost use Rattle.refusals.specs.Refusals.{Accepted};
 ghost use Rattle.views.specs.View.{view_of};
-ghost use Rattle.acceptance.specs.declared.Answer.TheVariants.{Accepted};
 ghost use Rattle.altitudes.specs.Altitudes.{altitudes_from, column_answer};
 ghost use Rattle.column.specs.Column.{column_after, column_rows};
 ghost use Rattle.column.specs.Parts.{stored_for, rows_stored};
 
-use acceptance::{Answer, accepted};
 use altitudes::column_answer;
 use expansion_values::record_values;
 use gts7_arithmetic::site_of;
+use refusals::Refusal;
 use setting::Input;
 use stored::{need_of, row_on, store};
 use stored_parts::parts_of;
@@ -61,14 +61,11 @@ pub fn rows(w: [i32; 24], n: Input, alts: &[f64], out: &mut [f64])
 }
 
 // The column call: refused, the buffer as it was; accepted, the rows and the rest of the buffer as it was.
-pub fn gtd7_column(w: [i32; 24], n: Input, alts: &[f64], out: &mut [f64]) -> Answer
+pub fn gtd7_column(w: [i32; 24], n: Input, alts: &[f64], out: &mut [f64]) -> Result<(), Refusal>
     ensures { (result ≡ column_answer w n alts.now (length out.old))
         × (out.new ≡ column_after w n alts.now out.old) }
 {
-    let a = column_answer(w, n, alts, out.len());
-    if !accepted(a) {
-        return a;
-    }
+    column_answer(w, n, alts, out.len())?;
     rows(w, n, alts, out);
-    a
+    Ok(())
 }

@@ -1,4 +1,5 @@
 -- The checks in order, d[5] written altitude by altitude, and the call's outcomes.
+use Rattle.std.specs.Prelude.{Err, Ok}
 use mathlib.Core.Path.{◌≡◌, refl, sym, ap, ap₂, ◌∙◌}
 use mathlib.Core.Bool.{Bool, true, false, not, false≢true, true≢false}
 use mathlib.Core.List.{List, [], ◌∷◌, ◌++◌, map-append}
@@ -12,39 +13,38 @@ use lib.Seq.{append_snoc, take-suc, take_at, drop-cons, set_at}
 use lib.Ieee.{Float, nan}
 use Rattle.numbers.specs.Arithmetic.{◌‼◌}
 use Rattle.numbers.specs.Literals.{0·0}
+use Rattle.refusals.specs.declared.Refusal.{Refusal}
+use Rattle.refusals.specs.Refusals.{Accepted, Answer, Refused, accepted_of, refused_or}
+use Rattle.refusals.specs.declared.Reason.TheVariants.{AltitudesFall}
 use Rattle.setting.specs.declared.Input.{Input}
 use Rattle.views.specs.View.{view_of}
-use Rattle.acceptance.specs.declared.Answer.{Answer}
-use Rattle.acceptance.specs.declared.Answer.TheVariants.{Accepted, Refused}
-use Rattle.acceptance.specs.Acceptance.{accepted_of, with_alt_of}
+use Rattle.acceptance.specs.Acceptance.{with_alt_of}
 use Rattle.atmosphere.specs.Atmosphere.{eleven_of}
 use Rattle.stored.specs.Stored.{row_stored}
 use Rattle.altitudes.specs.Altitudes.{altitudes_from, column_answer}
 use Rattle.column.specs.Parts.{stored_for}
 use Rattle.altitudes.proofs.Laws.{accepted_altitudes}
 use Rattle.column.proofs.Laws.{Each, each_row}
-use Rattle.crossings_list.specs.declared.Listing.{Listing}
-use Rattle.crossings_list.specs.declared.Listing.TheVariants.{Listed}
-use Rattle.crossings_list.specs.CrossingsList.{crossings_of, list_answer, list_after, altitudes_rise}
-use Rattle.crossings.specs.Crossings.{total_density, densities_of, list_of, after_column, crossings_checked, crossings_refused_or, crossings_answer, crossings_after}
+use Rattle.crossings_list.specs.CrossingsList.{crossings_of, list_answer, list_after, altitudes_rise, Listed, Listing}
+use Rattle.crossings.specs.Crossings.{total_density, densities_of, list_of, after_column, crossings_checked, crossings_answer, crossings_after}
 use Rattle.crossings.specs.Stored.{densities_stored}
 use Rattle.crossings.proofs.Theorems.{densities_length, checked_column}
 
 -- ---- the checks
 
-module _ (w : List ℤ) (n : Input) (alts : List Float) (a : Answer) (e : a ≡ column_answer w n alts (11 * length alts)) (v : Bool) (f : v ≡ accepted_of a) where
-  pub column_refused : not v ≡ true → a ≡ crossings_checked w n alts
+module _ (w : List ℤ) (n : Input) (alts : List Float) where
+  pub column_refused : (q : Refusal) → Err q ≡ column_answer w n alts (11 * length alts) → Err q ≡ crossings_checked w n alts
   unfolding crossings_checked after_column
-  column_refused t = rw (← e) (simp (← f) (simp t))
+  column_refused q e = rw (sym e) refl
 
-  module _ (t : not v ≡ false) (k : ℕ) (g : k ≡ altitudes_rise alts) where
-    pub no_rise : k < length alts → Refused 8 k ≡ crossings_checked w n alts
+  module _ (u : Unit {0}) (e : Ok u ≡ column_answer w n alts (11 * length alts)) (k : ℕ) (g : k ≡ altitudes_rise alts) where
+    pub no_rise : k < length alts → Refused AltitudesFall k ≡ crossings_checked w n alts
     unfolding crossings_checked after_column
-    no_rise h = rw (← e, ← g) (simp (← f, lt-ltb _ _ h) (simp t))
+    no_rise h = rw (sym e, sym g, lt-ltb _ _ h) refl
 
     pub rising : length alts ≤ k → Accepted ≡ crossings_checked w n alts
     unfolding crossings_checked after_column
-    rising h = rw (← e, ← g) (simp (← f, le-ltb _ _ h) (simp t))
+    rising h = rw (sym e, sym g, le-ltb _ _ h) refl
 
 pub checked_altitudes : (w : List ℤ) (n : Input) (alts : List Float) → accepted_of (crossings_checked w n alts) ≡ true → altitudes_from 0 alts ≡ Accepted
 checked_altitudes w n alts h = accepted_altitudes w n alts (11 * length alts) (checked_column w n alts h)
@@ -92,25 +92,20 @@ densities_are w n alts numbers sw xs es en e =
 
 -- ---- the call
 
-stays : (a : Answer) (x y : Listing) → accepted_of a ≡ false → crossings_refused_or a x ≡ crossings_refused_or a y
-stays Accepted x y h = absurd (true≢false h)
-stays (Refused i j) x y h = refl
+pub goes_on : (a : Answer) (x : Listing) → accepted_of a ≡ true → refused_or a x ≡ x
+goes_on (Ok v) x h = refl
+goes_on (Err r) x h = absurd (false≢true h)
 
-pub goes_on : (a : Answer) (x : Listing) → accepted_of a ≡ true → crossings_refused_or a x ≡ x
-goes_on Accepted x h = refl
-goes_on (Refused i j) x h = absurd (false≢true h)
-
-module _ (w : List ℤ) (n : Input) (alts : List Float) (level : Float) (xs : List ℕ) (r : Listing) where
-  pub refused : (a : Answer) → a ≡ crossings_checked w n alts → accepted_of a ≡ false → r ≡ crossings_refused_or a (Listed 0)
-      → (r ≡ crossings_answer w n alts level (length xs)) × (xs ≡ crossings_after w n alts level xs)
+module _ (w : List ℤ) (n : Input) (alts : List Float) (level : Float) (xs : List ℕ) where
+  pub refused : (q : Refusal) → Err q ≡ crossings_checked w n alts → (Err q ≡ crossings_answer w n alts level (length xs)) × (xs ≡ crossings_after w n alts level xs)
   unfolding crossings_answer crossings_after
-  refused a e t f = (f ∙ (stays a _ _ t ∙ ap (λ (b : Answer). crossings_refused_or b (list_answer (list_of w n alts level) (length xs))) e), rw (← e, t))
+  refused q e = (ap (λ (b : Answer). refused_or b (list_answer (list_of w n alts level) (length xs))) e, rw (sym (ap accepted_of e)) refl)
 
-  pub answered : (d ds xs' : List Float) (ys : List ℕ) → accepted_of (crossings_checked w n alts) ≡ true → ds ≡ densities_of w n alts ++ xs' → d ≡ take (length alts - 0) ds
+  pub answered : (r : Listing) (d ds xs' : List Float) (ys : List ℕ) → accepted_of (crossings_checked w n alts) ≡ true → ds ≡ densities_of w n alts ++ xs' → d ≡ take (length alts - 0) ds
       → r ≡ list_answer (crossings_of level d) (length xs) → ys ≡ list_after (crossings_of level d) xs
       → (r ≡ crossings_answer w n alts level (length xs)) × (ys ≡ crossings_after w n alts level xs)
   unfolding crossings_answer crossings_after list_of
-  answered d ds xs' ys t e f g h =
+  answered r d ds xs' ys t e f g h =
       let whole : length (densities_of w n alts) ≡ length alts - 0 = densities_length w n alts ∙ omega arith in
       let same : d ≡ densities_of w n alts = f ∙ (ap (take (length alts - 0)) e ∙ take_at (densities_of w n alts) xs' (length alts - 0) whole) in
       (g ∙ rw same (sym (goes_on (crossings_checked w n alts) _ t)), h ∙ rw (same, t))

@@ -1,15 +1,13 @@
 -- Document 02's W-206, where the density passes a level: its refusals in order, the list, and the lent buffer afterwards.
-use Rattle.std.specs.Prelude.{ℕ, ◌*◌, cond, not, List, map, ltb, ℤ, length, Float}
+use Rattle.std.specs.Prelude.{ℕ, ◌*◌, cond, not, List, map, ltb, ℤ, length, Float, Err, Ok}
 use Rattle.numbers.specs.Arithmetic.{◌‼◌}
+use Rattle.refusals.specs.Refusals.{Accepted, Answer, Refused, accepted_of, refused_or}
+use Rattle.refusals.specs.declared.Reason.TheVariants.{AltitudesFall}
 use Rattle.setting.specs.declared.Input.{Input}
-use Rattle.acceptance.specs.declared.Answer.{Answer}
-use Rattle.acceptance.specs.declared.Answer.TheVariants.{Accepted, Refused}
-use Rattle.acceptance.specs.Acceptance.{accepted_of, with_alt_of}
+use Rattle.acceptance.specs.Acceptance.{with_alt_of}
 use Rattle.atmosphere.specs.Atmosphere.{eleven_of}
 use Rattle.altitudes.specs.Altitudes.{column_answer}
-use Rattle.crossings_list.specs.declared.Listing.{Listing}
-use Rattle.crossings_list.specs.declared.Listing.TheVariants as listing
-use Rattle.crossings_list.specs.CrossingsList.{crossings_of, list_answer, list_after, altitudes_rise}
+use Rattle.crossings_list.specs.CrossingsList.{crossings_of, list_answer, list_after, altitudes_rise, Listing}
 
 -- d[5] of the one-altitude call at an altitude
 unfoldable pub total_density : List ℤ → Input → Float → Float
@@ -25,20 +23,15 @@ list_of w n alts level = crossings_of level (densities_of w n alts)
 
 -- after the column's refusals 8, altitudes that don't rise, at the lowest index not above the one before it
 unfoldable pub after_column : Answer → List Float → Answer
-after_column a alts = cond (not (accepted_of a)) a (cond (ltb (altitudes_rise alts) (length alts)) (Refused 8 (altitudes_rise alts)) Accepted)
+after_column a alts = cond (not (accepted_of a)) a (cond (ltb (altitudes_rise alts) (length alts)) (Refused AltitudesFall (altitudes_rise alts)) Accepted)
 
 -- the column's own refusals, then 8; no rows are lent, so the column's buffer is taken to have the length needed, and 4 can't occur
 unfoldable pub crossings_checked : List ℤ → Input → List Float → Answer
 crossings_checked w n alts = after_column (column_answer w n alts (11 * length alts)) alts
 
--- a refusal, or what follows where there is none
-abbrev pub crossings_refused_or : Answer → Listing → Listing
-crossings_refused_or Accepted rest = rest
-crossings_refused_or (Refused n k) rest = listing.Refused n k
-
 -- the answer: those refusals, then 9 for a buffer of len numbers that is shorter than the list, at the length needed; else the list's length
 unfoldable pub crossings_answer : List ℤ → Input → List Float → Float → ℕ → Listing
-crossings_answer w n alts level len = crossings_refused_or (crossings_checked w n alts) (list_answer (list_of w n alts level) len)
+crossings_answer w n alts level len = refused_or (crossings_checked w n alts) (list_answer (list_of w n alts level) len)
 
 -- the lent buffer afterwards: the list at its start and the rest as it was; all as it was where the call is refused
 unfoldable pub crossings_after : List ℤ → Input → List Float → Float → List ℕ → List ℕ

@@ -3,32 +3,28 @@
 #![tactic(auto)]
 
 ghost use Rattle.std.specs.Prelude.{◌≡◌, ◌++◌, ◌≤◌, length, drop};
-ghost use Rattle.acceptance.specs.declared.Answer.TheVariants.{Accepted};
-ghost use Rattle.crossings_list.specs.declared.Listing.TheVariants.{Listed};
+ghost use Rattle.refusals.specs.Refusals.{Accepted};
 ghost use Rattle.altitudes.specs.Altitudes.{altitudes_from};
-ghost use Rattle.crossings.specs.Crossings.{densities_of, crossings_checked, crossings_refused_or, crossings_answer, crossings_after};
+ghost use Rattle.crossings.specs.Crossings.{densities_of, crossings_checked, crossings_answer, crossings_after};
 ghost use Rattle.crossings.specs.Stored.{densities_stored};
 
-use acceptance::{Answer, accepted};
 use altitudes::column_answer;
 use column::stored_for;
-use crossings_list::{Listing, listed, rises};
+use crossings_list::{listed, rises};
+use refusals::{Reason, Refusal};
 use setting::Input;
 use stored::row_on;
 
 // The column's refusals, its buffer taken to be long enough; then 8.
-pub fn checked(w: [i32; 24], n: Input, alts: &[f64]) -> Answer
+pub fn checked(w: [i32; 24], n: Input, alts: &[f64]) -> Result<(), Refusal>
     ensures { result ≡ crossings_checked w n alts.now }
 {
-    let a = column_answer(w, n, alts, 11 * alts.len());
-    if !accepted(a) {
-        return a;
-    }
+    column_answer(w, n, alts, 11 * alts.len())?;
     let k = rises(alts);
     if k < alts.len() {
-        return Answer::Refused(8, k);
+        return Err(Reason::AltitudesFall.at(k));
     }
-    Answer::Accepted
+    Ok(())
 }
 
 // d[5] at each altitude, out of the stored numbers; sw0 and sw15 are the main effects of switches 0 and 15.
@@ -37,12 +33,9 @@ pub fn densities_at(sw0: f64, sw15: f64, numbers: &[f64], alts: &[f64], d: &mut 
     ensures { d.new ≡ densities_stored sw0 sw15 numbers.now alts.now ++ drop (length alts.now) d.old }
 {
     let mut row = [0.0; 11];
-    let mut i: usize = 0;
-    while i < alts.len() {
-        let z = alts[i];
-        row_on(sw0, sw15, numbers, z, &mut row);
+    for (i, z) in alts.iter().enumerate() {
+        row_on(sw0, sw15, numbers, *z, &mut row);
         d[i] = row[5];
-        i += 1;
     }
 }
 
@@ -56,25 +49,18 @@ pub fn densities(w: [i32; 24], n: Input, alts: &[f64], d: &mut [f64])
     densities_at(sw[0], sw[15], &numbers, alts, d);
 }
 
-// A refusal as the list's answer; nobody asks for an accepted one.
-pub fn refusal(a: Answer) -> Listing
-    ensures { result ≡ crossings_refused_or a (Listed 0) }
-{
-    match a {
-        Answer::Accepted => Listing::Listed(0),
-        Answer::Refused(n, k) => Listing::Refused(n, k),
-    }
-}
-
 // The call: refused, the list's buffer as it was; else the list at its start, the rest as it was, and the answer how long the list is.
-pub fn crossings(w: [i32; 24], n: Input, alts: &[f64], level: f64, list: &mut [u64]) -> Listing
+pub fn crossings(
+    w: [i32; 24],
+    n: Input,
+    alts: &[f64],
+    level: f64,
+    list: &mut [u64],
+) -> Result<usize, Refusal>
     ensures { (result ≡ crossings_answer w n alts.now level (length list.old))
         × (list.new ≡ crossings_after w n alts.now level list.old) }
 {
-    let a = checked(w, n, alts);
-    if !accepted(a) {
-        return refusal(a);
-    }
+    checked(w, n, alts)?;
     let count = alts.len();
     let mut d = [0.0; 512];
     densities(w, n, alts, &mut d);

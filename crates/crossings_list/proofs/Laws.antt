@@ -1,17 +1,18 @@
 -- The list made index by index, the buffer written index by index, and the outcomes of the call.
 use mathlib.Core.Path.{◌≡◌, refl, sym, ap, ◌∙◌}
-use mathlib.Core.Bool.{Bool, true, false, cond, not}
+use mathlib.Core.Bool.{Bool, true, false, cond}
 use mathlib.Core.List.{List, [], ◌∷◌, ◌++◌, append-nil}
 use Prim.Native.Nat.{ℕ, suc, ◌+◌, ◌-◌, ◌<◌, ◌≤◌}
 use native.Mathlib.Numerals.{add-one}
 use native.Mathlib.Nat.{add-zero}
 use native.Mathlib.Omega.{arith}
-use borrow.Author.Tests.{lt-ltb, le-ltb, not-true, not-false}
+use borrow.Author.Tests.{lt-ltb, le-ltb}
 use lib.ListN.{length, drop, get_or, set, length-append}
 use lib.Seq.{append_snoc, drop-cons, drop-length, set_at}
 use lib.Ieee.{Float, nan, lt}
-use Rattle.crossings_list.specs.declared.Listing.TheVariants.{Listed, Refused}
-use Rattle.crossings_list.specs.CrossingsList.{passes_at, below, those, crossings_of, list_answer, list_after, altitudes_rise_from, altitudes_rise}
+use Rattle.refusals.specs.Refusals.{Refused}
+use Rattle.refusals.specs.declared.Reason.TheVariants.{ListTooShort}
+use Rattle.crossings_list.specs.CrossingsList.{passes_at, below, those, crossings_of, list_answer, list_after, altitudes_rise_from, altitudes_rise, Listed}
 use Rattle.crossings_list.specs.Theorems.{those_more, grows}
 
 -- ---- the list, index by index
@@ -60,18 +61,10 @@ module _ (level : Float) (d : List Float) (i n : ℕ) (e : n ≡ length (those (
   unfolding crossings_of
   whole_written h out out₀ g = g ∙ rw (e, h)
 
--- an index that is noted or not
-module _ (t : Bool) (n : ℕ) (ys xs : List ℕ) where
-  pub passed_over : not t ≡ true → (n ≡ n + cond t 1 0) × (xs ≡ cond t ys xs)
-  passed_over h = (rw (not-true t h) (omega arith), rw (not-true t h))
-
-  pub set_down : not t ≡ false → (n + 1 ≡ n + cond t 1 0) × (ys ≡ cond t ys xs)
-  set_down h = (rw (not-false t h), rw (not-false t h))
-
 -- ---- the call
 
 module _ (level : Float) (d : List Float) (xs : List ℕ) (n : ℕ) (e : n ≡ length (crossings_of level d)) where
-  pub too_short : length xs < n → (Refused 9 n ≡ list_answer (crossings_of level d) (length xs)) × (xs ≡ list_after (crossings_of level d) xs)
+  pub too_short : length xs < n → (Refused ListTooShort n ≡ list_answer (crossings_of level d) (length xs)) × (xs ≡ list_after (crossings_of level d) xs)
   unfolding list_answer list_after
   too_short h =
       let k : length xs < length (crossings_of level d) = rw e at h in
@@ -90,21 +83,14 @@ pub begins : (s : List Float) → (length s ≡ 0 → ⊥) → altitudes_rise_fr
 begins [] h = absurd (h refl)
 begins (a ∷ s) h = refl
 
-pub none_there : (s : List Float) → length s ≡ 0 → 0 ≡ altitudes_rise s
-none_there [] h = refl
-none_there (a ∷ s) h = absurd (none h)
-  where
-    none : suc (length s) ≡ 0 → ⊥
-    none g = omega arith
-
 module _ (s : List Float) (last : Float) (i : ℕ) where
-  pub falls_here : i < length s → not (lt last (get_or s i nan)) ≡ true → i ≡ altitudes_rise_from i last (drop i s)
+  pub falls_here : i < length s → lt last (get_or s i nan) ≡ false → i ≡ altitudes_rise_from i last (drop i s)
   unfolding altitudes_rise_from
-  falls_here h g = rw (drop-cons s i nan h) (simp (not-true (lt last (get_or s i nan)) g))
+  falls_here h g = rw (drop-cons s i nan h) (simp g)
 
-  pub rises_here : i < length s → not (lt last (get_or s i nan)) ≡ false → altitudes_rise_from (i + 1) (get_or s i nan) (drop (i + 1) s) ≡ altitudes_rise_from i last (drop i s)
+  pub rises_here : i < length s → lt last (get_or s i nan) ≡ true → altitudes_rise_from (i + 1) (get_or s i nan) (drop (i + 1) s) ≡ altitudes_rise_from i last (drop i s)
   unfolding altitudes_rise_from
-  rises_here h g = rw (drop-cons s i nan h, add-one) (simp (not-false (lt last (get_or s i nan)) g))
+  rises_here h g = rw (drop-cons s i nan h, add-one) (simp g)
 
   pub all_rise : i ≡ length s → i ≡ altitudes_rise_from i last (drop i s)
   unfolding altitudes_rise_from

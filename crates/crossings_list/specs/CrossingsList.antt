@@ -1,9 +1,17 @@
 -- Document 02, W-206, over given densities: the pairs of neighbours between which they pass a level, and the test that altitudes rise.
-use Rattle.std.specs.Prelude.{ℕ, zero, suc, ◌+◌, ◌-◌, Bool, cond, ◌&&◌, ◌||◌, List, [], ◌∷◌, ◌++◌, ltb, length, drop, Float}
+use Rattle.std.specs.Prelude.{ℕ, zero, suc, ◌+◌, ◌-◌, Bool, cond, ◌&&◌, ◌||◌, List, [], ◌∷◌, ◌++◌, ltb, length, drop, Float, Result, Ok}
 use Rattle.std.specs.Float.Ieee.{lt, le}
 use Rattle.numbers.specs.Arithmetic.{◌‼◌}
-use Rattle.crossings_list.specs.declared.Listing.{Listing}
-use Rattle.crossings_list.specs.declared.Listing.TheVariants.{Listed, Refused}
+use Rattle.refusals.specs.declared.Refusal.{Refusal}
+use Rattle.refusals.specs.Refusals.{Refused}
+use Rattle.refusals.specs.declared.Reason.TheVariants.{ListTooShort}
+
+-- an answer: how long the list is, or a refusal
+abbrev pub Listing : Type 0
+Listing = Result ℕ Refusal
+
+abbrev pub Listed : ℕ → Listing
+Listed n = Ok n
 
 -- at or above the level on one side and below on the other; a comparison with a NaN is false
 unfoldable pub passes_of : Float → Float → Float → Bool
@@ -29,7 +37,7 @@ crossings_of level d = those (passes_at level d) (below (length d - 1))
 
 -- the answer to a list l and a buffer of len numbers: 9 where the buffer is shorter than the list, at the length needed; else the list's length
 unfoldable pub list_answer : List ℕ → ℕ → Listing
-list_answer l len = cond (ltb len (length l)) (Refused 9 (length l)) (Listed (length l))
+list_answer l len = cond (ltb len (length l)) (Refused ListTooShort (length l)) (Listed (length l))
 
 -- the buffer xs afterwards: the list at its start and the rest as it was, or all as it was where it is too short
 unfoldable pub list_after : List ℕ → List ℕ → List ℕ

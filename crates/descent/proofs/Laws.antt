@@ -10,10 +10,11 @@ use lib.ListN.{length, replicate, get_or}
 use lib.Ieee.{Float}
 use Rattle.numbers.specs.Arithmetic.{◌‼◌}
 use Rattle.numbers.specs.Literals.{0·0}
+use Rattle.std.specs.Prelude.{Result, Ok, Err}
+use Rattle.refusals.specs.declared.Refusal.{Refusal}
+use Rattle.refusals.specs.Refusals.{Accepted, Answer, Refused, accepted_of}
 use Rattle.setting.specs.declared.Input.{Input}
-use Rattle.acceptance.specs.declared.Answer.{Answer}
-use Rattle.acceptance.specs.declared.Answer.TheVariants.{Accepted, Refused}
-use Rattle.acceptance.specs.Acceptance.{day_within, judged_of, accepted_of, with_alt_of}
+use Rattle.acceptance.specs.Acceptance.{day_within, judged_of, with_alt_of}
 use Rattle.atmosphere.specs.Atmosphere.{eleven_of}
 use Rattle.shutoff.proofs.Theorems.{row_written}
 use Rattle.station_record.specs.Record.{station_whole}
@@ -23,28 +24,17 @@ use Rattle.station.proofs.Theorems.{altitude_told, prepared_held, day_held}
 use Rattle.descent_orbits.specs.declared.Orbit.{Orbit}
 use Rattle.descent_orbits.specs.declared.Ending.{Ending}
 use Rattle.descent_orbits.specs.declared.Descended.{Descended}
-use Rattle.descent_orbits.specs.declared.Descended.TheVariants.{Ended}
-use Rattle.descent_orbits.specs.declared.Descended.TheVariants as descended
 use Rattle.descent_orbits.specs.DescentOrbits.{lowest_altitude, highest_altitude, density_by_setting, orbit_of, kilometres_of_millimetres, start_within, millimetres_of, Descent, descent_from, descent_refusal}
-use Rattle.descent_orbits.specs.Lent.{end_of_descent, losses_after}
+use Rattle.descent_orbits.specs.Lent.{end_of_descent, losses_after, Ended}
 use Rattle.descent_orbits.specs.Kilometres.{km_finite, km_within, km_mixed}
 use Rattle.descent_orbits.specs.Theorems.{same_descent, never_rises, losses_few}
 use Rattle.descent_orbits.proofs.Laws.{started}
 use Rattle.descent_orbits.proofs.Turns.{Answered}
 use Rattle.descent.specs.Descent.{unit_row, density_at, descent_of, descent_checked, descent_answer, descent_losses}
 use Rattle.descent.specs.Stored.{station_density}
-use Rattle.descent.specs.Theorems.{last_in, count_in, ending_told, checked_met}
+use Rattle.descent.specs.Theorems.{ending_told, checked_met, of_ended}
 
 -- ---- the checks
-
-module _ (w : List ℤ) (n : Input) (start : ℤ) (ss : List ℤ) (room : ℕ) (m : Input) (em : m ≡ with_alt_of n 0·0) (a : Answer) (e : a ≡ judged_of w m) (v : Bool) (f : v ≡ accepted_of a) where
-  pub record_refused : not v ≡ true → a ≡ descent_checked w n start ss room
-  unfolding descent_checked
-  record_refused t = rw (← em, ← e) (simp (← f) (simp t))
-
-  pub record_passed : not v ≡ false → (r : Answer) (x : ℤ) → r ≡ descent_refusal x ss room → x ≡ start → r ≡ descent_checked w n start ss room
-  unfolding descent_checked
-  record_passed t r x g h = g ∙ rw (← em, ← e, h) (simp (← f) (simp t))
 
 -- ---- the density
 
@@ -105,29 +95,30 @@ module _ (w : List ℤ) (n : Input) (len : length w ≡ 24) (seven : length n.ap
 -- ---- the call
 
 -- the last altitude and the count fit the C call's numbers
-pub end_fits : (w : List ℤ) (n : Input) (start : ℤ) (ss : List ℤ) (room : ℕ) (e : Ending) (l c : ℕ) → descent_answer w n start ss room ≡ Ended e l c → (l ≤ 1000000000) × (c ≤ 10000)
+pub end_fits : (w : List ℤ) (n : Input) (start : ℤ) (ss : List ℤ) (room : ℕ) (d : Descended) → Ok d ≡ descent_answer w n start ss room → (d.last ≤ 1000000000) × (d.taken ≤ 10000)
 unfolding descent_answer descent_of end_of_descent
-end_fits w n start ss room e l c h =
-    let t = ending_told (descent_checked (unit_row w) n start ss room) _ e l c h in
+end_fits w n start ss room d h =
+    let t = ending_told (descent_checked (unit_row w) n start ss room) _ d (sym h) in
     let m = (checked_met (unit_row w) n start ss room t.0).1 in
-    let last : (descent_of w n start ss).last ≡ l = ap (λ (d : Descended). last_in d) t.1 in
-    let count : length (descent_of w n start ss).losses ≡ c = ap (λ (d : Descended). count_in d) t.1 in
-    let d = density_at (unit_row w) n in
+    let e = of_ended _ _ t.1 in
+    let last : (descent_of w n start ss).last ≡ d.last = ap (λ (x : Descended). x.last) e in
+    let count : length (descent_of w n start ss).losses ≡ d.taken = ap (λ (x : Descended). x.taken) e in
+    let f = density_at (unit_row w) n in
     let a = millimetres_of start in
-    (omega (arith, last, never_rises d ss a, (started start start refl m.within).most), omega (arith, count, losses_few d ss a, m.few))
+    (omega (arith, last, never_rises f ss a, (started start start refl m.within).most), omega (arith, count, losses_few f ss a, m.few))
 
--- v is the row with switch 0 as 1, x the start as the machine reads it, a what the checks say
-module _ (w : List ℤ) (n : Input) (start : ℤ) (ss xs v : List ℤ) (ev : v ≡ unit_row w) (x : ℤ) (ex : x ≡ start) (a : Answer) (e : a ≡ descent_checked v n x ss (length xs)) where
-  abbrev Outcome : Descended → List ℤ → Type 0
+-- v is the row with switch 0 as 1, x the start as the machine reads it
+module _ (w : List ℤ) (n : Input) (start : ℤ) (ss xs v : List ℤ) (ev : v ≡ unit_row w) (x : ℤ) (ex : x ≡ start) where
+  abbrev Outcome : Result Descended Refusal → List ℤ → Type 0
   Outcome r xs' = (r ≡ descent_answer w n start ss (length xs)) × (xs' ≡ descent_losses w n start ss xs)
 
-  checks : descent_checked (unit_row w) n start ss (length xs) ≡ a
-  checks = sym (e ∙ rw (ev, ex))
+  checks : (a : Answer) → a ≡ descent_checked v n x ss (length xs) → descent_checked (unit_row w) n start ss (length xs) ≡ a
+  checks a e = sym (e ∙ rw (ev, ex))
 
-  pub refused : (i k : ℕ) → a ≡ Refused i k → Outcome (descended.Refused i k) xs
+  pub refused : (q : Refusal) → Err q ≡ descent_checked v n x ss (length xs) → Outcome (Err q) xs
   unfolding descent_answer descent_losses
-  refused i k h = (rw (checks ∙ h), rw (checks ∙ h))
+  refused q e = (rw (checks _ e) refl, rw (checks _ e) refl)
 
-  pub answered : a ≡ Accepted → (r : Descended) (xs' : List ℤ) → Answered (density_at v n) (millimetres_of x) ss xs r xs' → Outcome r xs'
+  pub answered : (u : Unit {0}) → Ok u ≡ descent_checked v n x ss (length xs) → (d : Descended) (xs' : List ℤ) → Answered (density_at v n) (millimetres_of x) ss xs d xs' → Outcome (Ok d) xs'
   unfolding descent_answer descent_losses descent_of
-  answered h r xs' d = (d.0 ∙ rw (checks ∙ h, ev, ex), d.1 ∙ rw (checks ∙ h, ev, ex))
+  answered u e d xs' h = (ap Ok h.0 ∙ rw (checks _ e, ev, ex), h.1 ∙ rw (checks _ e, ev, ex))

@@ -1,14 +1,13 @@
 -- Document 02's W-212, a descent, orbit by orbit: its refusals in order, the descent at the model's densities, and the lent list afterwards.
-use Rattle.std.specs.Prelude.{ℕ, cond, not, List, ℤ, pos, length, set, Float}
+use Rattle.std.specs.Prelude.{ℕ, cond, not, List, ℤ, pos, length, set, Float, Err, Ok, Result}
 use Rattle.numbers.specs.Arithmetic.{◌‼◌}
 use Rattle.numbers.specs.Literals.{0·0}
+use Rattle.refusals.specs.declared.Refusal.{Refusal}
+use Rattle.refusals.specs.Refusals.{Accepted, Answer, Refused, accepted_of, refused_or}
 use Rattle.setting.specs.declared.Input.{Input}
-use Rattle.acceptance.specs.declared.Answer.{Answer}
-use Rattle.acceptance.specs.declared.Answer.TheVariants.{Accepted, Refused}
-use Rattle.acceptance.specs.Acceptance.{judged_of, accepted_of, with_alt_of}
+use Rattle.acceptance.specs.Acceptance.{judged_of, with_alt_of}
 use Rattle.atmosphere.specs.Atmosphere.{eleven_of}
 use Rattle.descent_orbits.specs.declared.Descended.{Descended}
-use Rattle.descent_orbits.specs.declared.Descended.TheVariants as descended
 use Rattle.descent_orbits.specs.DescentOrbits.{kilometres_of_millimetres, millimetres_of, Descent, descent_from, descent_refusal}
 use Rattle.descent_orbits.specs.Lent.{end_of_descent, losses_after}
 
@@ -30,14 +29,9 @@ unfoldable pub descent_checked : List ℤ → Input → ℤ → List ℤ → ℕ
 descent_checked w n start ss room =
     cond (not (accepted_of (judged_of w (with_alt_of n 0·0)))) (judged_of w (with_alt_of n 0·0)) (descent_refusal start ss room)
 
--- a refusal, or what follows where there is none
-abbrev pub descent_refused_or : Answer → Descended → Descended
-descent_refused_or Accepted rest = rest
-descent_refused_or (Refused n k) rest = descended.Refused n k
-
 -- the answer, with a lent list of room losses
-unfoldable pub descent_answer : List ℤ → Input → ℤ → List ℤ → ℕ → Descended
-descent_answer w n start ss room = descent_refused_or (descent_checked (unit_row w) n start ss room) (end_of_descent (descent_of w n start ss))
+unfoldable pub descent_answer : List ℤ → Input → ℤ → List ℤ → ℕ → Result Descended Refusal
+descent_answer w n start ss room = refused_or (descent_checked (unit_row w) n start ss room) (Ok (end_of_descent (descent_of w n start ss)))
 
 -- the lent list afterwards; refused, it is as it was
 unfoldable pub descent_losses : List ℤ → Input → ℤ → List ℤ → List ℤ → List ℤ

@@ -1,6 +1,6 @@
 -- What holds of the call: start minus end is the sum of the losses listed, the altitude never rises and stays at or above 200 km, a descent can be flown in
 -- two parts; the answer and the lent list; and the part of demand 3.
-use Rattle.std.specs.Prelude.{ℕ, ◌+◌, ◌≤◌, ◌≡◌, refl, Bool, true, false, cond, not, ℤ, pos, ◌+ℤ◌, take, Float}
+use Rattle.std.specs.Prelude.{ℕ, ◌+◌, ◌≤◌, ◌≡◌, refl, Bool, true, false, cond, not, ℤ, pos, ◌+ℤ◌, take, Float, Err, Ok, Result}
 use Rattle.std.proofs.Common.{sym, ◌∙◌, subst, true≢false}
 use Rattle.std.proofs.Math.Path.{ap, fun_ext}
 use Rattle.std.proofs.lemmas.Bool.{false≢true}
@@ -8,22 +8,21 @@ use mathlib.Core.List.{List, [], ◌∷◌, ◌++◌}
 use Rattle.std.proofs.Math.ListN.{length}
 use Rattle.numbers.specs.Arithmetic.{◌‼◌}
 use Rattle.numbers.specs.Literals.{0·0}
+use Rattle.refusals.specs.declared.Reason.{Reason}
+use Rattle.refusals.specs.declared.Refusal.{Refusal}
+use Rattle.refusals.specs.Refusals.{Accepted, Answer, Refused, accepted_of, refused_or}
 use Rattle.setting.specs.declared.Input.{Input}
 use Rattle.setting.specs.ApHistory.{lacks_history_of, asks_history_of}
-use Rattle.acceptance.specs.declared.Answer.{Answer}
-use Rattle.acceptance.specs.declared.Answer.TheVariants.{Accepted, Refused}
-use Rattle.acceptance.specs.Acceptance.{judged_of, accepted_of, with_alt_of}
+use Rattle.acceptance.specs.Acceptance.{judged_of, with_alt_of}
 use Rattle.shutoff.specs.Shut.{shut, AlikeBut, Alike}
 use Rattle.shutoff.proofs.Theorems.{Known, known, known_at, alike_at, eleven≡}
 use Rattle.descent_orbits.specs.declared.Ending.{Ending}
 use Rattle.descent_orbits.specs.declared.Ending.TheVariants.{Spent}
 use Rattle.descent_orbits.specs.declared.Descended.{Descended}
-use Rattle.descent_orbits.specs.declared.Descended.TheVariants.{Ended}
-use Rattle.descent_orbits.specs.declared.Descended.TheVariants as descended
 use Rattle.descent_orbits.specs.DescentOrbits.{lowest_altitude, kilometres_of_millimetres, millimetres_of, Descent, descent_refusal}
-use Rattle.descent_orbits.specs.Lent.{end_of_descent, losses_after}
+use Rattle.descent_orbits.specs.Lent.{end_of_descent, losses_after, Ended}
 use Rattle.descent_orbits.specs.Theorems.{total, sum, start_minus_end, listed_sum, never_rises, stays_above, all_done, joined, spent_then, ended_then, Met, accepted_met, whole_start}
-use Rattle.descent.specs.Descent.{unit_row, density_at, descent_of, descent_checked, descent_refused_or, descent_answer, descent_losses}
+use Rattle.descent.specs.Descent.{unit_row, density_at, descent_of, descent_checked, descent_answer, descent_losses}
 
 -- ---- the descent
 
@@ -61,31 +60,26 @@ module _ (w : List ℤ) (n : Input) (a : ℕ) (ss : List ℤ) where
 
 -- ---- the answer and the lent list
 
-abbrev is_ended : Descended → Bool
-is_ended (Ended e l c) = true
-is_ended (descended.Refused i k) = false
-
-abbrev pub last_in : Descended → ℕ
-last_in (Ended e l c) = l
-last_in (descended.Refused i k) = 0
-
-abbrev pub count_in : Descended → ℕ
-count_in (Ended e l c) = c
-count_in (descended.Refused i k) = 0
-
 -- an ending comes from no refusal, and a refusal from no ending
-pub ending_told : (a : Answer) (d : Descended) (e : Ending) (l c : ℕ) → descent_refused_or a d ≡ Ended e l c → (a ≡ Accepted) × (d ≡ Ended e l c)
-ending_told Accepted d e l c h = (refl, h)
-ending_told (Refused i k) d e l c h = absurd (false≢true (ap (λ (r : Descended). is_ended r) h))
+pub ending_told : (a : Answer) (x : Result Descended Refusal) (d : Descended) → refused_or a x ≡ Ok d → (a ≡ Accepted) × (x ≡ Ok d)
+ending_told (Ok v) x d h = (refl, h)
+ending_told (Err r) x d h = absurd (false≢true (ap accepted_of h))
 
-refusal_told : (a : Answer) (r : Descent) (i k : ℕ) → descent_refused_or a (end_of_descent r) ≡ descended.Refused i k → accepted_of a ≡ false
-unfolding end_of_descent
-refusal_told Accepted r i k h = absurd (true≢false (ap (λ (d : Descended). is_ended d) h))
-refusal_told (Refused j m) r i k h = refl
+refusal_told : (a : Answer) (d : Descended) (i : Reason) (k : ℕ) → refused_or a (Ok d) ≡ Refused i k → accepted_of a ≡ false
+refusal_told (Ok v) d i k h = absurd (true≢false (ap accepted_of h))
+refusal_told (Err r) d i k h = refl
+
+-- what is told of an ending
+pub of_ended : (a b : Descended) → ◌≡◌ {A = Result Descended Refusal} (Ok a) (Ok b) → a ≡ b
+of_ended a b h = ap (ended_in a) h
+  where
+    ended_in : Descended → Result Descended Refusal → Descended
+    ended_in d (Ok e) = e
+    ended_in d (Err r) = d
 
 passed : (a b : Answer) → cond (not (accepted_of a)) a b ≡ Accepted → (a ≡ Accepted) × (b ≡ Accepted)
-passed Accepted b h = (refl, h)
-passed (Refused i k) b h = (h, absurd (false≢true (ap accepted_of h)))
+passed (Ok v) b h = (refl, h)
+passed (Err r) b h = (h, absurd (false≢true (ap accepted_of h)))
 
 -- Where nothing is refused the record is accepted, and the start, the settings and the list's room are what the descent asks for.
 pub checked_met : (w : List ℤ) (n : Input) (start : ℤ) (ss : List ℤ) (room : ℕ) → descent_checked w n start ss room ≡ Accepted
@@ -97,27 +91,27 @@ checked_met w n start ss room h =
 
 module _ (w : List ℤ) (n : Input) (start : ℤ) (ss xs : List ℤ) where
   -- An ending that is answered is the descent's, and the list has its losses at its start and the rest as it was.
-  pub told : (e : Ending) (l c : ℕ) → descent_answer w n start ss (length xs) ≡ Ended e l c
+  pub told : (e : Ending) (l c : ℕ) → descent_answer w n start ss (length xs) ≡ Ok (Ended e l c)
       → (end_of_descent (descent_of w n start ss) ≡ Ended e l c) × (descent_losses w n start ss xs ≡ losses_after (descent_of w n start ss) xs)
   unfolding descent_answer descent_losses
   told e l c h =
-      let t = ending_told (descent_checked (unit_row w) n start ss (length xs)) _ e l c h in
-      (t.1, rw t.0)
+      let t = ending_told (descent_checked (unit_row w) n start ss (length xs)) _ (Ended e l c) h in
+      (of_ended _ _ t.1, rw t.0)
 
   -- 'Start minus end equals the sum of the losses listed': the first c entries of the list afterwards, c the count that is answered
-  pub losses_listed_sum : (e : Ending) (l c : ℕ) → descent_answer w n start ss (length xs) ≡ Ended e l c → start ≡ pos l +ℤ sum (take c (descent_losses w n start ss xs))
+  pub losses_listed_sum : (e : Ending) (l c : ℕ) → descent_answer w n start ss (length xs) ≡ Ok (Ended e l c) → start ≡ pos l +ℤ sum (take c (descent_losses w n start ss xs))
   unfolding descent_answer descent_of end_of_descent
   losses_listed_sum e l c h =
       let t = told e l c h in
-      let last : (descent_of w n start ss).last ≡ l = ap (λ (d : Descended). last_in d) t.0 in
-      let count : length (descent_of w n start ss).losses ≡ c = ap (λ (d : Descended). count_in d) t.0 in
-      let m = (checked_met (unit_row w) n start ss (length xs) (ending_told (descent_checked (unit_row w) n start ss (length xs)) _ e l c h).0).1 in
+      let last : (descent_of w n start ss).last ≡ l = ap (λ (d : Descended). d.last) t.0 in
+      let count : length (descent_of w n start ss).losses ≡ c = ap (λ (d : Descended). d.taken) t.0 in
+      let m = (checked_met (unit_row w) n start ss (length xs) (ending_told (descent_checked (unit_row w) n start ss (length xs)) _ (Ended e l c) h).0).1 in
       whole_start start m.within ∙ (listed_sum (density_at (unit_row w) n) ss (millimetres_of start) xs ∙ rw (t.1, last, count))
 
   -- Refused, the list is as it was.
-  pub kept : (i k : ℕ) → descent_answer w n start ss (length xs) ≡ descended.Refused i k → descent_losses w n start ss xs ≡ xs
+  pub kept : (i : Reason) (k : ℕ) → descent_answer w n start ss (length xs) ≡ Refused i k → descent_losses w n start ss xs ≡ xs
   unfolding descent_answer descent_losses
-  kept i k h = rw (refusal_told (descent_checked (unit_row w) n start ss (length xs)) (descent_of w n start ss) i k h)
+  kept i k h = rw (refusal_told (descent_checked (unit_row w) n start ss (length xs)) (end_of_descent (descent_of w n start ss)) i k h)
 
 -- ---- switch 0
 

@@ -4,17 +4,18 @@
 
 ghost use Rattle.std.specs.Prelude.{◌≡◌, true, ◌≤◌, length};
 ghost use Rattle.numbers.specs.Literals.{0·0};
-ghost use Rattle.acceptance.specs.declared.Answer.TheVariants.{Accepted};
+ghost use Rattle.refusals.specs.Refusals.{Accepted};
 ghost use Rattle.acceptance.specs.Acceptance.{judged_of, with_alt_of};
 ghost use Rattle.descent_orbits.specs.DescentOrbits.{start_within, millimetres_of, descent_from};
 ghost use Rattle.descent_orbits.specs.Lent.{end_of_descent, losses_after};
 ghost use Rattle.descent.specs.Descent.{unit_row, density_at, descent_checked, descent_answer, descent_losses};
 ghost use Rattle.descent.specs.Stored.{station_density};
 
-use acceptance::{Answer, accepted, judge, with_alt};
+use acceptance::{judge, with_alt};
 use descent_orbits::{
     Descended, Ending, Orbit, kilometres, millimetres, orbit_at, put_loss, refusal,
 };
+use refusals::Refusal;
 use setting::Input;
 use station::{gtd7, prepare};
 
@@ -42,7 +43,7 @@ pub fn density(whole: &[i32], numbers: &[f64], a: u64) -> f64
 {
     let mut row = [0.0; 11];
     let z = kilometres(a);
-    gtd7(whole, numbers, z, &mut row);
+    let _ = gtd7(whole, numbers, z, &mut row);
     row[5]
 }
 
@@ -59,20 +60,27 @@ pub fn orbits(
         × (losses.new ≡ losses_after (descent_from (station_density whole.now numbers.now) start settings.now) losses.old) }
 {
     let mut a = start;
-    let mut i: usize = 0;
-    while i < settings.len() {
+    for (i, setting) in settings.iter().enumerate() {
         let d = density(whole, numbers, a);
-        let o = orbit_at(a, d, settings[i]);
-        match o {
-            Orbit::Ends(e) => return Descended::Ended(e, a, i),
+        match orbit_at(a, d, *setting) {
+            Orbit::Ends(ending) => {
+                return Descended {
+                    ending,
+                    last: a,
+                    taken: i,
+                };
+            }
             Orbit::Loses(loss) => {
                 put_loss(losses, i, loss);
                 a -= loss;
-                i += 1;
             }
         }
     }
-    Descended::Ended(Ending::Spent, a, i)
+    Descended {
+        ending: Ending::Spent,
+        last: a,
+        taken: settings.len(),
+    }
 }
 
 // The descent of a record that is accepted, from a start that is.
@@ -84,20 +92,22 @@ pub fn flown(w: [i32; 24], n: Input, start: i64, settings: &[i32], losses: &mut 
     values(n);
     let mut whole = [0; 27];
     let mut numbers = [0.0; 259];
-    prepare(w, n, &mut whole, &mut numbers);
+    let _ = prepare(w, n, &mut whole, &mut numbers);
     let a = millimetres(start);
     orbits(&whole, &numbers, a, settings, losses)
 }
 
 // The record's refusals, its altitude not looked at; then 17, 18 and 19.
-pub fn checked(w: [i32; 24], n: Input, start: i64, settings: &[i32], room: usize) -> Answer
+pub fn checked(
+    w: [i32; 24],
+    n: Input,
+    start: i64,
+    settings: &[i32],
+    room: usize,
+) -> Result<(), Refusal>
     ensures { result ≡ descent_checked w n start settings.now room }
 {
-    let m = with_alt(n, 0.0);
-    let a = judge(w, m);
-    if !accepted(a) {
-        return a;
-    }
+    judge(w, with_alt(n, 0.0))?;
     refusal(start, settings, room)
 }
 
@@ -108,14 +118,11 @@ pub fn descent(
     start: i64,
     settings: &[i32],
     losses: &mut [i64],
-) -> Descended
+) -> Result<Descended, Refusal>
     ensures { (result ≡ descent_answer w n start settings.now (length losses.old))
         × (losses.new ≡ descent_losses w n start settings.now losses.old) }
 {
     let v = unit_row(w);
-    let a = checked(v, n, start, settings, losses.len());
-    match a {
-        Answer::Refused(number, place) => Descended::Refused(number, place),
-        Answer::Accepted => flown(v, n, start, settings, losses),
-    }
+    checked(v, n, start, settings, losses.len())?;
+    Ok(flown(v, n, start, settings, losses))
 }

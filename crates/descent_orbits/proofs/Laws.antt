@@ -14,11 +14,12 @@ use lib.Seq.{drop-cons, drop-length}
 use lib.Signed.{lt_z, non_neg}
 use lib.Ieee.{Float, nan, inf, fin, up, down, lt, ne, eq, is_nan, of_bits}
 use lib.Ieee.Scale.{finite}
+use Rattle.refusals.specs.Refusals.{Accepted, Refused}
+use Rattle.refusals.specs.declared.Reason.TheVariants.{ListOfLosses, SettingOutside, StartOutside}
 use Rattle.fixed_point.specs.Fixed.{scaled_of}
 use Rattle.fixed_point.proofs.Range.{clash}
 use Rattle.numbers.specs.Literals.{0·0, 1·0E9}
 use Rattle.numbers.specs.Booleans.{both}
-use Rattle.acceptance.specs.declared.Answer.TheVariants.{Accepted, Refused}
 use Rattle.descent_orbits.specs.declared.Ending.{Ending}
 use Rattle.descent_orbits.specs.declared.Ending.TheVariants.{NoDensity, Reached}
 use Rattle.descent_orbits.specs.declared.Orbit.TheVariants.{Ends, Loses}
@@ -146,22 +147,22 @@ all_fit ss i h = rw (h, drop-length ss)
 -- ---- the refusals; x is the start as the machine reads it
 
 module _ (start : ℤ) (ss : List ℤ) (room : ℕ) (x : ℤ) (f : x ≡ start) (t : Bool) (e : t ≡ start_within x) where
-  pub start_off : not t ≡ true → Refused 17 0 ≡ descent_refusal start ss room
+  pub start_off : not t ≡ true → Refused StartOutside 0 ≡ descent_refusal start ss room
   unfolding descent_refusal
   start_off h = rw (← f) (simp (← e) (simp h))
 
   module _ (h : not t ≡ false) (k : ℕ) (g : k ≡ unfit_setting ss) where
-    pub ill_set : k < length ss → Refused 18 (k + 1) ≡ descent_refusal start ss room
+    pub ill_set : k < length ss → Refused SettingOutside (k + 1) ≡ descent_refusal start ss room
     unfolding descent_refusal
     ill_set l = rw (← f, ← g) (simp (← e, lt-ltb _ _ l) (simp h))
 
     module _ (l : length ss ≤ k) where
-      pub too_many : 10000 < length ss → Refused 19 10000 ≡ descent_refusal start ss room
+      pub too_many : 10000 < length ss → Refused ListOfLosses 10000 ≡ descent_refusal start ss room
       unfolding descent_refusal
       too_many m = rw (← f, ← g) (simp (← e, le-ltb _ _ l, lt-ltb _ _ m) (simp h))
 
       module _ (m : length ss ≤ 10000) where
-        pub no_room : room < length ss → Refused 19 (length ss) ≡ descent_refusal start ss room
+        pub no_room : room < length ss → Refused ListOfLosses (length ss) ≡ descent_refusal start ss room
         unfolding descent_refusal
         no_room n = rw (← f, ← g) (simp (← e, le-ltb _ _ l, le-ltb _ _ m, lt-ltb _ _ n) (simp h))
 

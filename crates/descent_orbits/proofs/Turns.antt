@@ -13,9 +13,8 @@ use Rattle.descent_orbits.specs.declared.Ending.TheVariants.{Spent}
 use Rattle.descent_orbits.specs.declared.Orbit.{Orbit}
 use Rattle.descent_orbits.specs.declared.Orbit.TheVariants.{Ends, Loses}
 use Rattle.descent_orbits.specs.declared.Descended.{Descended}
-use Rattle.descent_orbits.specs.declared.Descended.TheVariants.{Ended}
 use Rattle.descent_orbits.specs.DescentOrbits.{lowest_altitude, density_by_setting, orbit_of, Descent, ended, lost, orbit_then, descent_from}
-use Rattle.descent_orbits.specs.Lent.{end_of_descent, losses_after}
+use Rattle.descent_orbits.specs.Lent.{end_of_descent, losses_after, Ended}
 use Rattle.descent_orbits.specs.Theorems.{Sound, orbit_sound}
 
 -- a descent with losses before it

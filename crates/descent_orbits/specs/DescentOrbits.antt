@@ -4,8 +4,8 @@ use Rattle.std.specs.Float.{nan, inf, fin, binary64}
 use Rattle.std.specs.Float.Ieee.{up, down, lt, is_nan, of_int}
 use Rattle.numbers.specs.Arithmetic.{◌⊗◌, ◌⊘◌}
 use Rattle.numbers.specs.Literals.{0·0, 1·0E6, 1·0E9, 1·0E15}
-use Rattle.acceptance.specs.declared.Answer.{Answer}
-use Rattle.acceptance.specs.declared.Answer.TheVariants.{Accepted, Refused}
+use Rattle.refusals.specs.Refusals.{Accepted, Answer, Refused}
+use Rattle.refusals.specs.declared.Reason.TheVariants.{ListOfLosses, SettingOutside, StartOutside}
 use Rattle.descent_orbits.specs.declared.Ending.{Ending}
 use Rattle.descent_orbits.specs.declared.Ending.TheVariants.{NoDensity, Reached, Spent}
 use Rattle.descent_orbits.specs.declared.Orbit.{Orbit}
@@ -102,7 +102,7 @@ unfit_setting ss = unfit_setting_from 0 ss
 -- settings (place 10,000), else a loss list shorter than the settings (place, the length needed)'
 unfoldable pub descent_refusal : ℤ → List ℤ → ℕ → Answer
 descent_refusal start ss room =
-    cond (not (start_within start)) (Refused 17 0)
-    (cond (ltb (unfit_setting ss) (length ss)) (Refused 18 (unfit_setting ss + 1))
-    (cond (ltb 10000 (length ss)) (Refused 19 10000)
-    (cond (ltb room (length ss)) (Refused 19 (length ss)) Accepted)))
+    cond (not (start_within start)) (Refused StartOutside 0)
+    (cond (ltb (unfit_setting ss) (length ss)) (Refused SettingOutside (unfit_setting ss + 1))
+    (cond (ltb 10000 (length ss)) (Refused ListOfLosses 10000)
+    (cond (ltb room (length ss)) (Refused ListOfLosses (length ss)) Accepted)))

@@ -3,8 +3,10 @@ use Rattle.std.specs.Prelude.{ℕ, List, [], ◌∷◌, ◌++◌, map, ℤ, pos,
 use Rattle.descent_orbits.specs.declared.Ending.{Ending}
 use Rattle.descent_orbits.specs.declared.Ending.TheVariants.{NoDensity, Reached, Spent}
 use Rattle.descent_orbits.specs.declared.Descended.{Descended}
-use Rattle.descent_orbits.specs.declared.Descended.TheVariants.{Ended}
 use Rattle.descent_orbits.specs.DescentOrbits.{Descent}
+
+abbrev pub Ended : Ending → ℕ → ℕ → Descended
+Ended e last taken = record { ending = e; last = last; taken = taken }
 
 -- 'the ending, the last altitude and how many losses were taken'
 unfoldable pub end_of_descent : Descent → Descended

@@ -7,9 +7,9 @@ use Rattle.std.proofs.lemmas.Bool.{false≢true}
 use mathlib.Core.List.{List, [], ◌∷◌, ◌++◌, map}
 use Rattle.std.proofs.Math.IntN.{pos, pos-+ℤ-pos}
 use Rattle.std.proofs.lemmas.List.{length-map}
-use Rattle.acceptance.specs.declared.Answer.{Answer}
-use Rattle.acceptance.specs.declared.Answer.TheVariants.{Accepted, Refused}
-use Rattle.acceptance.specs.Acceptance.{accepted_of}
+use Rattle.refusals.specs.Refusals.{Accepted, Answer, Refused, accepted_of}
+use Rattle.refusals.specs.declared.Reason.{Reason}
+use Rattle.refusals.specs.declared.Reason.TheVariants.{ListOfLosses, SettingOutside, StartOutside}
 use Rattle.descent_orbits.specs.declared.Ending.{Ending}
 use Rattle.descent_orbits.specs.declared.Ending.TheVariants.{NoDensity, Reached, Spent}
 use Rattle.descent_orbits.specs.declared.Orbit.{Orbit}
@@ -179,7 +179,7 @@ same_descent d e same (s ∷ ss) a h g =
 
 -- ---- refusals
 
-none : (b : Bool) (n k : ℕ) (x : Answer) → accepted_of (cond b (Refused n k) x) ≡ true → (b ≡ false) × (accepted_of x ≡ true)
+none : (b : Bool) (n : Reason) (k : ℕ) (x : Answer) → accepted_of (cond b (Refused n k) x) ≡ true → (b ≡ false) × (accepted_of x ≡ true)
 none true n k x e = absurd (false≢true e)
 none false n k x e = (refl, e)
 
@@ -244,10 +244,10 @@ pub record Met (start : ℤ) (ss : List ℤ) (room : ℕ) : Type 0 where
 pub accepted_met : (start : ℤ) (ss : List ℤ) (room : ℕ) → accepted_of (descent_refusal start ss room) ≡ true → Met start ss room
 unfolding descent_refusal
 accepted_met start ss room h =
-    let a = none (not (start_within start)) 17 0 _ h in
-    let b = none (ltb (unfit_setting ss) (length ss)) 18 (unfit_setting ss + 1) _ a.1 in
-    let c = none (ltb 10000 (length ss)) 19 10000 _ b.1 in
-    let e = none (ltb room (length ss)) 19 (length ss) Accepted c.1 in
+    let a = none (not (start_within start)) StartOutside 0 _ h in
+    let b = none (ltb (unfit_setting ss) (length ss)) SettingOutside (unfit_setting ss + 1) _ a.1 in
+    let c = none (ltb 10000 (length ss)) ListOfLosses 10000 _ b.1 in
+    let e = none (ltb room (length ss)) ListOfLosses (length ss) Accepted c.1 in
     record { within = positive _ a.0; set = ltb-false _ _ b.0; few = ltb-false _ _ c.0; fits = ltb-false _ _ e.0 }
 
 -- a start that is accepted is its millimetres

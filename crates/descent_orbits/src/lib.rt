@@ -3,18 +3,19 @@
 #![tactic(auto)]
 
 ghost use Rattle.std.specs.Prelude.{◌≡◌, true, false, ◌≤◌, ◌<◌, pos, length, set};
+ghost use Rattle.refusals.specs.Refusals.{index_below};
 ghost use Rattle.descent_orbits.specs.DescentOrbits.{whole_part, density_by_setting, no_density_of, orbit_of, kilometres_of_millimetres, start_within, millimetres_of, setting_within, unfit_setting, descent_refusal};
 ghost use Rattle.descent_orbits.specs.Lent.{ending_number, end_numbers};
 
-use acceptance::Answer;
 use fixed_point::scaled;
+use refusals::{Reason, Refusal};
 
-// How a descent ends.
-#[derive(Clone, Copy)]
+// How a descent ends, with its number in the C call.
+#[derive(Clone, Copy, Debug, PartialEq, Eq)]
 pub enum Ending {
-    NoDensity,
-    Reached,
-    Spent,
+    NoDensity = 1,
+    Reached = 2,
+    Spent = 3,
 }
 
 // What an orbit does: it ends the descent, or it takes its loss in millimetres.
@@ -24,11 +25,12 @@ pub enum Orbit {
     Loses(u64),
 }
 
-// A descent's answer: how it ended, its last altitude in millimetres and how many losses it took; or a refusal's number and place.
+// How a descent ended, its last altitude in millimetres and how many losses it took.
 #[derive(Clone, Copy)]
-pub enum Descended {
-    Ended(Ending, u64, usize),
-    Refused(usize, usize),
+pub struct Descended {
+    pub ending: Ending,
+    pub last: u64,
+    pub taken: usize,
 }
 
 // ---- an orbit
@@ -112,41 +114,36 @@ pub fn setting_within(s: i32) -> bool
     true
 }
 
-// The index of the first setting outside 1 to 4, or how many there are.
-pub fn unfit(settings: &[i32]) -> usize
-    ensures { (result ≡ unfit_setting settings.now) × (result ≤ length settings.now) }
+// The index of the first setting outside 1 to 4.
+pub fn unfit(settings: &[i32]) -> Option<usize>
+    ensures { result ≡ index_below (unfit_setting settings.now) (length settings.now) }
 {
-    let mut i: usize = 0;
-    while i < settings.len() {
-        let s = settings[i];
-        if !setting_within(s) {
-            return i;
+    for (i, s) in settings.iter().enumerate() {
+        if !setting_within(*s) {
+            return Some(i);
         }
-        i += 1;
     }
-    i
+    None
 }
 
 // 17, then 18, then 19.
-pub fn refusal(start: i64, settings: &[i32], room: usize) -> Answer
+pub fn refusal(start: i64, settings: &[i32], room: usize) -> Result<(), Refusal>
     ensures { result ≡ descent_refusal start settings.now room }
 {
     if !start_within(start) {
-        return Answer::Refused(17, 0);
+        return Err(Reason::StartOutside.at(0));
+    }
+    if let Some(i) = unfit(settings) {
+        return Err(Reason::SettingOutside.at(i + 1));
     }
     let count = settings.len();
-    let k = unfit(settings);
-    let orbit = k + 1;
-    if k < count {
-        return Answer::Refused(18, orbit);
-    }
     if 10000 < count {
-        return Answer::Refused(19, 10000);
+        return Err(Reason::ListOfLosses.at(10000));
     }
     if room < count {
-        return Answer::Refused(19, count);
+        return Err(Reason::ListOfLosses.at(count));
     }
-    Answer::Accepted
+    Ok(())
 }
 
 // ---- the lent memory
@@ -163,19 +160,15 @@ pub fn put_loss(losses: &mut [i64], i: usize, loss: u64)
 pub fn ending_number(e: Ending) -> i64
     ensures { result ≡ pos (ending_number e) }
 {
-    match e {
-        Ending::NoDensity => 1,
-        Ending::Reached => 2,
-        Ending::Spent => 3,
-    }
+    e as i64
 }
 
 // The ending, the last altitude and the count as three numbers, for the C call.
-pub fn put_end(end: &mut [i64], e: Ending, last: u64, taken: usize)
-    requires { (length end.old ≡ 3) × (last ≤ 1000000000) × (taken ≤ 10000) }
-    ensures { end.new ≡ end_numbers e last taken }
+pub fn put_end(end: &mut [i64], d: Descended)
+    requires { (length end.old ≡ 3) × (d.last ≤ 1000000000) × (d.taken ≤ 10000) }
+    ensures { end.new ≡ end_numbers d.ending d.last d.taken }
 {
-    end[0] = ending_number(e);
-    end[1] = last as i64;
-    end[2] = taken as i64;
+    end[0] = ending_number(d.ending);
+    end[1] = d.last as i64;
+    end[2] = d.taken as i64;
 }

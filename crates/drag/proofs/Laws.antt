@@ -5,9 +5,9 @@ use mathlib.Core.List.{List}
 use lib.IntN.{ℤ}
 use lib.ListN.{length}
 use lib.Ieee.{Float}
+use Rattle.refusals.specs.Refusals.{accepted_of}
 use Rattle.setting.specs.declared.Input.{Input}
 use Rattle.setting.specs.Switches.{sw_at}
-use Rattle.acceptance.specs.Acceptance.{accepted_of}
 use Rattle.atmosphere.specs.Atmosphere.{answer_of, row_after}
 use Rattle.drag_sum.specs.DragSum.{dragged_of}
 use Rattle.drag.specs.Drag.{drag_of, drag_after}

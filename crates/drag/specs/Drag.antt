@@ -1,8 +1,8 @@
 -- gtd7d: the eleven numbers of gtd7 with d[5] summed again, and the lent row. The answer is gtd7's, `answer_of`.
 use Rattle.std.specs.Prelude.{cond, List, ℤ, length, Float}
+use Rattle.refusals.specs.Refusals.{accepted_of}
 use Rattle.setting.specs.declared.Input.{Input}
 use Rattle.setting.specs.Switches.{sw_at}
-use Rattle.acceptance.specs.Acceptance.{accepted_of}
 use Rattle.atmosphere.specs.Atmosphere.{eleven_of, answer_of}
 use Rattle.drag_sum.specs.DragSum.{dragged_of}
 

@@ -5,11 +5,9 @@ use Rattle.std.specs.Float.{nan}
 use Rattle.std.specs.Float.Ieee.{ne, of_bits}
 use Rattle.numbers.specs.Arithmetic.{◌⊘◌, ◌‼◌}
 use Rattle.numbers.specs.Literals.{0·0, 1000·0}
+use Rattle.refusals.specs.Refusals.{Accepted, Answer, accepted_of}
 use Rattle.setting.specs.declared.Input.{Input}
 use Rattle.setting.specs.Switches.{on_off, sw_at}
-use Rattle.acceptance.specs.declared.Answer.{Answer}
-use Rattle.acceptance.specs.declared.Answer.TheVariants.{Accepted}
-use Rattle.acceptance.specs.Acceptance.{accepted_of}
 use Rattle.atmosphere.specs.Atmosphere.{eleven_of, answer_of, row_after}
 use Rattle.shutoff.specs.Shut.{one, Alike}
 use Rattle.shutoff.proofs.Theorems.{demand_3}

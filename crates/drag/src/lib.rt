@@ -7,9 +7,9 @@ ghost use Rattle.setting.specs.Switches.{given, is_one, on_off};
 ghost use Rattle.atmosphere.specs.Atmosphere.{answer_of};
 ghost use Rattle.drag.specs.Drag.{drag_after};
 
-use acceptance::{Answer, accepted};
 use atmosphere::gtd7;
 use drag_sum::drag_on;
+use refusals::Refusal;
 use setting::Input;
 use setting::switches::main_of;
 
@@ -21,14 +21,11 @@ pub fn zero_in(w: [i32; 24]) -> f64
 }
 
 // Refused as gtd7 refuses, the row as it was; accepted, gtd7's row with d[5] summed again.
-pub fn gtd7d(w: [i32; 24], n: Input, out: &mut [f64]) -> Answer
+pub fn gtd7d(w: [i32; 24], n: Input, out: &mut [f64]) -> Result<(), Refusal>
     ensures { (result ≡ answer_of w n (length out.old)) × (out.new ≡ drag_after w n out.old) }
 {
-    let a = gtd7(w, n, out);
-    if !accepted(a) {
-        return a;
-    }
+    gtd7(w, n, out)?;
     let sw0 = zero_in(w);
     drag_on(sw0, out);
-    a
+    Ok(())
 }

@@ -5,7 +5,7 @@ use Rattle.numbers.specs.Arithmetic.{◌⊗◌, ◌‼◌}
 use Rattle.numbers.specs.Literals.{0·0, 1·0, 2·0}
 use Rattle.setting.specs.declared.State.{State}
 use Rattle.setting.specs.declared.View.{View}
-use Rattle.setting.specs.declared.Valued.{Valued}
+use Rattle.setting.specs.declared.Left.{Left}
 use Rattle.expansion_parts.specs.declared.Seasons.{Seasons}
 use Rattle.expansion_parts.specs.declared.LongitudeSeasons.{LongitudeSeasons}
 use Rattle.expansion.specs.declared.FirstTerms.{FirstTerms}
@@ -110,7 +110,7 @@ state_after v p s =
     }
 
 -- globe7 from a View
-unfoldable pub globe7_of : View → List Float → State → Valued
+unfoldable pub globe7_of : View → List Float → State → Left Float
 globe7_of v p s =
     let a = state_after v p s in record { value = globe7_value v p (rows_of a.plg) (carried_of a); state = a }
 

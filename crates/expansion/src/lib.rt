@@ -13,7 +13,7 @@ use expansion_parts::{
 };
 use legendre::{flat, legendre, rows};
 use numbers::pick;
-use setting::{State, Valued, View};
+use setting::{Left, State, View};
 use terms::{f1, f2, t0, t1, t1s, t2s, t3, t3s, t4, t4s, t5};
 use views::Turns;
 
@@ -148,7 +148,7 @@ pub fn after(v: View, p: &[f64], s: State) -> State
 }
 
 // globe7 from a View.
-pub fn globe7(v: View, p: &[f64], s: State) -> Valued
+pub fn globe7(v: View, p: &[f64], s: State) -> Left<f64>
     requires { (length p.now ≡ 150) × Shared v }
     ensures { result ≡ globe7_of v p.now s }
 {
@@ -166,7 +166,7 @@ pub fn globe7(v: View, p: &[f64], s: State) -> Valued
         p[38],
     );
     let x = globe7_value(v, p, g, c, d);
-    Valued { value: x, state: a }
+    Left { value: x, state: a }
 }
 
 // The value of glob7s, with its cosines of the day; e are those of the longitude's term.

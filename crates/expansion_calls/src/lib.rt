@@ -3,69 +3,61 @@
 #![tactic(auto)]
 
 ghost use Rattle.std.specs.Prelude.{◌≡◌};
-ghost use Rattle.expansion_calls.specs.ExpansionCalls.{globe7_call_of, glob7s_call_of};
+ghost use Rattle.expansion_calls.specs.ExpansionCalls.{refusal_number, refusal_place, globe7_call_of, glob7s_call_of};
 
 use setting::ap_history::lacks_history;
-use setting::{Input, State};
+use setting::{Input, Left, State};
 use views::view_of;
 
-// What an expansion's call gives: refused is document 01's number with its place, or 0 and 0 where the call is accepted.
-// A refused call gives the value 0 and the State that it was given.
+// Why a call is refused: it needs so many coefficients, or the history that switch 9 asks for is lacking.
 #[derive(Clone, Copy)]
-pub struct Expanded {
-    pub refused: usize,
-    pub place: usize,
-    pub value: f64,
-    pub state: State,
+pub enum ExpansionRefusal {
+    Coefficients(usize),
+    NoHistory,
 }
 
-pub fn globe7(w: [i32; 24], n: Input, p: &[f64], s: State) -> Expanded
+impl ExpansionRefusal {
+    // Document 01's number.
+    pub fn number(self) -> usize
+        ensures { result ≡ refusal_number self }
+    {
+        match self {
+            ExpansionRefusal::Coefficients(_) => 6,
+            ExpansionRefusal::NoHistory => 1,
+        }
+    }
+
+    pub fn place(self) -> usize
+        ensures { result ≡ refusal_place self }
+    {
+        match self {
+            ExpansionRefusal::Coefficients(needed) => needed,
+            ExpansionRefusal::NoHistory => 10,
+        }
+    }
+}
+
+pub fn globe7(w: [i32; 24], n: Input, p: &[f64], s: State) -> Result<Left<f64>, ExpansionRefusal>
     ensures { result ≡ globe7_call_of w n p.now s }
 {
     if p.len() != 150 {
-        return Expanded {
-            refused: 6,
-            place: 150,
-            value: 0.0,
-            state: s,
-        };
+        return Err(ExpansionRefusal::Coefficients(150));
     }
     if lacks_history(w, n) {
-        return Expanded {
-            refused: 1,
-            place: 10,
-            value: 0.0,
-            state: s,
-        };
+        return Err(ExpansionRefusal::NoHistory);
     }
     let v = view_of(w, n);
     let a = expansion::globe7(v, p, s);
-    let t = a.state;
-    Expanded {
-        refused: 0,
-        place: 0,
-        value: a.value,
-        state: t,
-    }
+    Ok(a)
 }
 
-pub fn glob7s(w: [i32; 24], n: Input, p: &[f64], s: State) -> Expanded
+pub fn glob7s(w: [i32; 24], n: Input, p: &[f64], s: State) -> Result<Left<f64>, ExpansionRefusal>
     ensures { result ≡ glob7s_call_of w n p.now s }
 {
     if (p.len() < 100) | (150 < p.len()) {
-        return Expanded {
-            refused: 6,
-            place: 100,
-            value: 0.0,
-            state: s,
-        };
+        return Err(ExpansionRefusal::Coefficients(100));
     }
     let v = view_of(w, n);
     let a = expansion::glob7s(v, p, s);
-    Expanded {
-        refused: 0,
-        place: 0,
-        value: a,
-        state: s,
-    }
+    Ok(Left { value: a, state: s })
 }

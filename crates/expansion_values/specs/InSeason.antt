@@ -1,27 +1,25 @@
 -- Where the season holds what the sets that are needed read, the values out of it are the expansions' values.
 use Rattle.std.specs.Prelude.{ℕ, zero, suc, ◌+◌, ◌*◌, ◌<◌, ◌≤◌, ◌≡◌, refl, Bool, true, false, cond, not, ◌&&◌, ◌||◌, List, ℤ, set, replicate, Float}
-use Rattle.std.proofs.Common.{sym, ap₂, ◌∙◌, arith}
+use Rattle.std.proofs.Common.{ap₂, ◌∙◌, arith}
 use Rattle.std.proofs.Math.Path.{ap}
 use Rattle.std.specs.Float.{binary64}
 use Rattle.std.specs.Float.Ieee.{of_int, eq, of_bits}
 use Rattle.numbers.specs.Arithmetic.{◌‼◌}
-use Rattle.numbers.specs.Literals.{0·0, 1·0}
+use Rattle.numbers.specs.Literals.{0·0}
 use Rattle.setting.specs.declared.Input.{Input}
 use Rattle.setting.specs.declared.View.{View}
 use Rattle.setting.specs.Switches.{given, is_one, on_off, filled, sw_of}
 use Rattle.views.specs.View.{view_of}
 use Rattle.expansion_parts.specs.declared.Seasons.{Seasons}
 use Rattle.expansion_parts.specs.declared.LongitudeSeasons.{LongitudeSeasons}
-use Rattle.expansion_parts.specs.ExpansionParts.{day_cosines_of, longitude_cosines_of, t10s_given}
+use Rattle.expansion_parts.specs.ExpansionParts.{longitude_cosines_of, t10s_given}
 use Rattle.expansion.specs.declared.Carried.{Carried}
 use Rattle.expansion.specs.Expansion.{globe7_given, globe7_value, glob7s_given, glob7s_from_given, glob7s_from}
 use Rattle.tables.specs.Tables.{pd_t3, pd_t7, pd_t8}
-use Rattle.plan.specs.declared.ExpansionValues.{ExpansionValues}
 use Rattle.needed_sets.specs.declared.Need.{Need}
 use Rattle.needed_sets.specs.NeededSets.{globe7_needed, glob7s_needed}
 use Rattle.needed_sets.specs.Sets.{globe7_sets, globe7_set, glob7s_sets, glob7s_set}
 use Rattle.season.specs.Season.{Seasoned, seasons_at, longitude_seasons_at}
-use Rattle.expansion_values.specs.declared.RecordValues.{RecordValues}
 use Rattle.expansion_values.specs.ExpansionValues.{legendre_in, quiet_of, active_of, wide_of, expansion_values_of, record_values_of}
 use Rattle.expansion_values.specs.Sets.{globe7_before, globe7_at, globe7_values, glob7s_before, glob7s_at, glob7s_values, wide_given, globe7_at_given, globe7_values_given, glob7s_at_given, glob7s_values_given, named_values, expansion_values_given, record_values_given}
 

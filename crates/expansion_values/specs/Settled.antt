@@ -8,7 +8,7 @@ use Rattle.numbers.specs.Arithmetic.{◌‼◌}
 use Rattle.numbers.specs.Literals.{0·0, 1·0, 1·0E-4}
 use Rattle.setting.specs.declared.State.{State}
 use Rattle.setting.specs.declared.View.{View}
-use Rattle.setting.specs.declared.Valued.{Valued}
+use Rattle.setting.specs.declared.Left.{Left}
 use Rattle.setting.specs.State.{fresh_of}
 use Rattle.legendre.specs.Legendre.{legendre_of, legendre0_of, legendre1_of, legendre2_of, legendre3_of, flat_of, rows_of, row0_of, row1_of, row2_of, row3_of}
 use Rattle.activity.specs.Activity.{apdf_next_of, apt_next_of, apdf_from_of, sg0_of, exp1_of}
@@ -134,7 +134,7 @@ module _ (v : View) (g : Ask → Float) where
         after = h.after;
         fits = h.fits;
         ran = λ x.
-            ap (λ (r : Valued). run v (k r.value) r.state) (answer_fields v q s x)
+            ap (λ (r : Left Float). run v (k r.value) r.state) (answer_fields v q s x)
             ∙ ap₂ (λ (y : Float) (u : State). run v (k y) (with_fields u x)) e f
             ∙ h.ran x;
       }

@@ -6,7 +6,7 @@ ghost use Rattle.std.specs.Prelude.{◌≡◌, ◌+◌, ◌*◌, ◌<◌, ◌≤
 ghost use Rattle.std.specs.Float.{binary64};
 ghost use Rattle.std.specs.Float.Ieee.{of_int};
 ghost use Rattle.numbers.specs.Literals.{0·0};
-ghost use Rattle.tables.specs.Tables.{pt_t, pd_t0, pd_t1, pd_t3, pd_t7, pd_t8};
+ghost use Rattle.tables.specs.Tables.{pt_t, pd_t3, pd_t7, pd_t8};
 ghost use Rattle.views.specs.Shared.{Shared};
 ghost use Rattle.expansion.specs.Expansion.{globe7_given, glob7s_from_given};
 ghost use Rattle.numbers.specs.Arithmetic.{◌‼◌};
@@ -91,29 +91,12 @@ pub fn activity_of(
     }
 }
 
-// The activity of PT, which every set but PD[0] and PD[1] has.
-pub fn common(v: View) -> Activity
-    ensures { result ≡ activity_in v pt_t }
+// The activity of a set. It stands in line: a set that is lent to a function that does not is written to memory whole.
+#[inline(always)]
+pub fn activity_by(v: View, p: &[f64]) -> Activity
+    requires { length p.now ≡ 150 }
+    ensures { result ≡ activity_in v p.now }
 {
-    let p = pt();
-    let h = v.ap_array;
-    activity_of(v.sw[9], v.ap, h, p[43], p[44], p[24], p[25])
-}
-
-// The activity of PD[0].
-pub fn activity0(v: View) -> Activity
-    ensures { result ≡ activity_in v pd_t0 }
-{
-    let p = pd0();
-    let h = v.ap_array;
-    activity_of(v.sw[9], v.ap, h, p[43], p[44], p[24], p[25])
-}
-
-// The activity of PD[1].
-pub fn activity1(v: View) -> Activity
-    ensures { result ≡ activity_in v pd_t1 }
-{
-    let p = pd1();
     let h = v.ap_array;
     activity_of(v.sw[9], v.ap, h, p[43], p[44], p[24], p[25])
 }
@@ -222,16 +205,13 @@ pub fn put_needed_set(on: bool, k: usize, p: &mut [f64; 150])
     put_globe7_set(k, p);
 }
 
-// The activity of the set k: PD[0] and PD[1] have their own, every other set has PT's, which is a.
-pub fn globe7_activity(k: usize, v: View, a: Activity) -> Activity
-    requires { a ≡ activity_in v pt_t }
+// The activity of the set k, which is p: PD[0] and PD[1] have their own, every other set has PT's, which is a.
+pub fn globe7_activity(k: usize, v: View, p: &[f64], a: Activity) -> Activity
+    requires { (length p.now ≡ 150) × (p.now ≡ globe7_set k) × (a ≡ activity_in v pt_t) }
     ensures { result ≡ activity_in v (globe7_set k) }
 {
-    if k == 1 {
-        return activity0(v);
-    }
-    if k == 2 {
-        return activity1(v);
+    if k == 1 || k == 2 {
+        return activity_by(v, p);
     }
     a
 }
@@ -252,7 +232,7 @@ pub fn globe7_at(
     ensures { result ≡ cond on (wide_given v g (globe7_before v c k) (globe7_set k) (seasons_at s.now (4 * k))) 0·0 }
 {
     if on {
-        let b = globe7_activity(k, v, a);
+        let b = globe7_activity(k, v, p, a);
         let nine = nine_in(v);
         let latitude = latitude_in(v);
         let apdf = pick(nine == -1.0, c.apdf, b.apdf);
@@ -280,12 +260,10 @@ pub fn globe7_values(
 {
     let mut p = [0.0; 150];
     let mut x = [0.0; 11];
-    let mut k = 0;
-    while k < 11 {
+    for k in 0..11 {
         let on = globe7_needed(n, k);
         put_needed_set(on, k, &mut p);
         x[k] = globe7_at(on, k, v, &p, g, c, a, c7, s);
-        k += 1;
     }
     x
 }
@@ -389,12 +367,10 @@ pub fn glob7s_filled(
 {
     let mut p = [0.0; 100];
     let mut x = [0.0; 14];
-    let mut k = 0;
-    while k < end {
+    for k in 0..end {
         let on = glob7s_needed(n, k);
         put_glob7s_set(k, &mut p);
         x[k] = glob7s_at(on, k, v, &p, g, c3, c8, s);
-        k += 1;
     }
     x
 }
@@ -430,7 +406,8 @@ pub fn expansion_values_of(v: View, n: Need, s: &[f64]) -> ExpansionValues
 {
     let g = legendre_in(v);
     let c = quiet(v);
-    let k = common(v);
+    let t = pt();
+    let k = activity_by(v, &t);
     let p7 = pd7();
     let c7 = active(v, k, p7[51], p7[138], c);
     let x = globe7_values(n, v, g, c, k, c7, s);

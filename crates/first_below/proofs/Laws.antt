@@ -1,4 +1,5 @@
 -- What a walk stores and the rows that it looks at, altitude by altitude, and the call's outcomes.
+use Rattle.std.specs.Prelude.{Err, Ok}
 use mathlib.Core.Path.{◌≡◌, refl, sym, ap, ◌∙◌}
 use mathlib.Core.Bool.{Bool, true, false, cond, not, false≢true, true≢false}
 use mathlib.Core.List.{List, [], ◌∷◌, ◌++◌}
@@ -12,14 +13,15 @@ use lib.Seq.{length-take-le}
 use lib.Ieee.{Float, le, binary64, of_int}
 use Rattle.numbers.specs.Arithmetic.{◌‼◌}
 use Rattle.numbers.specs.Literals.{2500·0}
+use Rattle.refusals.specs.declared.Refusal.{Refusal}
+use Rattle.refusals.specs.Refusals.{Accepted, Answer, Refused, accepted_of, refused_or}
+use Rattle.refusals.specs.declared.Reason.TheVariants.{WrongLength}
 use Rattle.setting.specs.declared.Input.{Input}
 use Rattle.setting.specs.declared.View.{View}
 use Rattle.setting.specs.declared.Flags.{Flags}
 use Rattle.setting.specs.Switches.{flags_of}
 use Rattle.views.specs.View.{view_of}
-use Rattle.acceptance.specs.declared.Answer.{Answer}
-use Rattle.acceptance.specs.declared.Answer.TheVariants.{Accepted, Refused}
-use Rattle.acceptance.specs.Acceptance.{accepted_of, with_alt_of}
+use Rattle.acceptance.specs.Acceptance.{with_alt_of}
 use Rattle.needed_sets.specs.declared.Need.{Need}
 use Rattle.expansion_values.specs.declared.RecordValues.{RecordValues}
 use Rattle.expansion_values.specs.ExpansionValues.{expansion_values_of, record_values_of}
@@ -35,18 +37,16 @@ use Rattle.stored.specs.Reached.{Serves, stored_in_length, stored_laid, serves_b
 use Rattle.altitudes.specs.Altitudes.{altitudes_from, column_answer}
 use Rattle.altitudes.proofs.Laws.{accepted_altitudes, not_above}
 use Rattle.column.specs.Column.{column_rows}
-use Rattle.first_below_list.specs.declared.First.{First}
-use Rattle.first_below_list.specs.declared.First.TheVariants.{At, Nowhere}
-use Rattle.first_below_list.specs.FirstBelowList.{is_below, row_in, first_from, first_below, first_row}
+use Rattle.first_below_list.specs.FirstBelowList.{is_below, row_in, first_from, first_below, first_row, At, First, Nowhere}
 use Rattle.first_below_list.proofs.Laws.{hit, miss}
-use Rattle.first_below.specs.FirstBelow.{first_below_checked, first_below_refused_or, first_of, first_answer, first_after}
+use Rattle.first_below.specs.FirstBelow.{first_below_checked, first_of, first_answer, first_after}
 use Rattle.first_below.specs.Walk.{parts_grown, numbers_grown}
 use Rattle.first_below.specs.Theorems.{its_row, first_checked_column}
 
 -- ---- the checks
 
 module _ (w : List ℤ) (n : Input) (alts : List Float) (len : ℕ) where
-  pub no_row_lem : (len ≡ 11 → ⊥) → Refused 4 11 ≡ first_below_checked w n alts len
+  pub no_row_lem : (len ≡ 11 → ⊥) → Refused WrongLength 11 ≡ first_below_checked w n alts len
   unfolding first_below_checked
   no_row_lem h = simp (ne_eqb _ _ h)
 
@@ -54,7 +54,7 @@ module _ (w : List ℤ) (n : Input) (alts : List Float) (len : ℕ) where
   unfolding first_below_checked
   a_row h a e = e ∙ simp (eq-eqb _ _ h)
 
-  eleven_of_lem : (b : Bool) (a : Answer) → accepted_of (cond (not b) (Refused 4 11) a) ≡ true → b ≡ true
+  eleven_of_lem : (b : Bool) (a : Answer) → accepted_of (cond (not b) (Refused WrongLength 11) a) ≡ true → b ≡ true
   eleven_of_lem true a h = refl
   eleven_of_lem false a h = h
 
@@ -143,34 +143,33 @@ module _ (w : List ℤ) (n : Input) (alts : List Float) (level : Float) where
   R = column_rows w n alts
 
   -- nothing looked at yet
-  pub start : first_from level R (length alts) (length alts - length alts) ≡ first_below level R (length alts)
-  start = let e : length alts - length alts ≡ 0 = omega arith in rw e
+  pub start : first_from level R (length alts - 0) 0 ≡ first_below level R (length alts)
+  start = let e : length alts - 0 ≡ length alts = omega arith in rw e
 
-  -- the row `one` of the next altitude, where `left` are left; the row xs becomes ys: `one` where that is below the level
-  module _ (one : List Float) (left : ℕ) (h : left ≤ length alts) (g : 0 < left) (e : one ≡ eleven_of w (with_alt_of n (alts ‼ (length alts - left))))
+  -- the row `one` of the altitude with the index k, none of those before it thin enough; the row xs becomes ys: `one` where that is below the level
+  module _ (one : List Float) (k : ℕ) (h : k < length alts) (e : one ≡ eleven_of w (with_alt_of n (alts ‼ k)))
       (t : Bool) (f : t ≡ is_below level one) (xs ys : List Float) (d : ys ≡ cond (is_below level one) one xs)
-      (whole : first_from level R left (length alts - left) ≡ first_below level R (length alts)) where
-    its : row_in R (length alts - left) ≡ one
-    its = its_row w n alts (length alts - left) (omega arith) ∙ sym e
+      (whole : first_from level R (length alts - k) k ≡ first_below level R (length alts)) where
+    its : row_in R k ≡ one
+    its = its_row w n alts k h ∙ sym e
 
-    begun : first_from level R (suc (left - 1)) (length alts - left) ≡ first_below level R (length alts)
-    begun = let q : suc (left - 1) ≡ left = omega arith in rw q whole
+    begun : first_from level R (suc (length alts - (k + 1))) k ≡ first_below level R (length alts)
+    begun = let q : suc (length alts - (k + 1)) ≡ length alts - k = omega (arith, h) in rw q whole
 
-    same : (b : Bool) → t ≡ b → is_below level (row_in R (length alts - left)) ≡ b
+    same : (b : Bool) → t ≡ b → is_below level (row_in R k) ≡ b
     same b u = ap (is_below level) its ∙ (sym f ∙ u)
 
-    pub thin : t ≡ true → (At (length alts - left) ≡ first_below level R (length alts)) × (ys ≡ row_in R (length alts - left))
+    pub thin : t ≡ true → (At k ≡ first_below level R (length alts)) × (ys ≡ row_in R k)
     thin u = (
-      sym (hit level R (left - 1) (length alts - left) (same true u)) ∙ begun,
+      sym (hit level R (length alts - (k + 1)) k (same true u)) ∙ begun,
       d ∙ (ap (λ (b : Bool). cond b one xs) (sym f ∙ u) ∙ sym its),
     )
 
-    pub thick : t ≡ false → (ys ≡ xs) × (first_from level R (left - 1) (length alts - (left - 1)) ≡ first_below level R (length alts))
-    thick u =
-        let q : length alts - (left - 1) ≡ length alts - left + 1 = omega arith in (
-          d ∙ ap (λ (b : Bool). cond b one xs) (sym f ∙ u),
-          rw q (sym (miss level R (left - 1) (length alts - left) (same false u)) ∙ begun),
-        )
+    pub thick : t ≡ false → (ys ≡ xs) × (first_from level R (length alts - (k + 1)) (k + 1) ≡ first_below level R (length alts))
+    thick u = (
+      d ∙ ap (λ (b : Bool). cond b one xs) (sym f ∙ u),
+      sym (miss level R (length alts - (k + 1)) k (same false u)) ∙ begun,
+    )
 
 pub none_left : (level : Float) (rows : List Float) (left k : ℕ) → left ≡ 0 → Nowhere ≡ first_from level rows left k
 unfolding first_from
@@ -178,30 +177,26 @@ none_left level rows left k e = rw e
 
 -- ---- the call
 
-refuses : (a : Answer) (x y : First) → accepted_of a ≡ false → first_below_refused_or a x ≡ first_below_refused_or a y
-refuses Accepted x y h = absurd (true≢false h)
-refuses (Refused i j) x y h = refl
+keeps : (a : Answer) (x : First) (rows xs : List Float) → accepted_of a ≡ false → xs ≡ first_row (refused_or a x) rows xs
+keeps (Ok v) x rows xs h = absurd (true≢false h)
+keeps (Err r) x rows xs h = refl
 
-keeps : (a : Answer) (x : First) (rows xs : List Float) → accepted_of a ≡ false → xs ≡ first_row (first_below_refused_or a x) rows xs
-keeps Accepted x rows xs h = absurd (true≢false h)
-keeps (Refused i j) x rows xs h = refl
+pub goes_on : (a : Answer) (x : First) → accepted_of a ≡ true → refused_or a x ≡ x
+goes_on (Ok v) x h = refl
+goes_on (Err r) x h = absurd (false≢true h)
 
-pub goes_on : (a : Answer) (x : First) → accepted_of a ≡ true → first_below_refused_or a x ≡ x
-goes_on Accepted x h = refl
-goes_on (Refused i j) x h = absurd (false≢true h)
-
-module _ (w : List ℤ) (n : Input) (alts : List Float) (level : Float) (xs : List Float) (r : First) where
-  pub refused : (a : Answer) → a ≡ first_below_checked w n alts (length xs) → accepted_of a ≡ false → r ≡ first_below_refused_or a Nowhere
-      → (r ≡ first_answer w n alts level (length xs)) × (xs ≡ first_after w n alts level xs)
+module _ (w : List ℤ) (n : Input) (alts : List Float) (level : Float) (xs : List Float) where
+  pub refused : (q : Refusal) → Err q ≡ first_below_checked w n alts (length xs)
+      → (Err q ≡ first_answer w n alts level (length xs)) × (xs ≡ first_after w n alts level xs)
   unfolding first_answer first_after
-  refused a e t f = (
-    f ∙ (refuses a _ _ t ∙ ap (λ (b : Answer). first_below_refused_or b (first_of w n alts level)) e),
-    keeps a (first_of w n alts level) (column_rows w n alts) xs t ∙ ap (λ (b : Answer). first_row (first_below_refused_or b (first_of w n alts level)) (column_rows w n alts) xs) e,
+  refused q e = (
+    ap (λ (b : Answer). refused_or b (first_of w n alts level)) e,
+    keeps (first_below_checked w n alts (length xs)) (first_of w n alts level) (column_rows w n alts) xs (sym (ap accepted_of e)),
   )
 
-  pub answered : (ys : List Float) → accepted_of (first_below_checked w n alts (length xs)) ≡ true → r ≡ first_of w n alts level → ys ≡ first_row r (column_rows w n alts) xs
+  pub answered : (r : First) (ys : List Float) → accepted_of (first_below_checked w n alts (length xs)) ≡ true → r ≡ first_of w n alts level → ys ≡ first_row r (column_rows w n alts) xs
       → (r ≡ first_answer w n alts level (length xs)) × (ys ≡ first_after w n alts level xs)
   unfolding first_answer first_after
-  answered ys t e f =
-      let q : r ≡ first_below_refused_or (first_below_checked w n alts (length xs)) (first_of w n alts level) = e ∙ sym (goes_on (first_below_checked w n alts (length xs)) _ t) in
+  answered r ys t e f =
+      let q : r ≡ refused_or (first_below_checked w n alts (length xs)) (first_of w n alts level) = e ∙ sym (goes_on (first_below_checked w n alts (length xs)) _ t) in
       (q, f ∙ ap (λ (a : First). first_row a (column_rows w n alts) xs) q)

@@ -1,6 +1,6 @@
 -- What the index and the row are, when none is answered, and the part of demand 3.
 use Prim.Native.Nat.{ℕ, zero, suc, ◌+◌, ◌*◌, ◌<◌, ◌≤◌}
-use Rattle.std.specs.Prelude.{◌≡◌, Bool, true, cond, not, eqb, ℤ, take, Float}
+use Rattle.std.specs.Prelude.{◌≡◌, Bool, true, cond, not, eqb, ℤ, take, Float, Err, Ok, None, Some}
 use Rattle.std.proofs.Math.Path.{refl, sym, ap}
 use Rattle.std.proofs.Common.{◌∙◌, length-append, take_at}
 use Rattle.std.proofs.Math.Bool.{false}
@@ -12,10 +12,10 @@ use Rattle.std.proofs.Math.Seq.{drop_at, drop-drop}
 use Rattle.std.specs.Float.Ieee.{lt}
 use Rattle.numbers.specs.Arithmetic.{◌‼◌}
 use Rattle.numbers.specs.Literals.{0·0}
+use Rattle.refusals.specs.Refusals.{Accepted, Answer, Refused, accepted_of, refused_or, as_answer, refusal_place}
+use Rattle.refusals.specs.declared.Reason.TheVariants.{WrongLength}
 use Rattle.setting.specs.declared.Input.{Input}
-use Rattle.acceptance.specs.declared.Answer.{Answer}
-use Rattle.acceptance.specs.declared.Answer.TheVariants.{Accepted, Refused}
-use Rattle.acceptance.specs.Acceptance.{accepted_of, with_alt_of}
+use Rattle.acceptance.specs.Acceptance.{with_alt_of}
 use Rattle.acceptance.specs.Refusals.{test_passed, Never}
 use Rattle.atmosphere.specs.Atmosphere.{eleven_of}
 use Rattle.shutoff.specs.Shut.{Alike}
@@ -25,12 +25,10 @@ use Rattle.altitudes.specs.Altitudes.{column_answer}
 use Rattle.altitudes.proofs.Room.{at_most_512, room_never_4}
 use Rattle.column.specs.Column.{column_rows, column_after}
 use Rattle.column.proofs.Theorems.{column_known, at_altitude, rows≡, column_written}
-use Rattle.first_below_list.specs.declared.First.{First}
-use Rattle.first_below_list.specs.declared.First.TheVariants as first
-use Rattle.first_below_list.specs.FirstBelowList.{is_below, row_in, first_below, first_row}
+use Rattle.first_below_list.specs.FirstBelowList.{is_below, row_in, first_below, first_row, At, First, Nowhere}
 use Rattle.first_below_list.specs.Theorems.{is_at}
 use Rattle.first_below_list.specs.Theorems as list
-use Rattle.first_below.specs.FirstBelow.{first_below_checked, first_below_refused_or, first_of, first_answer, first_after}
+use Rattle.first_below.specs.FirstBelow.{first_below_checked, first_of, first_answer, first_after}
 
 -- ---- the rows
 
@@ -58,38 +56,38 @@ module _ (w : List ℤ) (n : Input) where
 -- ---- the answer
 
 -- 4 is for the row that is lent, at 11, and for nothing else: no rows are lent, so the column's own 4 can't occur.
-pub four_told : (w : List ℤ) (n : Input) (alts : List Float) (level : Float) (len k : ℕ) → first_answer w n alts level len ≡ first.Refused 4 k → (k ≡ 11) × (len ≡ 11 → ⊥)
+pub four_told : (w : List ℤ) (n : Input) (alts : List Float) (level : Float) (len k : ℕ) → first_answer w n alts level len ≡ Refused WrongLength k → (k ≡ 11) × (len ≡ 11 → ⊥)
 unfolding first_answer first_below_checked first_of
 four_told w n alts level len k e = row (eqb len 11) refl e
   where
-    column : (a : Answer) → Never 4 a → first_below_refused_or a (first_below level (column_rows w n alts) (length alts)) ≡ first.Refused 4 k → ⊥
-    column Accepted h f = list.never_refused level (column_rows w n alts) (length alts) 0 4 k f
-    column (Refused i j) h f = let g : ◌≡◌ {A = ℕ} i 4 = cc in h j (ap (λ (m : ℕ). Refused m j) g)
+    column : (a : Answer) → Never WrongLength a → refused_or a (first_below level (column_rows w n alts) (length alts)) ≡ Refused WrongLength k → ⊥
+    column (Ok v) h f = list.never_refused level (column_rows w n alts) (length alts) 0 WrongLength k f
+    column (Err r) h f = h k (ap as_answer f)
 
     row : (b : Bool) → eqb len 11 ≡ b
-        → first_below_refused_or (cond (not b) (Refused 4 11) (column_answer w n alts (11 * length alts))) (first_below level (column_rows w n alts) (length alts)) ≡ first.Refused 4 k
+        → refused_or (cond (not b) (Refused WrongLength 11) (column_answer w n alts (11 * length alts))) (first_below level (column_rows w n alts) (length alts)) ≡ Refused WrongLength k
         → (k ≡ 11) × (len ≡ 11 → ⊥)
     row true t f = absurd (column (column_answer w n alts (11 * length alts)) (room_never_4 w n alts) f)
-    row false t f = (cc, eqb-false len 11 t)
+    row false t f = (sym (ap refusal_place f), eqb-false len 11 t)
 
 -- what passes the checks passes the column's, and has at most 512 altitudes
 pub first_checked_column : (w : List ℤ) (n : Input) (alts : List Float) (len : ℕ) → accepted_of (first_below_checked w n alts len) ≡ true
     → accepted_of (column_answer w n alts (11 * length alts)) ≡ true
 unfolding first_below_checked
-first_checked_column w n alts len h = (test_passed (not (eqb len 11)) 4 11 _ h).1
+first_checked_column w n alts len h = (test_passed (not (eqb len 11)) WrongLength 11 _ h).1
 
 pub first_checked_few : (w : List ℤ) (n : Input) (alts : List Float) (len : ℕ) → accepted_of (first_below_checked w n alts len) ≡ true → length alts ≤ 512
 first_checked_few w n alts len h = at_most_512 w n alts (11 * length alts) (first_checked_column w n alts len h)
 
 -- an index and none come from no refusal
 abbrev is_refused : First → Bool
-is_refused (first.At k) = false
-is_refused first.Nowhere = false
-is_refused (first.Refused i j) = true
+is_refused (Ok (Some k)) = false
+is_refused (Ok None) = false
+is_refused (Err r) = true
 
-first_below_accepted : (a : Answer) (x y : First) → is_refused y ≡ false → first_below_refused_or a x ≡ y → (accepted_of a ≡ true) × (x ≡ y)
-first_below_accepted Accepted x y h e = (refl, e)
-first_below_accepted (Refused i j) x y h e = absurd (false≢true (sym h ∙ sym (ap (λ (r : First). is_refused r) e)))
+first_below_accepted : (a : Answer) (x y : First) → is_refused y ≡ false → refused_or a x ≡ y → (accepted_of a ≡ true) × (x ≡ y)
+first_below_accepted (Ok v) x y h e = (refl, e)
+first_below_accepted (Err r) x y h e = absurd (false≢true (sym h ∙ sym (ap (λ (r : First). is_refused r) e)))
 
 module _ (w : List ℤ) (n : Input) (alts : List Float) (level : Float) (len : ℕ) where
   told : (y : First) → is_refused y ≡ false → first_answer w n alts level len ≡ y → (accepted_of (first_below_checked w n alts len) ≡ true) × (first_of w n alts level ≡ y)
@@ -97,29 +95,29 @@ module _ (w : List ℤ) (n : Input) (alts : List Float) (level : Float) (len : �
   told y h e = first_below_accepted (first_below_checked w n alts len) (first_of w n alts level) y h e
 
   -- An index is answered only if it is the lowest whose row's d[5] in the full column is below the level; it is at most 511.
-  pub index_told : (k : ℕ) → first_answer w n alts level len ≡ first.At k
+  pub index_told : (k : ℕ) → first_answer w n alts level len ≡ At k
       → (k < length alts) × (k ≤ 511) × (lt (row_in (column_rows w n alts) k ‼ 5) level ≡ true)
       × ((j : ℕ) → j < k → lt (row_in (column_rows w n alts) j ‼ 5) level ≡ false)
   unfolding first_of is_below
   index_told k e =
-      let s = told (first.At k) refl e in
+      let s = told (At k) refl e in
       let f = list.first_told level (column_rows w n alts) (length alts) k s.1 in
       (f.0, omega (arith, f.0, first_checked_few w n alts len s.0), f.1, f.2)
 
   -- None is answered only if no altitude's d[5] is below the level.
-  pub none_told : first_answer w n alts level len ≡ first.Nowhere → (j : ℕ) → j < length alts → lt (row_in (column_rows w n alts) j ‼ 5) level ≡ false
+  pub none_told : first_answer w n alts level len ≡ Nowhere → (j : ℕ) → j < length alts → lt (row_in (column_rows w n alts) j ‼ 5) level ≡ false
   unfolding first_of is_below
-  none_told e = list.none_told level (column_rows w n alts) (length alts) (told first.Nowhere refl e).1
+  none_told e = list.none_told level (column_rows w n alts) (length alts) (told Nowhere refl e).1
 
   -- Where nothing is refused, that is all it takes: the lowest such index is answered, and none where there is none.
   pub index_there : first_below_checked w n alts len ≡ Accepted → (k : ℕ) → k < length alts → lt (row_in (column_rows w n alts) k ‼ 5) level ≡ true
       → ((j : ℕ) → j < k → lt (row_in (column_rows w n alts) j ‼ 5) level ≡ false)
-      → first_answer w n alts level len ≡ first.At k
+      → first_answer w n alts level len ≡ At k
   unfolding first_answer first_of is_below
   index_there e k h t f = rw e (list.first_there level (column_rows w n alts) (length alts) k h t f)
 
   pub none_there : first_below_checked w n alts len ≡ Accepted → ((j : ℕ) → j < length alts → lt (row_in (column_rows w n alts) j ‼ 5) level ≡ false)
-      → first_answer w n alts level len ≡ first.Nowhere
+      → first_answer w n alts level len ≡ Nowhere
   unfolding first_answer first_of is_below
   none_there e f = rw e (list.none_there level (column_rows w n alts) (length alts) f)
 
@@ -128,7 +126,7 @@ module _ (w : List ℤ) (n : Input) (alts : List Float) (level : Float) (len : �
 module _ (w : List ℤ) (n : Input) (alts : List Float) (level : Float) (xs : List Float) where
   -- Where an index is answered the row is the one-altitude call's at that altitude, and the part of that index in the buffer that the column call
   -- fills, whatever the buffer.
-  pub row_told : (k : ℕ) → first_answer w n alts level (length xs) ≡ first.At k
+  pub row_told : (k : ℕ) → first_answer w n alts level (length xs) ≡ At k
       → (first_after w n alts level xs ≡ eleven_of w (with_alt_of n (alts ‼ k)))
       × ((ys : List Float) → column_answer w n alts (length ys) ≡ Accepted → first_after w n alts level xs ≡ row_in (column_after w n alts ys) k)
   unfolding first_after
@@ -144,9 +142,9 @@ module _ (w : List ℤ) (n : Input) (alts : List Float) (level : Float) (xs : Li
   row_kept h = go (first_answer w n alts level (length xs)) h
     where
       go : (a : First) → is_at a ≡ false → first_row a (column_rows w n alts) xs ≡ xs
-      go (first.At k) g = absurd (false≢true (sym g))
-      go first.Nowhere g = refl
-      go (first.Refused i j) g = refl
+      go (Ok (Some k)) g = absurd (false≢true (sym g))
+      go (Ok None) g = refl
+      go (Err r) g = refl
 
 -- ---- the altitudes behind the hit
 
@@ -161,8 +159,8 @@ module _ (w : List ℤ) (n : Input) (zs ts us : List Float) (level : Float) (xs 
       ∙ ap (λ (z : Float). eleven_of w (with_alt_of n z)) (same_altitude j h)
       ∙ sym (its_row w n (zs ++ us) j (omega (arith, length-append zs us)))
 
-  pub behind_the_hit : (k : ℕ) → k < length zs → first_answer w n (zs ++ ts) level (length xs) ≡ first.At k → first_below_checked w n (zs ++ us) (length xs) ≡ Accepted
-      → (first_answer w n (zs ++ us) level (length xs) ≡ first.At k) × (first_after w n (zs ++ us) level xs ≡ first_after w n (zs ++ ts) level xs)
+  pub behind_the_hit : (k : ℕ) → k < length zs → first_answer w n (zs ++ ts) level (length xs) ≡ At k → first_below_checked w n (zs ++ us) (length xs) ≡ Accepted
+      → (first_answer w n (zs ++ us) level (length xs) ≡ At k) × (first_after w n (zs ++ us) level xs ≡ first_after w n (zs ++ ts) level xs)
   behind_the_hit k h e f =
       let t = index_told w n (zs ++ ts) level (length xs) k e in
       let a = index_there w n (zs ++ us) level (length xs) f k (omega (arith, length-append zs us))

@@ -2,20 +2,19 @@
 
 #![tactic(auto)]
 
-ghost use Rattle.std.specs.Prelude.{◌≡◌, length};
-ghost use Rattle.acceptance.specs.declared.Answer.TheVariants.{Accepted};
+ghost use Rattle.std.specs.Prelude.{◌≡◌, length, Ok};
+ghost use Rattle.refusals.specs.Refusals.{Accepted};
 ghost use Rattle.altitudes.specs.Altitudes.{altitudes_from};
 ghost use Rattle.column.specs.Column.{column_rows};
-ghost use Rattle.first_below_list.specs.declared.First.TheVariants.{Nowhere};
 ghost use Rattle.first_below_list.specs.FirstBelowList.{first_row};
-ghost use Rattle.first_below.specs.FirstBelow.{first_below_checked, first_below_refused_or, first_of, first_answer, first_after};
+ghost use Rattle.first_below.specs.FirstBelow.{first_below_checked, first_of, first_answer, first_after};
 ghost use Rattle.first_below.specs.Walk.{parts_grown, numbers_grown};
 
-use acceptance::{Answer, accepted};
 use altitudes::column_answer;
 use expansion_values::record_values;
-use first_below_list::{First, taken};
+use first_below_list::taken;
 use gts7_arithmetic::site_of;
+use refusals::{Reason, Refusal};
 use setting::Input;
 use setting::switches::tselec;
 use stored::{need_of, row_on, store_in};
@@ -23,11 +22,11 @@ use stored_parts::{Parts, either_parts, no_parts, parts_at, reached, serves};
 use views::day;
 
 // 4 for a row whose length len is not 11; then the column's refusals, its buffer taken to be long enough.
-pub fn checked(w: [i32; 24], n: Input, alts: &[f64], len: usize) -> Answer
+pub fn checked(w: [i32; 24], n: Input, alts: &[f64], len: usize) -> Result<(), Refusal>
     ensures { result ≡ first_below_checked w n alts.now len }
 {
     if len != 11 {
-        return Answer::Refused(4, 11);
+        return Err(Reason::WrongLength.at(11));
     }
     column_answer(w, n, alts, 11 * alts.len())
 }
@@ -50,10 +49,10 @@ pub fn grown(w: [i32; 24], n: Input, h: Parts, z: f64, numbers: &mut [f64]) -> P
     either_parts(h, p)
 }
 
-// The first of accepted altitudes: a walk that ends at the hit; `left` of them are still to be looked at.
-pub fn first(w: [i32; 24], n: Input, alts: &[f64], level: f64, row: &mut [f64]) -> First
+// The first of accepted altitudes: a walk that ends at the hit.
+pub fn first(w: [i32; 24], n: Input, alts: &[f64], level: f64, row: &mut [f64]) -> Option<usize>
     requires { (length row.old ≡ 11) × (altitudes_from 0 alts.now ≡ Accepted) }
-    ensures { (result ≡ first_of w n alts.now level) × (row.new ≡ first_row result (column_rows w n alts.now) row.old) }
+    ensures { (Ok result ≡ first_of w n alts.now level) × (row.new ≡ first_row (Ok result) (column_rows w n alts.now) row.old) }
 {
     let f = tselec(w);
     let sw0 = f.sw[0];
@@ -61,40 +60,29 @@ pub fn first(w: [i32; 24], n: Input, alts: &[f64], level: f64, row: &mut [f64]) 
     let mut numbers = [0.0; 234];
     let mut one = [0.0; 11];
     let mut there = no_parts();
-    let mut left = alts.len();
-    while 0 < left {
-        let k = alts.len() - left;
-        let z = alts[k];
-        if !serves(there, z) {
-            there = grown(w, n, there, z, &mut numbers);
+    for (k, z) in alts.iter().enumerate() {
+        if !serves(there, *z) {
+            there = grown(w, n, there, *z, &mut numbers);
         }
-        row_on(sw0, sw15, &numbers, z, &mut one);
+        row_on(sw0, sw15, &numbers, *z, &mut one);
         if taken(level, &one, row) {
-            return First::At(k);
+            return Some(k);
         }
-        left -= 1;
     }
-    First::Nowhere
-}
-
-// A refusal as the call's answer; nobody asks for an accepted one.
-pub fn refusal(a: Answer) -> First
-    ensures { result ≡ first_below_refused_or a Nowhere }
-{
-    match a {
-        Answer::Accepted => First::Nowhere,
-        Answer::Refused(n, k) => First::Refused(n, k),
-    }
+    None
 }
 
 // The call: the index of the first altitude thin enough, with its eleven numbers in the row; none or refused, the row as it was.
-pub fn first_below(w: [i32; 24], n: Input, alts: &[f64], level: f64, row: &mut [f64]) -> First
+pub fn first_below(
+    w: [i32; 24],
+    n: Input,
+    alts: &[f64],
+    level: f64,
+    row: &mut [f64],
+) -> Result<Option<usize>, Refusal>
     ensures { (result ≡ first_answer w n alts.now level (length row.old))
         × (row.new ≡ first_after w n alts.now level row.old) }
 {
-    let a = checked(w, n, alts, row.len());
-    if !accepted(a) {
-        return refusal(a);
-    }
-    first(w, n, alts, level, row)
+    checked(w, n, alts, row.len())?;
+    Ok(first(w, n, alts, level, row))
 }

@@ -1,9 +1,19 @@
 -- Document 02, W-214, over the rows of a column, eleven numbers to an altitude: 'the first altitude in a column whose d[5] is below a level'.
-use Rattle.std.specs.Prelude.{ℕ, zero, suc, ◌+◌, ◌*◌, Bool, cond, List, take, drop, Float}
+use Rattle.refusals.specs.declared.Refusal.{Refusal}
+use Rattle.refusals.specs.Refusals.{Refused}
+use Rattle.std.specs.Prelude.{ℕ, zero, suc, ◌+◌, ◌*◌, Bool, cond, List, take, drop, Float, Err, None, Ok, Some, Result, Option}
 use Rattle.std.specs.Float.Ieee.{lt}
 use Rattle.numbers.specs.Arithmetic.{◌‼◌}
-use Rattle.first_below_list.specs.declared.First.{First}
-use Rattle.first_below_list.specs.declared.First.TheVariants.{At, Nowhere, Refused}
+
+-- an answer: the index of the first altitude thin enough, none, or a refusal
+abbrev pub First : Type 0
+First = Result (Option ℕ) Refusal
+
+abbrev pub At : ℕ → First
+At k = Ok (Some k)
+
+abbrev pub Nowhere : First
+Nowhere = Ok None
 
 -- whether a row's d[5] is below the level; 'a NaN never' is, nor is anything below a NaN
 unfoldable pub is_below : Float → List Float → Bool
@@ -24,6 +34,6 @@ first_below level rows n = first_from level rows n 0
 
 -- the lent row xs after an answer: 'its eleven numbers', or 'untouched'
 abbrev pub first_row : First → List Float → List Float → List Float
-first_row (At k) rows xs = row_in rows k
-first_row Nowhere rows xs = xs
-first_row (Refused n k) rows xs = xs
+first_row (Ok (Some k)) rows xs = row_in rows k
+first_row (Ok None) rows xs = xs
+first_row (Err r) rows xs = xs

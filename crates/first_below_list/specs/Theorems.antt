@@ -2,7 +2,7 @@
 use Prim.Native.Nat.{ℕ, zero, suc, ◌+◌, ◌<◌, ◌≤◌}
 use Rattle.std.proofs.Math.Path.{◌≡◌, refl}
 use Rattle.std.proofs.Common.{ap, true≢false}
-use Rattle.std.specs.Prelude.{Bool, List, Float}
+use Rattle.std.specs.Prelude.{Bool, List, Float, Err, None, Ok, Some}
 use Rattle.std.proofs.Math.Bool.{true, false, cond}
 use Rattle.std.proofs.lemmas.Bool.{false≢true}
 use native.Mathlib.Omega.{arith}
@@ -12,20 +12,20 @@ use Rattle.std.specs.Float.{nan}
 use Rattle.std.specs.Float.Ieee.{lt}
 use Rattle.numbers.specs.Arithmetic.{◌‼◌}
 use Rattle.numbers.specs.Tests.{lt_nan}
-use Rattle.first_below_list.specs.declared.First.{First}
-use Rattle.first_below_list.specs.declared.First.TheVariants.{At, Nowhere, Refused}
-use Rattle.first_below_list.specs.FirstBelowList.{is_below, row_in, first_from, first_below}
+use Rattle.refusals.specs.declared.Reason.{Reason}
+use Rattle.refusals.specs.Refusals.{Refused, accepted_of}
+use Rattle.first_below_list.specs.FirstBelowList.{is_below, row_in, first_from, first_below, At, First, Nowhere}
 
 -- what an answer is
 abbrev pub is_at : First → Bool
-is_at (At k) = true
-is_at Nowhere = false
-is_at (Refused n k) = false
+is_at (Ok (Some k)) = true
+is_at (Ok None) = false
+is_at (Err r) = false
 
 abbrev pub index_in : First → ℕ
-index_in (At k) = k
-index_in Nowhere = 0
-index_in (Refused n k) = 0
+index_in (Ok (Some k)) = k
+index_in (Ok None) = 0
+index_in (Err r) = 0
 
 module _ (level : Float) (rows : List Float) where
   -- no row of those with the indices from k up to i is below the level
@@ -95,13 +95,13 @@ module _ (level : Float) (rows : List Float) where
 
   -- ---- looking refuses nothing
 
-  pub never_refused : (m k i j : ℕ) → first_from level rows m k ≡ Refused i j → ⊥
+  pub never_refused : (m k : ℕ) (i : Reason) (j : ℕ) → first_from level rows m k ≡ Refused i j → ⊥
   unfolding first_from
-  never_refused zero k i j e = let z : ◌≡◌ {A = ℕ} 0 1 = cc in omega arith
+  never_refused zero k i j e = true≢false (ap accepted_of e)
   never_refused (suc m) k i j e = go (is_below level (row_in rows k)) e (never_refused m (k + 1) i j)
     where
       go : (b : Bool) → cond b (At k) (first_from level rows m (k + 1)) ≡ Refused i j → (first_from level rows m (k + 1) ≡ Refused i j → ⊥) → ⊥
-      go true f r = let z : ◌≡◌ {A = ℕ} 0 1 = cc in omega arith
+      go true f r = true≢false (ap accepted_of f)
       go false f r = r f
 
   module _ (n : ℕ) where

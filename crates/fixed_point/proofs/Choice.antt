@@ -1,8 +1,10 @@
 -- One of two numbers by a third. Assumes nothing.
-use mathlib.Core.Path.{◌≡◌, sym, ap}
+use mathlib.Core.Path.{◌≡◌, refl, sym, ap}
 use mathlib.Core.Bool.{Bool, true, false, cond}
-use Prim.Native.Nat.{ℕ, ◌-◌, ◌≤◌, ◌<◌}
-use borrow.Author.Tests.{eq-eqb, ne_eqb, lt-ltb, le-ltb}
+use Prim.Native.Nat.{ℕ, ◌+◌, ◌-◌, ◌≤◌}
+use native.Mathlib.Omega.{arith}
+use lib.Dec.{ltb}
+use borrow.Author.Tests.{eq-eqb, ne_eqb, ltb-true, ltb-false}
 use Rattle.fixed_point.specs.Fixed.{choose_of, apart_of}
 
 pub choose_zero : (h x y : ℕ) → h ≡ 0 → x ≡ choose_of h x y
@@ -19,9 +21,10 @@ pub either_ge : (b : Bool) {x y B : ℕ} → B ≤ x → B ≤ y → B ≤ cond 
 either_ge true h k = h
 either_ge false h k = k
 
-module _ (p n : ℕ) where
-  pub apart_below : p < n → n - p ≡ apart_of p n
-  apart_below h = sym (ap (λ (b : Bool). cond b (n - p) (p - n)) (lt-ltb p n h))
-
-  pub apart_above : n ≤ p → p - n ≡ apart_of p n
-  apart_above h = sym (ap (λ (b : Bool). cond b (n - p) (p - n)) (le-ltb p n h))
+-- the distance of two numbers, one way or the other
+pub apart_lem : (p n : ℕ) → (p - n) + (n - p) ≡ apart_of p n
+apart_lem p n = go (ltb p n) refl
+  where
+    go : (b : Bool) → ltb p n ≡ b → (p - n) + (n - p) ≡ cond b (n - p) (p - n)
+    go true e = omega (arith, ltb-true p n e)
+    go false e = omega (arith, ltb-false p n e)

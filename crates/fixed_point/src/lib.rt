@@ -6,7 +6,7 @@ ghost use Rattle.std.specs.Prelude.{◌≡◌, ℕ, ◌+◌, ◌*◌, ◌/◌, �
 ghost use Rattle.std.specs.Float.{fin, binary64};
 ghost use Rattle.std.specs.Float.Ieee.{is_nan};
 ghost use Rattle.std.specs.Float.Ieee.Scale.{finite};
-ghost use Rattle.fixed_point.specs.Fixed.{high_of, scaled_of, choose_of, offset_of, apart_of};
+ghost use Rattle.fixed_point.specs.Fixed.{high_of, scaled_of, choose_of, offset_of};
 
 // The upper half of a * b, for a and b below 2^63.
 pub fn high(a: u64, b: u64) -> u64
@@ -55,14 +55,4 @@ pub fn offset(h: u64, u: u64, p: u64) -> u64
         return u + p;
     }
     u - p
-}
-
-// |p - n|.
-pub fn apart(p: u64, n: u64) -> u64
-    ensures { result ≡ apart_of p n }
-{
-    if p < n {
-        return n - p;
-    }
-    p - n
 }

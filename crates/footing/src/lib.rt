@@ -9,14 +9,15 @@ ghost use Rattle.species.specs.Places.{spine_at, place_at, Mixes};
 ghost use Rattle.footing.specs.Footing.{in_units_of, three_of, summit_from, summit_at, summit_of, curves_of, footing_of, reached_of, row_below_of};
 
 use gts7_arithmetic::{Site, mass};
-use layers::{Span, blank, down, layer4, span_of};
+use layers::{Span, blank, down, span_of};
 use lower_atmosphere::{Meso, dm28m, full, kilograms, lower_stage, meso_nodes, n2, unset};
 use mixing::dmc;
 use mixing_limits::{Mixed, mixed_at, oxygens_mixed, some_mixed};
 use numbers::pick;
-use places::place::{Place, Spine, layer5};
+use places::place::{Place, Spine};
 use places::thinning::Thinning;
 use plan::ExpansionValues;
+use profile::curve::layer;
 use profile::unchecked::{Profile, Shape, lowered, returned_number, temperature_in};
 use species::{Blend, Mixture, mixing, place_at, spine_at, turbopause};
 use stages::{argon_stage, helium_stage, n2_stage, o2_stage};
@@ -128,7 +129,7 @@ pub fn curves_of(sw: [f64; 24], x: Site, d: f64, m: Meso, l: ExpansionValues, tr
     let c = x.nine;
     let tn2 = m.tn2;
     let tgn2 = m.tgn2;
-    let a = layer4(x.re, [72.5, 55.0, 45.0, 32.5], tn2, tgn2, 32.5);
+    let a = layer(x.re, &[72.5, 55.0, 45.0, 32.5], &tn2, 4, &tgn2, 32.5);
     let u = span_of(c.rgas, x.gsurf, x.re, c.xmm, a);
     if !tropo {
         let v = blank();
@@ -142,7 +143,7 @@ pub fn curves_of(sw: [f64; 24], x: Site, d: f64, m: Meso, l: ExpansionValues, tr
     let w = lower_stage(sw, 0.0, m, l);
     let tn3 = w.tn3;
     let tgn3 = w.tgn3;
-    let b = layer5(x.re, [32.5, 20.0, 15.0, 10.0, 0.0], tn3, tgn3, 0.0);
+    let b = layer(x.re, &[32.5, 20.0, 15.0, 10.0, 0.0], &tn3, 5, &tgn3, 0.0);
     let v = span_of(c.rgas, x.gsurf, x.re, c.xmm, b);
     Curves {
         upper: u,

@@ -8,17 +8,16 @@ use lib.Dec.{eqb}
 use lib.IntN.{ℤ}
 use lib.ListN.{length}
 use lib.Ieee.{Float}
+use Rattle.refusals.specs.Refusals.{Accepted, Answer, Refused, accepted_of}
+use Rattle.refusals.specs.declared.Reason.TheVariants.{ConstantUnfit, WrongLength}
 use Rattle.parameter_answer.specs.ParameterAnswer.{first_unfit, one_of_nine}
-use Rattle.acceptance.specs.declared.Answer.{Answer}
-use Rattle.acceptance.specs.declared.Answer.TheVariants.{Accepted, Refused}
-use Rattle.acceptance.specs.Acceptance.{accepted_of}
 use Rattle.host_record.specs.Record.{lengths_of}
 use Rattle.host_record.specs.Nine.{nine_of, lengths_with}
 
 -- the tests in turn: the nine, a constant with its place k, the row, the fields, the array, the switches
 abbrev tests : Bool → Bool → ℕ → Bool → Bool → Bool → Bool → Answer → Answer
 tests a b k c d e g rest =
-    cond (not a) (Refused 4 9) (cond b (Refused 16 k) (cond (not c) (Refused 4 11) (cond (not d) (Refused 4 8) (cond e (Refused 4 7) (cond (not g) (Refused 4 24) rest)))))
+    cond (not a) (Refused WrongLength 9) (cond b (Refused ConstantUnfit k) (cond (not c) (Refused WrongLength 11) (cond (not d) (Refused WrongLength 8) (cond e (Refused WrongLength 7) (cond (not g) (Refused WrongLength 24) rest)))))
 
 halted : (a b : Bool) (k : ℕ) (c d e g : Bool) (rest : Answer) → accepted_of (tests a b k c d e g Accepted) ≡ false
     → tests a b k c d e g rest ≡ tests a b k c d e g Accepted

@@ -8,10 +8,9 @@ use lib.Dec.{eqb}
 use lib.IntN.{ℤ}
 use lib.ListN.{length}
 use lib.Ieee.{Float}
+use Rattle.refusals.specs.Refusals.{Accepted, Answer, Refused, accepted_of}
+use Rattle.refusals.specs.declared.Reason.TheVariants.{WrongLength}
 use Rattle.setting.specs.declared.Input.{Input}
-use Rattle.acceptance.specs.declared.Answer.{Answer}
-use Rattle.acceptance.specs.declared.Answer.TheVariants.{Accepted, Refused}
-use Rattle.acceptance.specs.Acceptance.{accepted_of}
 use Rattle.host_record.specs.Record.{code_of, record_of, lengths_of}
 
 -- a refusal: its number and place, the lent memory as it was
@@ -22,7 +21,7 @@ refused d r ys xs x e t c = (c ∙ sym (ap code_of e), sym (ap (λ (b : Bool). c
 -- ---- the record's three slices, by their tests
 
 abbrev tests : Bool → Bool → Bool → Answer → Answer
-tests a b c rest = cond (not a) (Refused 4 8) (cond b (Refused 4 7) (cond (not c) (Refused 4 24) rest))
+tests a b c rest = cond (not a) (Refused WrongLength 8) (cond b (Refused WrongLength 7) (cond (not c) (Refused WrongLength 24) rest))
 
 halted : (a b c : Bool) (rest : Answer) → accepted_of (tests a b c Accepted) ≡ false → tests a b c rest ≡ tests a b c Accepted
 halted false b c rest h = refl

@@ -2,20 +2,11 @@
 use Rattle.std.specs.Prelude.{ℕ, ◌+◌, ◌*◌, ◌%◌, cond, not, ◌&&◌, List, [], ◌∷◌, eqb, ℤ, length, replicate, Float}
 use Rattle.numbers.specs.Arithmetic.{◌‼◌}
 use Rattle.numbers.specs.Literals.{0·0}
+use Rattle.refusals.specs.Refusals.{Accepted, Answer, Refused, refusal_number, refusal_place}
+use Rattle.refusals.specs.declared.Reason.TheVariants.{WrongLength}
 use Rattle.setting.specs.declared.Input.{Input}
 use Rattle.setting.specs.declared.History.{History}
 use Rattle.setting.specs.declared.History.TheVariants.{Absent, Present}
-use Rattle.acceptance.specs.declared.Answer.{Answer}
-use Rattle.acceptance.specs.declared.Answer.TheVariants.{Accepted, Refused}
-
--- document 01's number of a refusal and its place, 0 and 0 where the call is accepted
-abbrev pub refusal_number : Answer → ℕ
-refusal_number Accepted = 0
-refusal_number (Refused n k) = n
-
-abbrev pub refusal_place : Answer → ℕ
-refusal_place Accepted = 0
-refusal_place (Refused n k) = k
 
 abbrev pub packed_of : ℕ → ℕ → ℕ
 packed_of n k = n % 4294967296 * 4294967296 + k % 4294967296
@@ -53,6 +44,6 @@ record_of year doy f l =
 -- 4 for the fields, the array, the switches, in this order, each with the length needed; then the rest
 unfoldable pub lengths_of : List Float → List Float → List ℤ → Answer → Answer
 lengths_of f l w rest =
-    cond (not (eqb (length f) 8)) (Refused 4 8)
-    (cond (not (eqb (length l) 0) && not (eqb (length l) 7)) (Refused 4 7)
-    (cond (not (eqb (length w) 24)) (Refused 4 24) rest))
+    cond (not (eqb (length f) 8)) (Refused WrongLength 8)
+    (cond (not (eqb (length l) 0) && not (eqb (length l) 7)) (Refused WrongLength 7)
+    (cond (not (eqb (length w) 24)) (Refused WrongLength 24) rest))

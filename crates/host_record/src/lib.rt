@@ -5,10 +5,10 @@
 pub mod nine;
 
 ghost use Rattle.std.specs.Prelude.{◌≡◌, length};
-ghost use Rattle.acceptance.specs.declared.Answer.TheVariants.{Accepted};
-ghost use Rattle.host_record.specs.Record.{refusal_number, refusal_place, packed_of, code_of, history_of_length, values_of, record_of, lengths_of};
+ghost use Rattle.refusals.specs.Refusals.{Accepted};
+ghost use Rattle.host_record.specs.Record.{packed_of, code_of, history_of_length, values_of, record_of, lengths_of};
 
-use acceptance::Answer;
+use refusals::{Reason, Refusal};
 use setting::{History, Input};
 
 pub fn switch_row(s: &[i32]) -> [i32; 24]
@@ -16,11 +16,7 @@ pub fn switch_row(s: &[i32]) -> [i32; 24]
     ensures { result ≡ s.now }
 {
     let mut w = [0; 24];
-    let mut i: usize = 0;
-    while i < 24 {
-        w[i] = s[i];
-        i += 1;
-    }
+    w.copy_from_slice(s);
     w
 }
 
@@ -65,39 +61,19 @@ pub fn record_of(year: i32, doy: i32, fields: &[f64], ap_array: &[f64]) -> Input
 }
 
 // 4 for the first of the record's slices that has not its length; accepted where all have.
-pub fn lengths(fields: &[f64], ap_array: &[f64], switches: &[i32]) -> Answer
+pub fn lengths(fields: &[f64], ap_array: &[f64], switches: &[i32]) -> Result<(), Refusal>
     ensures { result ≡ lengths_of fields.now ap_array.now switches.now Accepted }
 {
     if fields.len() != 8 {
-        return Answer::Refused(4, 8);
+        return Err(Reason::WrongLength.at(8));
     }
     if (ap_array.len() != 0) & (ap_array.len() != 7) {
-        return Answer::Refused(4, 7);
+        return Err(Reason::WrongLength.at(7));
     }
     if switches.len() != 24 {
-        return Answer::Refused(4, 24);
+        return Err(Reason::WrongLength.at(24));
     }
-    Answer::Accepted
-}
-
-// Document 01's number of a refusal, 0 where the call is accepted.
-pub fn number(a: Answer) -> usize
-    ensures { result ≡ refusal_number a }
-{
-    match a {
-        Answer::Accepted => 0,
-        Answer::Refused(n, k) => n,
-    }
-}
-
-// Its place.
-pub fn place(a: Answer) -> usize
-    ensures { result ≡ refusal_place a }
-{
-    match a {
-        Answer::Accepted => 0,
-        Answer::Refused(n, k) => k,
-    }
+    Ok(())
 }
 
 // The number times 2^32 and the place.
@@ -109,10 +85,12 @@ pub fn packed(n: usize, k: usize) -> u64
     (a * 4294967296 + b) as u64
 }
 
-pub fn code(a: Answer) -> u64
+// An answer as one number: 0, or a refusal's number and place.
+pub fn code(a: Result<(), Refusal>) -> u64
     ensures { result ≡ code_of a }
 {
-    let n = number(a);
-    let k = place(a);
-    packed(n, k)
+    match a {
+        Ok(()) => 0,
+        Err(refusal) => packed(refusal.reason.number(), refusal.place),
+    }
 }

@@ -1,12 +1,12 @@
 // The slices of the one-altitude call with nine constants: the constants out of theirs, and what the slices meet before the record.
 ghost use Rattle.std.specs.Prelude.{◌≡◌, length};
-ghost use Rattle.acceptance.specs.declared.Answer.TheVariants.{Accepted};
+ghost use Rattle.refusals.specs.Refusals.{Accepted};
 ghost use Rattle.host_record.specs.Nine.{nine_of, lengths_with};
 
 use crate::lengths;
-use acceptance::Answer;
-use parameter_answer::{first_unfit, one_of_nine};
+use parameter_answer::first_unfit;
 use parameters::Parameters;
+use refusals::{Reason, Refusal};
 
 // The nine in document 02's order.
 pub fn nine_of(s: &[f64]) -> Parameters
@@ -33,19 +33,17 @@ pub fn lengths_with(
     fields: &[f64],
     ap_array: &[f64],
     switches: &[i32],
-) -> Answer
+) -> Result<(), Refusal>
     ensures { result ≡ lengths_with nine.now len fields.now ap_array.now switches.now Accepted }
 {
     if nine.len() != 9 {
-        return Answer::Refused(4, 9);
+        return Err(Reason::WrongLength.at(9));
     }
-    let c = nine_of(nine);
-    let k = first_unfit(c);
-    if one_of_nine(k) {
-        return Answer::Refused(16, k);
+    if let Some(k) = first_unfit(nine_of(nine)) {
+        return Err(Reason::ConstantUnfit.at(k));
     }
     if len != 11 {
-        return Answer::Refused(4, 11);
+        return Err(Reason::WrongLength.at(11));
     }
     lengths(fields, ap_array, switches)
 }

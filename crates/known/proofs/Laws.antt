@@ -6,9 +6,9 @@ use mathlib.Core.List.{List}
 use borrow.Author.Tests.{eqb-true, not-false}
 use lib.Dec.{eqb}
 use lib.IntN.{ℤ}
+use Rattle.refusals.specs.declared.Reason.TheVariants.{WrongLength}
+use Rattle.refusals.specs.Refusals.{Answer, accepted_of}
 use Rattle.setting.specs.declared.Input.{Input}
-use Rattle.acceptance.specs.declared.Answer.{Answer}
-use Rattle.acceptance.specs.Acceptance.{accepted_of}
 use Rattle.acceptance.specs.Refusals.{test_passed}
 use Rattle.known_record.specs.KnownRecord.{only_known}
 use Rattle.known.specs.Known.{known_answer, filled_answer_at, filled_is}
@@ -19,4 +19,4 @@ answer_known known w n filled len a e f = f ∙ ap (λ (z : Input). filled_answe
 
 pub accepted_length : (known : ℕ) (w : List ℤ) (n : Input) (len : ℕ) → accepted_of (known_answer known w n len) ≡ true → len ≡ 11
 unfolding known_answer
-accepted_length known w n len h = eqb-true len 11 (not-false _ (test_passed (not (eqb len 11)) 4 11 _ h).0)
+accepted_length known w n len h = eqb-true len 11 (not-false _ (test_passed (not (eqb len 11)) WrongLength 11 _ h).0)

@@ -1,16 +1,16 @@
 -- The call for a record known in part: what its answer and its row depend on, with demand 3 behind them, and where it refuses with 1.
-use Rattle.std.specs.Prelude.{◌≡◌, List, [], ◌∷◌, Bool, true, false, not, ◌&&◌, cond, ℕ, zero, suc, ◌+◌, ◌-◌, ◌<◌, ◌≤◌, T, eqb, ltb, ℤ, pos, length, get_or, replicate, Float}
+use Rattle.std.specs.Prelude.{◌≡◌, List, [], ◌∷◌, Bool, true, false, not, ◌&&◌, cond, ℕ, zero, suc, ◌+◌, ◌-◌, ◌<◌, ◌≤◌, T, eqb, ltb, ℤ, pos, length, get_or, replicate, Float, Err, Ok}
 use Rattle.std.proofs.Math.Path.{refl, sym}
 use Rattle.std.proofs.Common.{◌∙◌, ap, ap₂, true≢false, arith, ltb-true, ltb-false, get_or-drop}
 use Rattle.numbers.specs.Literals.{0·0}
+use Rattle.refusals.specs.Refusals.{Accepted, Answer, Refused, accepted_of, refusal_number}
+use Rattle.refusals.specs.declared.Reason.TheVariants.{HistoryLacking, NotFinite, WrongLength}
 use Rattle.setting.specs.declared.Input.{Input}
 use Rattle.setting.specs.declared.History.{History}
 use Rattle.setting.specs.declared.History.TheVariants.{Absent, Present}
 use Rattle.setting.specs.ApHistory.{is_minus_one, asks_history_of, absent_of, lacks_history_of}
 use Rattle.setting.specs.Switches.{given}
-use Rattle.acceptance.specs.declared.Answer.{Answer}
-use Rattle.acceptance.specs.declared.Answer.TheVariants.{Accepted, Refused}
-use Rattle.acceptance.specs.Acceptance.{array_unfit_of, unfit_of, array_outside_of, outside_of, found_of, judged_of, accepted_of, record_answer}
+use Rattle.acceptance.specs.Acceptance.{array_unfit_of, unfit_of, array_outside_of, outside_of, found_of, judged_of, record_answer}
 use Rattle.acceptance.specs.Refusals.{no_refusal}
 use Rattle.atmosphere.specs.Atmosphere.{eleven_of, answer_of, row_after}
 use Rattle.shutoff.specs.Fields.{Value, whole, float, missing, fields, field}
@@ -31,7 +31,7 @@ unfolding filled_answer_at answer_of
 all_answer known w n len all =
     sym (filled_is known w n len)
     ∙ ap (λ (z : Input). filled_answer_at known w z len) (all_kept_lem known n all)
-    ∙ ap (cond (not (eqb len 11)) (Refused 4 11)) (filled_all (counts_of w) known w n all)
+    ∙ ap (cond (not (eqb len 11)) (Refused WrongLength 11)) (filled_all (counts_of w) known w n all)
 
 pub all_row : (known : ℕ) (w : List ℤ) (n : Input) (xs : List Float) → AllKnown known → known_row known w n xs ≡ row_after w n xs
 unfolding known_row row_after
@@ -49,9 +49,9 @@ taken : (known : ℕ) (w : List ℤ) (n : Input) (len : ℕ) → known_answer kn
 unfolding filled_answer_at filled_answer answer_of lacks_history_of only_known
 taken known w n len e =
     let filled = only_known known n in
-    let long = no_refusal (not (eqb len 11)) 4 11 _ (filled_is known w n len ∙ e) in
-    let fit = no_refusal (found_of (unfit_of filled)) 2 (unfit_of filled) _ long.1 in
-    let whole = no_refusal (found_of (lacking_field (counts_of w) known (lacks_history_of w n))) 1 _ _ fit.1 in
+    let long = no_refusal (not (eqb len 11)) WrongLength 11 _ (filled_is known w n len ∙ e) in
+    let fit = no_refusal (found_of (unfit_of filled)) NotFinite (unfit_of filled) _ long.1 in
+    let whole = no_refusal (found_of (lacking_field (counts_of w) known (lacks_history_of w n))) HistoryLacking _ _ fit.1 in
     record { there = whole.0; accepted = rw long.0 whole.1 }
 
 row_written : (known : ℕ) (w : List ℤ) (n : Input) (xs : List Float) → known_answer known w n (length xs) ≡ Accepted → known_row known w n xs ≡ eleven_of w (only_known known n)
@@ -171,8 +171,8 @@ module _ (known : ℕ) (a b : Input) (agree : AgreeIn known true a b) where
 
   alone_row : (w : List ℤ) (xs : List Float) (answer : Answer) → known_answer known w a (length xs) ≡ answer → known_row known w a xs ≡ known_row known w b xs
   unfolding known_row
-  alone_row w xs Accepted e = alone_rows w xs xs e (sym (alone_answer w (length xs)) ∙ e)
-  alone_row w xs (Refused number place) e = rw (e, sym (alone_answer w (length xs)) ∙ e) refl
+  alone_row w xs (Ok v) e = alone_rows w xs xs e (sym (alone_answer w (length xs)) ∙ e)
+  alone_row w xs (Err r) e = rw (e, sym (alone_answer w (length xs)) ∙ e) refl
 
   -- Two records that agree, to the bit, in the known fields, the history in both or in neither, get the same answer and leave the same row,
   -- whatever stands in the others; nothing is asked of acceptance.
@@ -182,12 +182,12 @@ module _ (known : ℕ) (a b : Input) (agree : AgreeIn known true a b) where
 -- ---- 1 and its place
 
 -- behind a refusal of another number
-behind_length : (short : Bool) (i : ℕ) (a : Answer) → cond short (Refused 4 11) a ≡ Refused 1 i → a ≡ Refused 1 i
-behind_length true i a e = let h : ◌≡◌ {A = ℕ} 4 1 = cc in absurd (omega (arith, h))
+behind_length : (short : Bool) (i : ℕ) (a : Answer) → cond short (Refused WrongLength 11) a ≡ Refused HistoryLacking i → a ≡ Refused HistoryLacking i
+behind_length true i a e = let h : ◌≡◌ {A = ℕ} 4 1 = ap refusal_number e in absurd (omega (arith, h))
 behind_length false i a e = e
 
 -- 1's place is the lowest field that counts and is not known (10: a history that the row asks for and that is absent), and no known field is NaN or infinite.
-pub refused_1 : (known : ℕ) (w : List ℤ) (n : Input) (len i : ℕ) → known_answer known w n len ≡ Refused 1 i
+pub refused_1 : (known : ℕ) (w : List ℤ) (n : Input) (len i : ℕ) → known_answer known w n len ≡ Refused HistoryLacking i
     → (found_of (unfit_known known n) ≡ false) × Lowest (lacking (counts_of w) known (lacks_history_of w n)) 0 i
 unfolding known_answer
 refused_1 known w n len i e = one_place (counts_of w) known w n i (behind_length (not (eqb len 11)) i _ e)
@@ -195,6 +195,6 @@ refused_1 known w n len i e = one_place (counts_of w) known w n i (behind_length
 -- It refuses with 1 wherever some field counts and is not known, no known field is NaN or infinite, and the row is of length 11.
 pub refuses_1 : (known : ℕ) (w : List ℤ) (n : Input) (i : ℕ) → found_of (unfit_known known n) ≡ false → i < 11
     → T (lacking (counts_of w) known (lacks_history_of w n) i)
-    → known_answer known w n 11 ≡ Refused 1 (lacking_field (counts_of w) known (lacks_history_of w n))
+    → known_answer known w n 11 ≡ Refused HistoryLacking (lacking_field (counts_of w) known (lacks_history_of w n))
 unfolding known_answer
 refuses_1 known w n i fit h t = one_where (counts_of w) known w n i fit h t

@@ -4,12 +4,12 @@ use Rattle.std.proofs.Common.{sym, ◌∙◌, ap, subst, arith, ltb-false, lt-lt
 use Rattle.std.specs.Float.Ieee.{neg, lt, le, eq, of_bits}
 use Rattle.numbers.specs.Literals.{0·0, 24·0, 48·0, 90·0, 400·0, 1000·0, 2500·0, 86400·0}
 use Rattle.numbers.specs.Tests.{finite_of}
+use Rattle.refusals.specs.Refusals.{Accepted, Answer, Refused, accepted_of, refusal_number, refusal_place}
+use Rattle.refusals.specs.declared.Reason.TheVariants.{HistoryLacking, NotFinite, NotMixed, OutOfRange}
 use Rattle.setting.specs.declared.Input.{Input}
 use Rattle.setting.specs.ApHistory.{lacks_history_of}
 use Rattle.setting.specs.Switches.{given, is_one}
-use Rattle.acceptance.specs.declared.Answer.{Answer}
-use Rattle.acceptance.specs.declared.Answer.TheVariants.{Accepted, Refused}
-use Rattle.acceptance.specs.Acceptance.{within_of, unfit_of, outside_of, found_of, judged_of, accepted_of, unmixed_of, record_answer}
+use Rattle.acceptance.specs.Acceptance.{within_of, unfit_of, outside_of, found_of, judged_of, unmixed_of, record_answer}
 use Rattle.acceptance.specs.Refusals.{Never, accepted_never, then_never}
 use Rattle.known_record.specs.KnownRecord.{known_at, AllKnown, only_known, lacking, lacking_field, unfit_known, outside_known, known_refusal, filled_answer}
 use Rattle.known_record.specs.Lowest.{Lowest, found_lowest, at_most, passed_over}
@@ -80,16 +80,16 @@ history_there counts known false e = refl
 -- ---- the answer
 
 -- what stands behind 2 and 1 matters only where neither fits
-behind_one : (u f : Bool) (p m : ℕ) (a b : Answer) → (u ≡ false → f ≡ false → a ≡ b) → cond u (Refused 2 p) (cond f (Refused 1 m) a) ≡ cond u (Refused 2 p) (cond f (Refused 1 m) b)
+behind_one : (u f : Bool) (p m : ℕ) (a b : Answer) → (u ≡ false → f ≡ false → a ≡ b) → cond u (Refused NotFinite p) (cond f (Refused HistoryLacking m) a) ≡ cond u (Refused NotFinite p) (cond f (Refused HistoryLacking m) b)
 behind_one true f p m a b same = refl
 behind_one false true p m a b same = refl
 behind_one false false p m a b same = same refl refl
 
 -- the one-altitude call's answer where neither 2 nor its own 1 fits
 three_left : (u h o x : Bool) (p q : ℕ) → u ≡ false → h ≡ false
-    → cond (not (accepted_of (cond u (Refused 2 p) (cond h (Refused 1 10) (cond o (Refused 3 q) Accepted)))))
-    (cond u (Refused 2 p) (cond h (Refused 1 10) (cond o (Refused 3 q) Accepted))) (cond x (Refused 10 3) Accepted)
-    ≡ cond o (Refused 3 q) (cond x (Refused 10 3) Accepted)
+    → cond (not (accepted_of (cond u (Refused NotFinite p) (cond h (Refused HistoryLacking 10) (cond o (Refused OutOfRange q) Accepted)))))
+    (cond u (Refused NotFinite p) (cond h (Refused HistoryLacking 10) (cond o (Refused OutOfRange q) Accepted))) (cond x (Refused NotMixed 3) Accepted)
+    ≡ cond o (Refused OutOfRange q) (cond x (Refused NotMixed 3) Accepted)
 three_left u h true x p q e f = rw (e, f)
 three_left u h false x p q e f = rw (e, f)
 
@@ -113,21 +113,21 @@ answer_is counts known w n day alt =
 
 -- ---- 1 and its place
 
-one_from : (u f : Bool) (p m i : ℕ) (rest : Answer) → Never 1 rest → cond u (Refused 2 p) (cond f (Refused 1 m) rest) ≡ Refused 1 i → (u ≡ false) × (f ≡ true) × (m ≡ i)
-one_from true f p m i rest never e = let h : ◌≡◌ {A = ℕ} 2 1 = cc in absurd (omega (arith, h))
-one_from false true p m i rest never e = (refl, refl, cc)
+one_from : (u f : Bool) (p m i : ℕ) (rest : Answer) → Never HistoryLacking rest → cond u (Refused NotFinite p) (cond f (Refused HistoryLacking m) rest) ≡ Refused HistoryLacking i → (u ≡ false) × (f ≡ true) × (m ≡ i)
+one_from true f p m i rest never e = let h : ◌≡◌ {A = ℕ} 2 1 = ap refusal_number e in absurd (omega (arith, h))
+one_from false true p m i rest never e = (refl, refl, ap refusal_place e)
 one_from false false p m i rest never e = absurd (never i e)
 
 -- 1 is at the lowest field that is lacking, and no known field is NaN or infinite
-pub one_place : (counts : List Bool) (known : ℕ) (w : List ℤ) (n : Input) (i : ℕ) → known_refusal counts known w n ≡ Refused 1 i
+pub one_place : (counts : List Bool) (known : ℕ) (w : List ℤ) (n : Input) (i : ℕ) → known_refusal counts known w n ≡ Refused HistoryLacking i
     → (found_of (unfit_known known n) ≡ false) × Lowest (lacking counts known (lacks_history_of w n)) 0 i
 unfolding known_refusal found_of lacking_field
 one_place counts known w n i e =
     let no_history = lacks_history_of w n in
     let lowest = lacking_field counts known no_history in
     let r = one_from (found_of (unfit_known known n)) (found_of lowest) (unfit_known known n) lowest i _
-    (then_never (found_of (outside_known known n)) 1 3 (outside_known known n) _ (λ q. omega arith)
-    (then_never (unmixed_of (is_one (given w 15)) n.alt) 1 10 3 Accepted (λ q. omega arith) (accepted_never 1))) e in
+    (then_never (found_of (outside_known known n)) HistoryLacking OutOfRange (outside_known known n) _ (λ q. omega arith)
+    (then_never (unmixed_of (is_one (given w 15)) n.alt) HistoryLacking NotMixed 3 Accepted (λ q. omega arith) (accepted_never HistoryLacking))) e in
     let below : lowest < 17 = ltb→lt lowest 17 (subst T (sym r.1) tt) in
     (r.0, subst (Lowest (lacking counts known no_history) 0) r.2 (found_lowest (lacking counts known no_history) 0 11 17 below))
 
@@ -139,7 +139,7 @@ lacking_found counts known no_history i h t =
 
 -- it is 1 wherever some field is lacking and no known field is NaN or infinite
 pub one_where : (counts : List Bool) (known : ℕ) (w : List ℤ) (n : Input) (i : ℕ) → found_of (unfit_known known n) ≡ false
-    → i < 11 → T (lacking counts known (lacks_history_of w n) i) → known_refusal counts known w n ≡ Refused 1 (lacking_field counts known (lacks_history_of w n))
+    → i < 11 → T (lacking counts known (lacks_history_of w n) i) → known_refusal counts known w n ≡ Refused HistoryLacking (lacking_field counts known (lacks_history_of w n))
 unfolding known_refusal
 one_where counts known w n i fit h t = rw (fit, lacking_found counts known (lacks_history_of w n) i h t)
 
@@ -158,8 +158,8 @@ all_known counts known no_history all =
 
 -- the one-altitude call's answer comes first, since it begins with 2 and then with the history
 call_first : (u h : Bool) (p : ℕ) (a b : Answer)
-    → let judged = cond u (Refused 2 p) (cond h (Refused 1 10) a) in
-    cond u (Refused 2 p) (cond (found_of (cond h 10 17)) (Refused 1 (cond h 10 17)) (cond (not (accepted_of judged)) judged b)) ≡ cond (not (accepted_of judged)) judged b
+    → let judged = cond u (Refused NotFinite p) (cond h (Refused HistoryLacking 10) a) in
+    cond u (Refused NotFinite p) (cond (found_of (cond h 10 17)) (Refused HistoryLacking (cond h 10 17)) (cond (not (accepted_of judged)) judged b)) ≡ cond (not (accepted_of judged)) judged b
 unfolding found_of
 call_first true h p a b = refl
 call_first false true p a b = refl

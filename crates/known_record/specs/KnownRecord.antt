@@ -1,11 +1,11 @@
 -- A record of which only some fields are known: the record with 0 in the others, and its refusals in order.
 use Rattle.std.specs.Prelude.{◌≡◌, ℕ, zero, suc, ◌/◌, ◌%◌, ◌^◌, ◌<◌, Bool, true, false, cond, not, ◌&&◌, List, [], ◌∷◌, map, eqb, ℤ, pos, get_or, Float}
 use Rattle.numbers.specs.Literals.{0·0}
+use Rattle.refusals.specs.Refusals.{Accepted, Answer, Refused}
+use Rattle.refusals.specs.declared.Reason.TheVariants.{HistoryLacking, NotFinite, NotMixed, OutOfRange}
 use Rattle.setting.specs.declared.Input.{Input}
 use Rattle.setting.specs.ApHistory.{absent_of, lacks_history_of}
 use Rattle.setting.specs.Switches.{given, is_one}
-use Rattle.acceptance.specs.declared.Answer.{Answer}
-use Rattle.acceptance.specs.declared.Answer.TheVariants.{Accepted, Refused}
 use Rattle.acceptance.specs.Acceptance.{lowest, array_unfit_of, unfit_tests, unfit_of, array_outside_of, outside_tests, found_of, unmixed_of, record_answer}
 
 -- 'bit k of known says that field k is known'
@@ -70,16 +70,16 @@ outside_known known n = lowest 1 (among (known_at known) 1 (outside_tests n)) (a
 -- 2 and 3 at known fields alone; 1 at the lowest field that counts and is not known; then 10
 unfoldable pub known_refusal : List Bool → ℕ → List ℤ → Input → Answer
 known_refusal counts known w n =
-    cond (found_of (unfit_known known n)) (Refused 2 (unfit_known known n))
-    (cond (found_of (lacking_field counts known (lacks_history_of w n))) (Refused 1 (lacking_field counts known (lacks_history_of w n)))
-    (cond (found_of (outside_known known n)) (Refused 3 (outside_known known n))
-    (cond (unmixed_of (is_one (given w 15)) n.alt) (Refused 10 3) Accepted)))
+    cond (found_of (unfit_known known n)) (Refused NotFinite (unfit_known known n))
+    (cond (found_of (lacking_field counts known (lacks_history_of w n))) (Refused HistoryLacking (lacking_field counts known (lacks_history_of w n)))
+    (cond (found_of (outside_known known n)) (Refused OutOfRange (outside_known known n))
+    (cond (unmixed_of (is_one (given w 15)) n.alt) (Refused NotMixed 3) Accepted)))
 
 -- the same by way of the record with 0 in the fields that are not known: 2, then 1, then the one-altitude call's own answer, of which 3 and 10 are left
 unfoldable pub filled_answer : List Bool → ℕ → List ℤ → Input → Answer
 filled_answer counts known w filled =
-    cond (found_of (unfit_of filled)) (Refused 2 (unfit_of filled))
-    (cond (found_of (lacking_field counts known (lacks_history_of w filled))) (Refused 1 (lacking_field counts known (lacks_history_of w filled)))
+    cond (found_of (unfit_of filled)) (Refused NotFinite (unfit_of filled))
+    (cond (found_of (lacking_field counts known (lacks_history_of w filled))) (Refused HistoryLacking (lacking_field counts known (lacks_history_of w filled)))
     (record_answer w filled))
 
 -- a mark as a number, for a host

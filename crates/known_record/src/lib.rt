@@ -3,10 +3,12 @@
 #![tactic(auto)]
 
 ghost use Rattle.std.specs.Prelude.{◌≡◌, ◌<◌, pos, length, get_or};
+ghost use Rattle.acceptance.specs.Acceptance.{field_at};
 ghost use Rattle.known_record.specs.KnownRecord.{known_at, whole_known, float_known, only_known, lacking_field, filled_answer, marks_of};
 
-use acceptance::{Answer, found, record_answer, unfit};
+use acceptance::{record_answer, unfit};
 use numbers::pick;
+use refusals::{Reason, Refusal};
 use setting::Input;
 use setting::ap_history::lacks_history;
 
@@ -58,36 +60,36 @@ pub fn only_known(known: u32, n: Input) -> Input
     }
 }
 
-// The lowest of the fields 0 to 9 that counts and is not known, else 10 where the history is lacking, else 17.
-pub fn lacking_field(counts: [bool; 17], known: u32, no_history: bool) -> usize
-    ensures { result ≡ lacking_field counts known no_history }
+// The lowest of the fields 0 to 9 that counts and is not known, else 10 where the history is lacking.
+pub fn lacking_field(counts: [bool; 17], known: u32, no_history: bool) -> Option<usize>
+    ensures { result ≡ field_at (lacking_field counts known no_history) }
 {
-    let mut i: usize = 0;
-    while i < 10 {
+    for i in 0..10 {
         if counts[i] & !known_at(known, i) {
-            return i;
+            return Some(i);
         }
-        i += 1;
     }
     if no_history {
-        return 10;
+        return Some(10);
     }
-    17
+    None
 }
 
 // The answer to a record that has 0 in the fields that are not known; counts says which fields count under the row. Behind 2 and 1 it is the
 // one-altitude call's.
-pub fn filled_answer(counts: [bool; 17], known: u32, w: [i32; 24], filled: Input) -> Answer
+pub fn filled_answer(
+    counts: [bool; 17],
+    known: u32,
+    w: [i32; 24],
+    filled: Input,
+) -> Result<(), Refusal>
     ensures { result ≡ filled_answer counts known w filled }
 {
-    let not_finite = unfit(filled);
-    if found(not_finite) {
-        return Answer::Refused(2, not_finite);
+    if let Some(field) = unfit(filled) {
+        return Err(Reason::NotFinite.at(field));
     }
-    let no_history = lacks_history(w, filled);
-    let lacking = lacking_field(counts, known, no_history);
-    if found(lacking) {
-        return Answer::Refused(1, lacking);
+    if let Some(field) = lacking_field(counts, known, lacks_history(w, filled)) {
+        return Err(Reason::HistoryLacking.at(field));
     }
     record_answer(w, filled)
 }
@@ -108,9 +110,7 @@ pub fn put_marks(marks: [bool; 17], out: &mut [i32])
     requires { length out.old ≡ 17 }
     ensures { out.new ≡ marks_of marks }
 {
-    let mut i: usize = 0;
-    while i < 17 {
+    for i in 0..17 {
         out[i] = mark_at(marks, i);
-        i += 1;
     }
 }

@@ -3,12 +3,11 @@
 #![tactic(auto)]
 
 ghost use Rattle.std.specs.Prelude.{◌≡◌, ◌≤◌};
-ghost use Rattle.profile.specs.Curve.{layer_of};
 ghost use Rattle.layers.specs.Layers.{first_five, span_of, blank_of, layer_read, down_of};
 
 use elementary::exponential::exp;
 use elementary::power::pow;
-use profile::curve::{Curve, capped, layer};
+use profile::curve::{Curve, capped};
 use profile::gravity::zeta;
 use profile::unchecked::Profile;
 use spline::nodes::{splini, splint};
@@ -30,13 +29,6 @@ pub struct Span {
 pub struct Read {
     pub y: f64,
     pub yi: f64,
-}
-
-// The curve over four nodes by value, read at z.
-pub fn layer4(re: f64, zn: [f64; 4], tn: [f64; 4], tgn: [f64; 2], z: f64) -> Curve
-    ensures { result ≡ layer_of re zn tn 4 tgn z }
-{
-    layer(re, &zn, &tn, 4, &tgn, z)
 }
 
 pub fn first_five(a: [f64; 10]) -> [f64; 5]

@@ -1,14 +1,14 @@
 -- The input cut into lines: a byte taken, a chunk, and the end of the input.
 use mathlib.Core.Path.{◌≡◌, refl, sym, ap, ◌∙◌}
-use mathlib.Core.Bool.{true, false}
-use mathlib.Core.List.{List, [], ◌∷◌, ◌++◌}
+use mathlib.Core.Bool.{false}
+use mathlib.Core.List.{List, [], ◌++◌}
 use Prim.Native.Nat.{ℕ, ◌+◌, ◌-◌, ◌<◌, ◌≤◌, zero-le}
 use native.Mathlib.Numerals.{add-one}
-use borrow.Author.Tests.{lt-ltb, le-ltb, eq-eqb, ne_eqb}
-use lib.Dec.{ltb, eqb}
-use lib.ListN.{length, take, drop, get_or, set, length-append}
+use borrow.Author.Tests.{eq-eqb, ne_eqb}
+use lib.Dec.{eqb}
+use lib.ListN.{length, take, drop, get_or, length-append}
 use native.Mathlib.Omega.{arith}
-use lib.Seq.{length-take-le, take-suc-set, take_at, drop_at, drop-drop, drop-cons, drop-length}
+use lib.Seq.{length-take-le, take_at, drop_at, drop-drop, drop-cons, drop-length}
 use Rattle.line_text.proofs.Choice.{cond_true, cond_false}
 use Rattle.line_text.specs.Text.{written, Writes}
 use Rattle.line_cut.specs.Lines.{next_number, kept_of, len_kept, line_kept}

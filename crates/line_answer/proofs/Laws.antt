@@ -1,4 +1,5 @@
 -- The answer's text by the form that a line is.
+use Rattle.std.specs.Prelude.{Err, Ok}
 use mathlib.Core.Path.{◌≡◌, refl, sym, ap, ◌∙◌}
 use mathlib.Core.Bool.{true, false, cond}
 use mathlib.Core.List.{List}
@@ -6,10 +7,8 @@ use Prim.Native.Nat.{ℕ, ◌≤◌}
 use lib.IntN.{ℤ}
 use lib.ListN.{length}
 use lib.Ieee.{Float}
+use Rattle.refusals.specs.Refusals.{Answer, accepted_of}
 use Rattle.setting.specs.declared.Input.{Input}
-use Rattle.acceptance.specs.declared.Answer.{Answer}
-use Rattle.acceptance.specs.declared.Answer.TheVariants.{Accepted, Refused}
-use Rattle.acceptance.specs.Acceptance.{accepted_of}
 use Rattle.atmosphere.specs.Atmosphere.{eleven_of, answer_of, row_after}
 use Rattle.line_form.specs.declared.Reading.{Reading}
 use Rattle.line_form.specs.declared.Run.{Run}
@@ -34,8 +33,8 @@ run_is f w n a xs ys e g l h k =
     rw (b, d) (by (answer_of w n 11) ∙ rw (e, g))
   where
     by : (q : Answer) → outcome_text q (cond (accepted_of q) (eleven_of w n) xs) ≡ outcome_text q (eleven_of w n)
-    by Accepted = refl
-    by (Refused i p) = refl
+    by (Ok v) = refl
+    by (Err r) = refl
 
 -- ---- a line
 

@@ -1,8 +1,7 @@
 -- The answer to a line of the line program, as bytes; a line is given without its newline.
-use Rattle.std.specs.Prelude.{ℕ, cond, List, Float}
+use Rattle.std.specs.Prelude.{ℕ, cond, List, Float, Err, Ok}
+use Rattle.refusals.specs.Refusals.{Answer, number_of}
 use Rattle.mixing.specs.Mixing.{ccor_of, dnet_of}
-use Rattle.acceptance.specs.declared.Answer.{Answer}
-use Rattle.acceptance.specs.declared.Answer.TheVariants.{Accepted, Refused}
 use Rattle.atmosphere.specs.Atmosphere.{eleven_of, answer_of}
 use Rattle.line_form.specs.declared.Reading.{Reading}
 use Rattle.line_form.specs.declared.Run.{Run}
@@ -19,8 +18,8 @@ ccor_value r = ccor_of (thousandths_at r 0) (thousandths_at r 1) (thousandths_at
 
 -- the row where the record is accepted, else the refusal
 abbrev pub outcome_text : Answer → List Float → List ℕ
-outcome_text Accepted row = row_text row
-outcome_text (Refused n p) row = refused_text n p
+outcome_text (Ok v) row = row_text row
+outcome_text (Err r) row = refused_text (number_of r.reason) r.place
 
 -- the one-altitude call with the record and the switches of a run form, into a row of 11
 unfoldable pub run_answer : Run → List ℕ

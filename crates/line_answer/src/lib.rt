@@ -7,7 +7,6 @@ ghost use Rattle.line_text.specs.Text.{Writes};
 ghost use Rattle.line_answer.specs.Answer.{dnet_value, ccor_value, outcome_text, run_answer, answer_text};
 ghost use Rattle.line_answer.specs.Lines.{progress_of, step_of, fed_of, len_after, line_step, line_after, KeptBehind, last_printed, begin};
 
-use acceptance::Answer;
 use atmosphere::gtd7;
 use line_cut::{keep, next_number};
 use line_form::{
@@ -15,6 +14,7 @@ use line_form::{
 };
 use line_text::{refused, row, value};
 use mixing::{ccor, dnet};
+use refusals::Refusal;
 
 // How far the input is read: how many bytes of the line begun are kept, its number, and how many bytes of answers wait.
 #[derive(Clone, Copy)]
@@ -46,13 +46,13 @@ pub fn ccor_value(r: Reading) -> f64
 }
 
 // The row where the record is accepted, else the refusal.
-pub fn outcome(out: &mut [u8], at: usize, a: Answer, eleven: [f64; 11]) -> usize
+pub fn outcome(out: &mut [u8], at: usize, a: Result<(), Refusal>, eleven: [f64; 11]) -> usize
     requires { at + 193 ≤ length out.old }
     ensures { Writes out.old at (outcome_text a eleven) out.new result × (length (outcome_text a eleven) ≤ 193) }
 {
     match a {
-        Answer::Accepted => row(out, at, eleven),
-        Answer::Refused(n, p) => refused(out, at, n as u64, p as u64),
+        Ok(()) => row(out, at, eleven),
+        Err(r) => refused(out, at, r.reason.number() as u64, r.place as u64),
     }
 }
 
@@ -140,11 +140,8 @@ pub fn feed(chunk: &[u8], line: &mut [u8], out: &mut [u8], p: Place) -> Place
         number: p.number,
         used: 0,
     };
-    let mut i: usize = 0;
-    while i < chunk.len() {
-        let b = chunk[i];
-        q = take_byte(b, line, out, q);
-        i += 1;
+    for b in chunk {
+        q = take_byte(*b, line, out, q);
     }
     q
 }

@@ -4,8 +4,11 @@ use mathlib.Core.Bool.{Bool, true, false, cond, not, ◌&&◌}
 use mathlib.Core.List.{List, [], ◌∷◌}
 use Prim.Native.Nat.{ℕ, zero, suc, ◌+◌, ◌*◌, ◌^◌, ◌-◌, ◌<◌, ◌≤◌, zero-le}
 use native.Mathlib.Omega.{arith}
-use borrow.Author.Tests.{lt-ltb, le-ltb, eq-eqb, ne_eqb, ltb-true, not-false}
-use lib.Dec.{ltb, lit<}
+use native.Mathlib.Numerals.{add-one}
+use borrow.Author.Tests.{eq-eqb, ne_eqb, eqb-true, eqb-false, ltb-true, ltb-false, not-false}
+use Rattle.std.proofs.Common.{None, Some}
+use lib.Pointwise.{pointwise}
+use lib.Dec.{ltb, eqb, lit<}
 use lib.IntN.{ℤ, pos, negsuc, ◌-ℤ◌, +ℤ_idl}
 use native.Mathlib.Nat.{lt_trans, mul-le-mul_right, le-mul_of_pos_right, pow-le-pow_right, pow-suc}
 use mir.Syntax.{w32}
@@ -13,8 +16,8 @@ use mir.Val.{SFits, to_z, of_z}
 use mir.ValLaws.{to_z-of_z}
 use mir.Facts.{sfits_lit}
 use borrow.Author.Rules.{sfits_of}
-use lib.ListN.{length, drop, get_or, set}
-use lib.Seq.{drop-cons, drop-length}
+use lib.ListN.{length, take, drop, get_or, set, drop_of_length-le}
+use lib.Seq.{drop-cons}
 use Rattle.line_form.specs.declared.Digits.{Digits}
 use Rattle.line_form.specs.declared.WholeNumber.{WholeNumber}
 use Rattle.line_form.specs.declared.Reading.{Reading}
@@ -26,64 +29,41 @@ use Rattle.line_form.proofs.Bytes.{and_first, and_second, here_below}
 
 -- ---- texts
 
-pub starts_first : (s text : List ℕ) (k : ℕ) → starts_of s (k + 0) (drop 0 text) ≡ starts_of s k text
-starts_first s text k = let e : k + 0 ≡ k = omega arith in ap (λ (j : ℕ). starts_of s j text) e
+eqb_sym : (a b : ℕ) → eqb a b ≡ eqb b a
+eqb_sym a b = by (eqb a b) refl
+  where
+    by : (t : Bool) → eqb a b ≡ t → eqb a b ≡ eqb b a
+    by true e = e ∙ sym (eq-eqb b a (sym (eqb-true a b e)))
+    by false e = e ∙ sym (ne_eqb b a (λ f. eqb-false a b e (sym f)))
 
-module _ (s text : List ℕ) (k i : ℕ) (h : i < length text) where
-  next_byte : starts_of s (k + i) (drop i text) ≡ (here_of s (k + i) (get_or text i 0) && starts_of s (k + i + 1) (drop (suc i) text))
-  unfolding starts_of
-  next_byte = ap (starts_of s (k + i)) (drop-cons text i 0 h)
-
-  pub past : length s ≤ k + i → false ≡ starts_of s (k + i) (drop i text)
-  unfolding here_of
-  past g = rw next_byte (simp (le-ltb (k + i) (length s) g))
-
-  pub differs : k + i < length s → (get_or s (k + i) 0 ≡ get_or text i 0 → ⊥) → false ≡ starts_of s (k + i) (drop i text)
-  unfolding here_of
-  differs g d = rw next_byte (simp (lt-ltb (k + i) (length s) g, ne_eqb _ _ d))
-
-  pub agrees : k + i < length s → get_or s (k + i) 0 ≡ get_or text i 0 → starts_of s (k + (i + 1)) (drop (i + 1) text) ≡ starts_of s (k + i) (drop i text)
-  unfolding here_of
-  agrees g e =
-      let n : k + (i + 1) ≡ k + i + 1 = omega arith in
-      let m : i + 1 ≡ suc i = omega arith in
-      rw (next_byte, n, m) (simp (lt-ltb (k + i) (length s) g, eq-eqb _ _ e))
-
-pub starts_last : (s text : List ℕ) (k i : ℕ) → i ≡ length text → true ≡ starts_of s (k + i) (drop i text)
-unfolding starts_of
-starts_last s text k i e = rw (e, drop-length text)
+-- a text at an index is the first part of what lies there
+pub starts_same : (s text : List ℕ) (k : ℕ) → pointwise eqb text (take (length text) (drop k s)) ≡ starts_of s k text
+unfolding starts_of here_of
+starts_same s [] k = refl
+starts_same s (c ∷ cs) k = by (ltb k (length s)) refl (starts_same s cs (suc k))
+  where
+    by : (b : Bool) → ltb k (length s) ≡ b → pointwise eqb cs (take (length cs) (drop (suc k) s)) ≡ starts_of s (suc k) cs
+        → pointwise eqb (c ∷ cs) (take (length (c ∷ cs)) (drop k s)) ≡ ((b && eqb (get_or s k 0) c) && starts_of s (k + 1) cs)
+    by true e f = rw (drop-cons s k 0 (ltb-true _ _ e), eqb_sym c (get_or s k 0), add-one k) (ap (λ (b : Bool). eqb (get_or s k 0) c && b) f)
+    by false e f = rw (drop_of_length-le s {i = k} (ltb-false _ _ e)) refl
 
 -- ---- digits
 
-inside : (b c : Bool) (x : ℕ) → cond (b && c) x 10 ≤ 9 → b ≡ true
-inside true c x h = refl
-inside false c x h = absurd (ten h)
-  where
-    ten : 10 ≤ 9 → ⊥
-    ten g = omega arith
-
-pub digit_inside : (s : List ℕ) (k d : ℕ) → d ≡ digit_of s k → d ≤ 9 → k < length s
-unfolding digit_of
-digit_inside s k d e h = ltb-true _ _ (inside (ltb k (length s)) _ _ (rw e at h))
-
-module _ (s : List ℕ) (k v d : ℕ) (e : d ≡ digit_of s k) where
-  pub no_digit : (m : ℕ) → 0 < m → 9 < d → record { size = v; next = k } ≡ more_of m s k v
+module _ (s : List ℕ) (k v : ℕ) where
+  pub no_digit : None ≡ digit_of s k → (m : ℕ) → record { size = v; next = k } ≡ more_of m s k v
   unfolding more_of
-  no_digit zero g h = absurd (none g)
+  no_digit e zero = refl
+  no_digit e (suc m) = rw (sym e) refl
+
+  pub one_more : (d : ℕ) → Some d ≡ digit_of s k → (m : ℕ) → 0 < m → more_of (m - 1) s (k + 1) (10 * v + d) ≡ more_of m s k v
+  unfolding more_of
+  one_more d e zero g = absurd (none g)
     where
       none : 0 < 0 → ⊥
       none l = omega arith
-  no_digit (suc m) g h = simp (← e) (simp (lt-ltb 9 d h))
-
-  pub one_more : (m : ℕ) → 0 < m → d ≤ 9 → more_of (m - 1) s (k + 1) (10 * v + d) ≡ more_of m s k v
-  unfolding more_of
-  one_more zero g h = absurd (none g)
-    where
-      none : 0 < 0 → ⊥
-      none l = omega arith
-  one_more (suc m) g h =
+  one_more d e (suc m) g =
       let p : suc m - 1 ≡ m = omega arith in
-      rw p (simp (← e) (simp (le-ltb 9 d h)))
+      rw (p, sym e) refl
 
 -- with m digits to come, v has room for them in nine digits
 
@@ -132,26 +112,25 @@ negated_is z n e h = to_z-of_z w32 _ (negated_fits z n e h) ∙ (ap (λ (v : ℤ
 
 -- ---- whole numbers
 
-module _ (minus : Bool) (s : List ℕ) (k d : ℕ) (e : d ≡ digit_of s k) where
-  pub not_a_digit : 9 < d → record { ok = false; value = pos 0; next = k } ≡ positive_of minus s k
+module _ (minus : Bool) (s : List ℕ) (k : ℕ) where
+  pub not_a_digit : None ≡ digit_of s k → None ≡ positive_of minus s k
   unfolding positive_of
-  not_a_digit h = simp (← e) (simp (lt-ltb 9 d h))
+  not_a_digit e = rw (sym e) refl
 
-  pub a_zero : d ≤ 9 → d ≡ 0 → record { ok = false; value = pos 0; next = k } ≡ positive_of minus s k
+  pub a_zero : (d : ℕ) → Some d ≡ digit_of s k → d ≡ 0 → None ≡ positive_of minus s k
   unfolding positive_of
-  a_zero h z = simp (← e) (simp (le-ltb 9 d h, eq-eqb d 0 z))
+  a_zero d e z = rw (sym e) (simp (eq-eqb d 0 z))
 
-  pub some_digits : d ≤ 9 → (d ≡ 0 → ⊥) → (w : Digits) (z : ℤ) → w ≡ more_of 8 s (k + 1) d → w.size < 1000000000 → z ≡ with_sign minus w.size
-      → record { ok = true; value = to_z w32 (of_z w32 z); next = w.next } ≡ positive_of minus s k
+  pub some_digits : (d : ℕ) → Some d ≡ digit_of s k → (d ≡ 0 → ⊥) → (w : Digits) (z : ℤ) → w ≡ more_of 8 s (k + 1) d → w.size < 1000000000 → z ≡ with_sign minus w.size
+      → Some (record { value = to_z w32 (of_z w32 z); next = w.next }) ≡ positive_of minus s k
   unfolding positive_of
-  some_digits h n w z f g i =
-      rw (back minus z w.size i g) (simp (← e, ← f) (simp (le-ltb 9 d h, ne_eqb d 0 n)))
+  some_digits d e n w z f g i = rw (sym e, back minus z w.size i g) (simp (← f) (simp (ne_eqb d 0 n)))
 
 pub here_inside : (s : List ℕ) (k c : ℕ) (b : Bool) → b ≡ here_of s k c → b ≡ true → k < length s
 here_inside s k c b e t = here_below s k c (sym e ∙ t)
 
 module _ (s : List ℕ) (k : ℕ) (b : Bool) (e : b ≡ here_of s k 48) where
-  pub nought : b ≡ true → record { ok = true; value = pos 0; next = k + 1 } ≡ read_number s k
+  pub nought : b ≡ true → Some (record { value = pos 0; next = k + 1 }) ≡ read_number s k
   unfolding read_number
   nought t = simp (← e) (simp t)
 
@@ -178,25 +157,25 @@ module _ (s : List ℕ) (j : ℕ) (q : Reading) (b : Bool) (e : b ≡ here_of s 
       none l = omega arith
   no_space (suc m) g t = simp (← e) (simp t)
 
-  pub no_number : (m : ℕ) → 0 < m → not b ≡ false → (n : WholeNumber) → n ≡ read_number s (q.next + 1) → not n.ok ≡ true → stopped_of q ≡ read_numbers m s j q
+  pub no_number : (m : ℕ) → 0 < m → not b ≡ false → None ≡ read_number s (q.next + 1) → stopped_of q ≡ read_numbers m s j q
   unfolding read_numbers
-  no_number zero g t n f u = absurd (none g)
+  no_number zero g t f = absurd (none g)
     where
       none : 0 < 0 → ⊥
       none l = omega arith
-  no_number (suc m) g t n f u = simp (← e, ← f) (simp (t, u))
+  no_number (suc m) g t f = rw (sym e, t, sym f) refl
 
-  pub one_number_lem : (m : ℕ) → 0 < m → not b ≡ false → (n : WholeNumber) → n ≡ read_number s (q.next + 1) → not n.ok ≡ false
+  pub one_number_lem : (m : ℕ) → 0 < m → not b ≡ false → (n : WholeNumber) → Some n ≡ read_number s (q.next + 1)
       → (p : Reading) → p ≡ record { ok = true; next = n.next; values = set q.values j n.value }
       → read_numbers (m - 1) s (j + 1) p ≡ read_numbers m s j q
   unfolding read_numbers
-  one_number_lem zero g t n f u p h = absurd (none g)
+  one_number_lem zero g t n f p h = absurd (none g)
     where
       none : 0 < 0 → ⊥
       none l = omega arith
-  one_number_lem (suc m) g t n f u p h =
+  one_number_lem (suc m) g t n f p h =
       let k : suc m - 1 ≡ m = omega arith in
-      rw (k, h) (simp (← e, ← f) (simp (t, u)))
+      rw (k, h, sym e, t, sym f) refl
 
 pub no_more : (s : List ℕ) (j m : ℕ) (q : Reading) → m ≡ 0 → q ≡ read_numbers m s j q
 unfolding read_numbers
@@ -245,6 +224,11 @@ later_next q a r n e g h = rw e (go a.ok)
     go false = h
 
 -- ---- a part of the numbers
+
+pub part_is : (v : List ℤ) (m i : ℕ) → i + m ≤ length v → take m (drop i v) ≡ values_from v m i
+unfolding values_from
+part_is v zero i h = refl
+part_is v (suc m) i h = rw (drop-cons v i (pos 0) (omega arith), add-one i) (ap (λ (t : List ℤ). get_or v i (pos 0) ∷ t) (part_is v m (suc i) (omega arith)))
 
 pub part_of_length : (v : List ℤ) (m i : ℕ) → length (values_from v m i) ≡ m
 unfolding values_from

@@ -12,6 +12,8 @@ use lib.IntN.{ℤ, pos}
 use lib.ListN.{length, get_or, set, replicate, length-append, length-set}
 use lib.Seq.{sets, ext_get_or, get_or-set_same, get_or-set_other, get_or-append_seam, append_snoc}
 use Rattle.line_text.proofs.Choice.{cond_true, cond_false}
+use Rattle.std.proofs.Common.{Option, None, Some}
+use Rattle.std.specs.Option.{unwrap_or, option_map}
 use Rattle.line_form.specs.declared.WholeNumber.{WholeNumber}
 use Rattle.line_form.specs.declared.Reading.{Reading}
 use Rattle.line_form.specs.Grammar.{here_of, starts_of, digit_of, read_number, stopped_of, read_numbers, field_of, closed_of, start_of, values_from}
@@ -51,12 +53,12 @@ there a (x ∷ b) c =
 -- ---- numbers in a row
 
 module _ (s : List ℕ) where
-  first_space : (zs : List ℤ) (k : ℕ) → starts_of s k (numbers_text zs) ≡ true → 9 < digit_of s (k + length (numbers_text zs)) → 9 < digit_of s k
+  first_space : (zs : List ℤ) (k : ℕ) → starts_of s k (numbers_text zs) ≡ true → digit_of s (k + length (numbers_text zs)) ≡ None → digit_of s k ≡ None
   unfolding numbers_text starts_of
   first_space [] k h g = let e : k + 0 ≡ k = omega arith in rw e at g
   first_space (z ∷ zs) k h g = no_digit s k 32 (omega arith) (and_first _ (starts_of s (k + 1) (number_text z ++ numbers_text zs)) h)
 
-  pub numbers_read : (zs : List ℤ) (i k : ℕ) (v : List ℤ) → AllNine zs → starts_of s k (numbers_text zs) ≡ true → 9 < digit_of s (k + length (numbers_text zs))
+  pub numbers_read : (zs : List ℤ) (i k : ℕ) (v : List ℤ) → AllNine zs → starts_of s k (numbers_text zs) ≡ true → digit_of s (k + length (numbers_text zs)) ≡ None
       → read_numbers (length zs) s i (record { ok = true; next = k; values = v }) ≡ record { ok = true; next = k + length (numbers_text zs); values = sets v i zs }
   unfolding read_numbers numbers_text starts_of
   numbers_read [] i k v a h g = let e : k + 0 ≡ k = omega arith in rw e
@@ -66,13 +68,11 @@ module _ (s : List ℕ) where
       let t : starts_of s (k + 1) (number_text z) ≡ true = starts_first s (k + 1) (number_text z) (numbers_text zs) rest in
       let u : starts_of s (k + 1 + length (number_text z)) (numbers_text zs) ≡ true = starts_rest s (k + 1) (number_text z) (numbers_text zs) rest in
       let e : k + suc (length (number_text z ++ numbers_text zs)) ≡ k + 1 + length (number_text z) + length (numbers_text zs) = simp length-append (omega arith) in
-      let f : 9 < digit_of s (k + 1 + length (number_text z) + length (numbers_text zs)) = rw e at g in
-      let n : read_number s (k + 1) ≡ record { ok = true; value = z; next = k + 1 + length (number_text z) } =
+      let f : digit_of s (k + 1 + length (number_text z) + length (numbers_text zs)) ≡ None = rw e at g in
+      let n : read_number s (k + 1) ≡ Some (record { value = z; next = k + 1 + length (number_text z) }) =
       number_read s z (k + 1) a.0 t (first_space zs (k + 1 + length (number_text z)) u f) in
       rw e (sym (cond_false _ _ _ (ap not space))
-      ∙ (sym (cond_false _ _ _ (ap (λ (w : WholeNumber). not w.ok) n))
-      ∙ (ap (λ (w : WholeNumber). read_numbers (length zs) s (i + 1) (record { ok = true; next = w.next; values = set v i w.value })) n
-      ∙ rw (← add-one i) (numbers_read zs (i + 1) (k + 1 + length (number_text z)) (set v i z) a.1 u f))))
+      ∙ rw n (rw (← add-one i) (numbers_read zs (i + 1) (k + 1 + length (number_text z)) (set v i z) a.1 u f)))
 
   -- what is read as numbers are their texts; the values before them are as they were
   pub record Numbers (m i k : ℕ) (v : List ℤ) (q : Reading) : Type 0 where
@@ -101,27 +101,28 @@ module _ (s : List ℕ) where
       let e : k ≡ k + 0 = omega arith in
       record { there = refl; next_is = e; before = λ j g. refl; nine = tt }
   numbers_give (suc m) i k v l h =
-      by (here_of s k 32) (read_number s (k + 1)).ok refl refl
-      (numbers_give m (i + 1) (read_number s (k + 1)).next (set v i (read_number s (k + 1)).value) (rw (length-set v i (read_number s (k + 1)).value) (omega arith))) h
+      by (here_of s k 32) (read_number s (k + 1)) refl refl
+      (λ n. numbers_give m (i + 1) n.next (set v i n.value) (rw (length-set v i n.value) (omega arith)))
     where
-      n : WholeNumber
-      n = read_number s (k + 1)
-
       q : Reading
       q = read_numbers (suc m) s i (record { ok = true; next = k; values = v })
 
-      r : Reading
-      r = read_numbers m s (i + 1) (record { ok = true; next = n.next; values = set v i n.value })
+      r : WholeNumber → Reading
+      r n = read_numbers m s (i + 1) (record { ok = true; next = n.next; values = set v i n.value })
 
-      by : (a b : Bool) → here_of s k 32 ≡ a → n.ok ≡ b → (r.ok ≡ true → Numbers m (i + 1) n.next (set v i n.value) r) → q.ok ≡ true → Numbers (suc m) i k v q
-      by false b e f g h = absurd (false≢true (ap (λ (t : Reading). t.ok) (cond_true _ _ _ (ap not e)) ∙ h))
-      by true false e f g h = absurd (false≢true (ap (λ (t : Reading). t.ok) (cond_true _ _ _ (ap not f) ∙ cond_false _ _ _ (ap not e)) ∙ h))
-      by true true e f g h =
-          let p : r ≡ q = cond_false _ _ _ (ap not f) ∙ cond_false _ _ _ (ap not e) in
-          let w : Number s (k + 1) = number_gives s (k + 1) f in
+      by : (a : Bool) (x : Option WholeNumber) → here_of s k 32 ≡ a → read_number s (k + 1) ≡ x
+          → ((n : WholeNumber) → (r n).ok ≡ true → Numbers m (i + 1) n.next (set v i n.value) (r n)) → Numbers (suc m) i k v q
+      by false x e f g = absurd (false≢true (ap (λ (t : Reading). t.ok) (cond_true _ _ _ (ap not e)) ∙ h))
+      by true None e f g =
+          let p : stopped_of (record { ok = true; next = k; values = v }) ≡ q = rw f (cond_false _ _ _ (ap not e)) in
+          absurd (false≢true (ap (λ (t : Reading). t.ok) p ∙ h))
+      by true (Some n) e f g =
+          let p : r n ≡ q = rw f (cond_false _ _ _ (ap not e)) in
+          let w : Number s (k + 1) = number_gives s (k + 1) n f in
+          let same : n ≡ record { value = w.number; next = k + 1 + length (number_text w.number) } = (let z = sym f ∙ w.is in cc) in
           numbers_more m i k v w.number q (omega arith) w.nine e w.there
-          (subst (λ (x : WholeNumber). Numbers m (i + 1) x.next (set v i x.value) q) w.is
-          (subst (λ (t : Reading). Numbers m (i + 1) n.next (set v i n.value) t) p (g (ap (λ (t : Reading). t.ok) p ∙ h))))
+          (subst (λ (x : WholeNumber). Numbers m (i + 1) x.next (set v i x.value) q) same
+          (subst (λ (t : Reading). Numbers m (i + 1) n.next (set v i n.value) t) p (g n (ap (λ (t : Reading). t.ok) p ∙ h))))
 
 -- ---- parts
 
@@ -155,13 +156,13 @@ part_same a b zero i f = refl
 part_same a b (suc m) i f = rw (f i (omega arith), part_same a b m (i + 1) (λ j g. f j (omega arith)))
 
 module _ (s : List ℕ) where
-  plain_first : (t : List ℕ) (k : ℕ) → T (plain t) → starts_of s k t ≡ true → 9 < digit_of s k
+  plain_first : (t : List ℕ) (k : ℕ) → T (plain t) → starts_of s k t ≡ true → digit_of s k ≡ None
   unfolding starts_of
   plain_first [] k a h = elim a [ ]
   plain_first (c ∷ t) k a h = no_digit s k c (ltb→lt c 48 a) (and_first _ (starts_of s (k + 1) t) h)
 
   field_read : (text : List ℕ) (i m k : ℕ) (v w : List ℤ) → AllNine (values_from v m i) → starts_of s k (text ++ numbers_text (values_from v m i)) ≡ true
-      → 9 < digit_of s (k + length (text ++ numbers_text (values_from v m i)))
+      → digit_of s (k + length (text ++ numbers_text (values_from v m i))) ≡ None
       → field_of s text i m (record { ok = true; next = k; values = w })
       ≡ record { ok = true; next = k + length (text ++ numbers_text (values_from v m i)); values = sets w i (values_from v m i) }
   unfolding field_of
@@ -174,7 +175,7 @@ module _ (s : List ℕ) where
       ∙ numbers_read s zs i (k + length text) w a (starts_rest s k text (numbers_text zs) h) (rw e at g)))
 
   pub parts_read : (ps : List Part) (k : ℕ) (v w : List ℤ) → AllPlain ps → NineIn ps v → starts_of s k (parts_text ps v) ≡ true
-      → 9 < digit_of s (k + length (parts_text ps v))
+      → digit_of s (k + length (parts_text ps v)) ≡ None
       → read_of s ps (record { ok = true; next = k; values = w }) ≡ record { ok = true; next = k + length (parts_text ps v); values = filled ps v w }
   unfolding read_of filled parts_text
   parts_read [] k v w a n h g = let e : k + 0 ≡ k = omega arith in rw e
@@ -182,12 +183,12 @@ module _ (s : List ℕ) where
       let t : List ℕ = p.text ++ numbers_text (values_from v p.count p.at) in
       let e : k + length (t ++ parts_text ps v) ≡ k + length t + length (parts_text ps v) = omega (arith, length-append t (parts_text ps v)) in
       let rest : starts_of s (k + length t) (parts_text ps v) ≡ true = starts_rest s k t (parts_text ps v) h in
-      let f : 9 < digit_of s (k + length t + length (parts_text ps v)) = rw e at g in
+      let f : digit_of s (k + length t + length (parts_text ps v)) ≡ None = rw e at g in
       rw e
       (ap (read_of s ps) (field_read p.text p.at p.count k v w n.0 (starts_first s k t (parts_text ps v) h) (next ps (k + length t) a.1 rest f))
       ∙ parts_read ps (k + length t) v (sets w p.at (values_from v p.count p.at)) a.1 n.1 rest f)
     where
-      next : (qs : List Part) (j : ℕ) → AllPlain qs → starts_of s j (parts_text qs v) ≡ true → 9 < digit_of s (j + length (parts_text qs v)) → 9 < digit_of s j
+      next : (qs : List Part) (j : ℕ) → AllPlain qs → starts_of s j (parts_text qs v) ≡ true → digit_of s (j + length (parts_text qs v)) ≡ None → digit_of s j ≡ None
       next [] j b i d = let e : j + 0 ≡ j = omega arith in rw e at d
       next (q ∷ qs) j b i d =
           let t : List ℕ = numbers_text (values_from v q.count q.at) in
@@ -203,11 +204,15 @@ module _ (s : List ℕ) where
   numbers_length : (m i : ℕ) (r : Reading) → length (read_numbers m s i r).values ≡ length r.values
   unfolding read_numbers stopped_of
   numbers_length zero i r = refl
-  numbers_length (suc m) i r =
-      let n : WholeNumber = read_number s (r.next + 1) in
-      let q : Reading = record { ok = true; next = n.next; values = set r.values i n.value } in
-      either_length (not (here_of s r.next 32)) (stopped_of r) _ (length r.values) refl
-      (either_length (not n.ok) (stopped_of r) (read_numbers m s (i + 1) q) (length r.values) refl (numbers_length m (i + 1) q ∙ length-set r.values i n.value))
+  numbers_length (suc m) i r = either_length (not (here_of s r.next 32)) (stopped_of r) _ (length r.values) refl (by (read_number s (r.next + 1)) (λ n. numbers_length m (i + 1) (q n)))
+    where
+      q : WholeNumber → Reading
+      q n = record { ok = true; next = n.next; values = set r.values i n.value }
+
+      by : (x : Option WholeNumber) → ((n : WholeNumber) → length (read_numbers m s (i + 1) (q n)).values ≡ length (q n).values)
+          → length (unwrap_or (option_map (λ (n : WholeNumber). read_numbers m s (i + 1) (q n)) x) (stopped_of r)).values ≡ length r.values
+      by None f = refl
+      by (Some n) f = f n ∙ length-set r.values i n.value
 
   field_length : (text : List ℕ) (i m : ℕ) (r : Reading) → length (field_of s text i m r).values ≡ length r.values
   unfolding field_of stopped_of

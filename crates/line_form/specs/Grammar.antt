@@ -1,5 +1,5 @@
 -- Document 01's line grammar, read from left to right: s is the line's bytes without the newline, k an index into it.
-use Rattle.std.specs.Prelude.{ℕ, zero, suc, ◌+◌, ◌-◌, ◌*◌, Bool, true, false, cond, not, ◌&&◌, List, [], ◌∷◌, ltb, leb, eqb, ℤ, pos, negsuc, length, get_or, set, replicate, Float}
+use Rattle.std.specs.Prelude.{ℕ, zero, suc, ◌+◌, ◌-◌, ◌*◌, Bool, true, false, cond, not, ◌&&◌, Option, None, Some, unwrap_or, option_map, option_and_then, List, [], ◌∷◌, ltb, leb, eqb, ℤ, pos, negsuc, length, get_or, set, replicate, Float}
 use Rattle.std.specs.Float.{binary64}
 use Rattle.std.specs.Float.Ieee.{of_int}
 use Rattle.numbers.specs.Arithmetic.{◌⊘◌}
@@ -21,14 +21,14 @@ unfoldable pub starts_of : List ℕ → ℕ → List ℕ → Bool
 starts_of s k [] = true
 starts_of s k (c ∷ cs) = here_of s k c && starts_of s (k + 1) cs
 
--- the decimal digit at k, '0' to '9' being 48 to 57; 10 where there is none
-unfoldable pub digit_of : List ℕ → ℕ → ℕ
-digit_of s k = cond (ltb k (length s) && (leb 48 (get_or s k 0) && leb (get_or s k 0) 57)) (get_or s k 0 - 48) 10
+-- the decimal digit at k, if there is one, '0' to '9' being 48 to 57
+unfoldable pub digit_of : List ℕ → ℕ → Option ℕ
+digit_of s k = cond (ltb k (length s) && (leb 48 (get_or s k 0) && leb (get_or s k 0) 57)) (Some (get_or s k 0 - 48)) None
 
 -- up to m digits from k on, after digits that make v
 unfoldable pub more_of : ℕ → List ℕ → ℕ → ℕ → Digits
 more_of zero s k v = record { size = v; next = k }
-more_of (suc m) s k v = cond (ltb 9 (digit_of s k)) (record { size = v; next = k }) (more_of m s (k + 1) (10 * v + digit_of s k))
+more_of (suc m) s k v = unwrap_or (option_map (λ d. more_of m s (k + 1) (10 * v + d)) (digit_of s k)) (record { size = v; next = k })
 
 -- minus where the mark is there
 abbrev pub with_sign : Bool → ℕ → ℤ
@@ -37,20 +37,16 @@ with_sign true zero = pos 0
 with_sign true (suc n) = negsuc n
 
 -- nine digits at most, the first one not 0
-unfoldable pub positive_of : Bool → List ℕ → ℕ → WholeNumber
+unfoldable pub positive_of : Bool → List ℕ → ℕ → Option WholeNumber
 positive_of minus s k =
-    cond (ltb 9 (digit_of s k)) (record { ok = false; value = pos 0; next = k })
-    (cond (eqb (digit_of s k) 0) (record { ok = false; value = pos 0; next = k })
-    (record {
-      ok = true;
-      value = with_sign minus (more_of 8 s (k + 1) (digit_of s k)).size;
-      next = (more_of 8 s (k + 1) (digit_of s k)).next;
-    }))
+    option_and_then
+    (λ d. cond (eqb d 0) None (Some (record { value = with_sign minus (more_of 8 s (k + 1) d).size; next = (more_of 8 s (k + 1) d).next })))
+    (digit_of s k)
 
 -- a whole number: 0, or an optional minus and one to nine digits that do not begin with 0
-unfoldable pub read_number : List ℕ → ℕ → WholeNumber
+unfoldable pub read_number : List ℕ → ℕ → Option WholeNumber
 read_number s k =
-    cond (here_of s k 48) (record { ok = true; value = pos 0; next = k + 1 })
+    cond (here_of s k 48) (Some (record { value = pos 0; next = k + 1 }))
     (cond (here_of s k 45) (positive_of true s (k + 1)) (positive_of false s k))
 
 -- whole thousandths
@@ -65,13 +61,9 @@ unfoldable pub read_numbers : ℕ → List ℕ → ℕ → Reading → Reading
 read_numbers zero s i r = r
 read_numbers (suc m) s i r =
     cond (not (here_of s r.next 32)) (stopped_of r)
-    (cond (not (read_number s (r.next + 1)).ok) (stopped_of r)
-    (read_numbers m s (i + 1)
-    (record {
-      ok = true;
-      next = (read_number s (r.next + 1)).next;
-      values = set r.values i (read_number s (r.next + 1)).value;
-    })))
+    (unwrap_or
+    (option_map (λ n. read_numbers m s (i + 1) (record { ok = true; next = n.next; values = set r.values i n.value })) (read_number s (r.next + 1)))
+    (stopped_of r))
 
 -- a text, then m numbers, put at i and on
 unfoldable pub field_of : List ℕ → List ℕ → ℕ → ℕ → Reading → Reading

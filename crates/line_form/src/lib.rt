@@ -2,7 +2,7 @@
 
 #![tactic(auto)]
 
-ghost use Rattle.std.specs.Prelude.{◌≡◌, ◌+◌, ◌≤◌, ◌<◌, pos, length, set, get_or, true};
+ghost use Rattle.std.specs.Prelude.{◌≡◌, ◌+◌, ◌≤◌, ◌<◌, IfSome, pos, length, set, get_or, true};
 ghost use Rattle.line_form.specs.Grammar.{here_of, starts_of, digit_of, more_of, with_sign, positive_of, read_number, stopped_of, read_numbers, field_of, closed_of, start_of, dnet_form_of, ccor_form_of, date_fields, place_fields, activity_fields, later_of, last_fields, run_form_of, switches_of, thousandths_at, history_when, array_of, input_of};
 
 use setting::{History, Input};
@@ -14,10 +14,9 @@ pub struct Digits {
     pub next: usize,
 }
 
-// A whole number read, if there is one, and the index after it.
+// A whole number read, and the index after it.
 #[derive(Clone, Copy)]
 pub struct WholeNumber {
-    pub ok: bool,
     pub value: i32,
     pub next: usize,
 }
@@ -50,33 +49,24 @@ pub fn starts(s: &[u8], k: usize, text: &[u8]) -> bool
     requires { k ≤ length s.now }
     ensures { result ≡ starts_of s.now k text.now }
 {
-    let mut i: usize = 0;
-    while i < text.len() {
-        if k + i >= s.len() {
-            return false;
-        }
-        if s[k + i] != text[i] {
-            return false;
-        }
-        i += 1;
-    }
-    true
+    s[k..].starts_with(text)
 }
 
-pub fn digit(s: &[u8], k: usize) -> u32
-    ensures { result ≡ digit_of s.now k }
+pub fn digit(s: &[u8], k: usize) -> Option<u32>
+    ensures value { result ≡ digit_of s.now k }
+    ensures bound { IfSome result (λ d. (d < 10) × (k < length s.now)) }
 {
     if k >= s.len() {
-        return 10;
+        return None;
     }
     let b = s[k];
-    if b < 48 {
-        return 10;
+    if b < b'0' {
+        return None;
     }
-    if b > 57 {
-        return 10;
+    if b > b'9' {
+        return None;
     }
-    (b - 48) as u32
+    Some((b - b'0') as u32)
 }
 
 pub fn more(s: &[u8], at: usize, first: u32) -> Digits
@@ -84,19 +74,18 @@ pub fn more(s: &[u8], at: usize, first: u32) -> Digits
     requires first_bound { first < 10 }
     ensures { (result ≡ more_of 8 s.now at first) × (result.size < 1000000000) × (result.next ≤ length s.now) }
 {
-    let mut k = at;
     let mut v = first;
-    let mut m: usize = 8;
-    while 0 < m {
-        let d = digit(s, k);
-        if 9 < d {
+    for i in 0..8 {
+        let k = at + i;
+        let Some(d) = digit(s, k) else {
             return Digits { size: v, next: k };
-        }
+        };
         v = 10 * v + d;
-        k += 1;
-        m -= 1;
     }
-    Digits { size: v, next: k }
+    Digits {
+        size: v,
+        next: at + 8,
+    }
 }
 
 // A u32 below 10^9 as an i32.
@@ -118,46 +107,35 @@ pub fn signed(minus: bool, size: u32) -> i32
     z
 }
 
-pub fn positive(minus: bool, s: &[u8], k: usize) -> WholeNumber
+pub fn positive(minus: bool, s: &[u8], k: usize) -> Option<WholeNumber>
     requires { k ≤ length s.now }
-    ensures { (result ≡ positive_of minus s.now k) × (result.next ≤ length s.now) }
+    ensures value { result ≡ positive_of minus s.now k }
+    ensures bound { IfSome result (λ n. n.next ≤ length s.now) }
 {
-    let d = digit(s, k);
-    if 9 < d {
-        return WholeNumber {
-            ok: false,
-            value: 0,
-            next: k,
-        };
-    }
+    let d = digit(s, k)?;
     if d == 0 {
-        return WholeNumber {
-            ok: false,
-            value: 0,
-            next: k,
-        };
+        return None;
     }
     let w = more(s, k + 1, d);
     let z = signed(minus, w.size);
-    WholeNumber {
-        ok: true,
+    Some(WholeNumber {
         value: z,
         next: w.next,
-    }
+    })
 }
 
-pub fn number(s: &[u8], k: usize) -> WholeNumber
+pub fn number(s: &[u8], k: usize) -> Option<WholeNumber>
     requires { k ≤ length s.now }
-    ensures { (result ≡ read_number s.now k) × (result.next ≤ length s.now) }
+    ensures value { result ≡ read_number s.now k }
+    ensures bound { IfSome result (λ n. n.next ≤ length s.now) }
 {
-    if here(s, k, 48) {
-        return WholeNumber {
-            ok: true,
+    if here(s, k, b'0') {
+        return Some(WholeNumber {
             value: 0,
             next: k + 1,
-        };
+        });
     }
-    if here(s, k, 45) {
+    if here(s, k, b'-') {
         return positive(true, s, k + 1);
     }
     positive(false, s, k)
@@ -189,21 +167,16 @@ pub fn numbers(s: &[u8], i: usize, m: usize, r: Reading) -> Reading
     requires next_in_bounds { r.next ≤ length s.now }
     ensures { (result ≡ read_numbers m s.now i r) × (result.next ≤ length s.now) }
 {
-    let mut j = i;
-    let mut left = m;
     let mut q = r;
-    while 0 < left {
+    for j in i..i + m {
         let at = q.next;
-        if !here(s, at, 32) {
+        if !here(s, at, b' ') {
             return stopped(q);
         }
-        let n = number(s, at + 1);
-        if !n.ok {
+        let Some(n) = number(s, at + 1) else {
             return stopped(q);
-        }
+        };
         q = with_number(q, j, n);
-        j += 1;
-        left -= 1;
     }
     q
 }
@@ -340,13 +313,7 @@ pub fn switches_of(r: Reading) -> [i32; 24]
     ensures { result ≡ switches_of r }
 {
     let mut w: [i32; 24] = [0; 24];
-    let v = r.values;
-    let mut i: usize = 0;
-    while i < 24 {
-        let z = v[17 + i];
-        w[i] = z;
-        i += 1;
-    }
+    w.copy_from_slice(&r.values[17..41]);
     w
 }
 
@@ -371,14 +338,15 @@ pub fn history_of(array: bool) -> History
 pub fn array_of(r: Reading) -> [f64; 7]
     ensures { result ≡ array_of r }
 {
-    let a = thousandths_at(r, 10);
-    let b = thousandths_at(r, 11);
-    let c = thousandths_at(r, 12);
-    let d = thousandths_at(r, 13);
-    let e = thousandths_at(r, 14);
-    let f = thousandths_at(r, 15);
-    let g = thousandths_at(r, 16);
-    [a, b, c, d, e, f, g]
+    [
+        thousandths_at(r, 10),
+        thousandths_at(r, 11),
+        thousandths_at(r, 12),
+        thousandths_at(r, 13),
+        thousandths_at(r, 14),
+        thousandths_at(r, 15),
+        thousandths_at(r, 16),
+    ]
 }
 
 pub fn input_of(f: Run) -> Input
@@ -386,30 +354,18 @@ pub fn input_of(f: Run) -> Input
 {
     let r = f.reading;
     let v = r.values;
-    let year = v[0];
-    let doy = v[1];
-    let sec = thousandths_at(r, 2);
-    let alt = thousandths_at(r, 3);
-    let g_lat = thousandths_at(r, 4);
-    let g_long = thousandths_at(r, 5);
-    let lst = thousandths_at(r, 6);
-    let f107a = thousandths_at(r, 7);
-    let f107 = thousandths_at(r, 8);
-    let ap = thousandths_at(r, 9);
-    let history = history_of(f.array);
-    let ap_array = array_of(r);
     Input {
-        year: year,
-        doy: doy,
-        sec: sec,
-        alt: alt,
-        g_lat: g_lat,
-        g_long: g_long,
-        lst: lst,
-        f107a: f107a,
-        f107: f107,
-        ap: ap,
-        history: history,
-        ap_array: ap_array,
+        year: v[0],
+        doy: v[1],
+        sec: thousandths_at(r, 2),
+        alt: thousandths_at(r, 3),
+        g_lat: thousandths_at(r, 4),
+        g_long: thousandths_at(r, 5),
+        lst: thousandths_at(r, 6),
+        f107a: thousandths_at(r, 7),
+        f107: thousandths_at(r, 8),
+        ap: thousandths_at(r, 9),
+        history: history_of(f.array),
+        ap_array: array_of(r),
     }
 }

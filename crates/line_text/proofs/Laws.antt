@@ -6,8 +6,8 @@ use Prim.Native.Nat.{ℕ, zero, suc, ◌+◌, ◌-◌, ◌*◌, ◌^◌, ◌/◌
 use native.Mathlib.Omega.{arith}
 use native.Mathlib.Numerals.{add-one}
 use lib.Dec.{T}
-use lib.ListN.{length, take, drop, get_or, set, length-append}
-use lib.Seq.{take-suc, paste, paste-zero, paste-suc, take-length, take_at, drop_at, length-take-le, drop-drop}
+use lib.ListN.{length, take, drop, get_or, length-append}
+use lib.Seq.{take-suc, paste-zero, take_at, drop_at, length-take-le, drop-drop}
 use native.Mathlib.Nat.{mod-eq_of_lt, le_trans, le_of_lt, add-zero, lt_of_not-le, pow-le-pow_right, pow-suc}
 use Rattle.io.specs.Digits.{last_digits, hex_digit_ascii, IsDigitCount}
 use lib.Ieee.{Float, nan, inf, fin, ne, is_nan, binary64, to_bits}
@@ -16,19 +16,6 @@ use borrow.Author.Tests.{lt-ltb}
 use Rattle.line_text.proofs.Choice.{cond_true}
 use Rattle.line_text.proofs.DecimalDigits.{one_digit, more_digits}
 use Rattle.line_text.specs.Text.{written, Writes, pattern_of, hex_in, hex_text, decimal_in, decimal_text, value_text, spaced_text, row_text, refused_text}
-
--- ---- a text byte by byte
-
-pub first : (b text : List ℕ) (at : ℕ) → b ≡ paste b at text 0
-first b text at = paste-zero b at text
-
-pub next : (b c text : List ℕ) (at i : ℕ) → at + length text ≤ length b → i < length text → c ≡ paste b at text i
-    → set c (at + i) (get_or text i 0) ≡ paste b at text (i + 1)
-next b c text at i h g e = rw (e, add-one) (paste-suc b at text i 0 (omega arith) g)
-
-pub last : (b c text : List ℕ) (at i : ℕ) → i ≡ length text → c ≡ paste b at text i → Writes b at text c (at + i)
-unfolding written
-last b c text at i e f = (f ∙ rw (e, take-length text), ap (λ (k : ℕ). at + k) e)
 
 -- ---- bits
 

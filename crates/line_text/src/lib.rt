@@ -10,13 +10,9 @@ pub fn put(out: &mut [u8], at: usize, text: &[u8]) -> usize
     requires { at + length text.now ≤ length out.old }
     ensures { Writes out.old at text.now out.new result }
 {
-    let mut i: usize = 0;
-    while i < text.len() {
-        let b = text[i];
-        out[at + i] = b;
-        i += 1;
-    }
-    at + i
+    let end = at + text.len();
+    out[at..end].copy_from_slice(text);
+    end
 }
 
 // The bits of x; every NaN has the same.
@@ -64,13 +60,10 @@ pub fn spaced(out: &mut [u8], at: usize, row: [f64; 11]) -> usize
     requires { at + 187 ≤ length out.old }
     ensures { Writes out.old at (spaced_text row) out.new result × (length (spaced_text row) ≡ 187) }
 {
-    let mut k: usize = 0;
     let mut to = at;
-    while k < 11 {
-        let x = row[k];
+    for x in row {
         let a = put(out, to, b" ");
         to = hex(out, a, x);
-        k += 1;
     }
     to
 }

@@ -3,7 +3,7 @@
 
 #![tactic(auto)]
 
-ghost use Rattle.std.specs.Prelude.{◌<◌, ◌≤◌, ◌≡◌, length};
+ghost use Rattle.std.specs.Prelude.{◌≤◌, ◌≡◌, length};
 
 use line_answer::{feed, finish, start};
 use std::io::{Read, Write};
@@ -32,31 +32,20 @@ fn print(rt: &HostRuntime, out: &[u8], used: usize) -> bool
     false
 }
 
-// An empty chunk is the end of the input. A proved loop has to end, and nothing says that the input does: the turns are counted down from a
-// number that no run uses up.
-fn turns_left(turns: u64, n: usize) -> u64
-    requires { 0 < turns }
-    ensures { result < turns }
-{
-    if n == 0 {
-        return 0;
-    }
-    turns - 1
-}
-
+// An empty chunk is the end of the input. A proved loop has to end, and nothing says that the input does: the turns are as many as 64 bits
+// count, which no run uses up.
 fn read_all(rt: &HostRuntime, chunk: &mut [u8], line: &mut [u8], out: &mut [u8])
     requires { (length chunk.old ≡ 512) × (length line.old ≡ 512) × (length out.old ≡ 98816) }
 {
     let mut p = start();
-    let mut turns = u64::MAX;
-    while 0 < turns {
+    for _ in 0..u64::MAX {
         match rt.stdin().read(chunk) {
+            Ok(0) => break,
             Ok(n) => {
                 p = feed(&chunk[..n], line, out, p);
                 if !print(rt, out, p.used) {
                     return;
                 }
-                turns = turns_left(turns, n);
             }
             Err(_) => {
                 say_unread(rt);

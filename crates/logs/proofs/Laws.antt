@@ -1,37 +1,41 @@
 -- The logs met entry by entry, the table filled number by number, and the outcomes of the call.
 use mathlib.Core.Path.{◌≡◌, refl, sym, ap, ap₂, ◌∙◌}
-use mathlib.Core.Bool.{Bool, true, false, cond, not, ◌||◌, false≢true}
+use mathlib.Core.Bool.{Bool, true, false, cond, ◌||◌, false≢true}
 use mathlib.Core.List.{List, [], ◌∷◌, ◌++◌, map, append-nil}
 use Prim.Native.Nat.{ℕ, zero, suc, ◌+◌, ◌-◌, ◌<◌, ◌≤◌}
 use native.Mathlib.Numerals.{add-one}
 use native.Mathlib.Omega.{arith}
-use borrow.Author.Tests.{lt-ltb, le-ltb, le-leb, lt-leb, eq-eqb, ne_eqb, ltb-true, ltb-false, eqb-true, not-true, not-false}
+use borrow.Author.Tests.{lt-ltb, le-ltb, le-leb, lt-leb, eq-eqb, ne_eqb, ltb-true, ltb-false}
 use lib.Dec.{leb, ltb, eqb}
 use lib.ListN.{length, take, drop, get_or, set, replicate, drop_of_length-le, length-drop, take-append-drop}
 use lib.Seq.{take-suc-set, append_snoc, drop-set-lt, drop-drop, drop-cons, drop-length, length-take-le}
 use Rattle.logs.specs.declared.Report.{Report}
-use Rattle.logs.specs.declared.Answer.TheVariants.{Counted, Refused}
+use Rattle.std.proofs.Common.{Result, Ok, Err, is_ok}
+use Rattle.logs.specs.declared.LogsRefusal.{LogsRefusal}
+use Rattle.logs.specs.declared.LogsRefusal.TheVariants.{Unfit, NotRising, ReportLength}
+use Rattle.logs.specs.declared.FindingKind.{FindingKind}
+use Rattle.logs.specs.declared.FindingKind.TheVariants.{EqualPair, UnequalPair, Single1, Single2}
 use Rattle.logs.specs.Logs.{Entry, entries_of, Finding, pair, single1, single2, apart, findings, finding_number, finding_numbers, unfit_log, seconds_rise_from, seconds_rise, accepted_logs, refusal, report_of}
-use Rattle.logs.specs.Lent.{counted_of, lent_answer, lent_after}
+use Rattle.logs.specs.Lent.{lent_answer, lent_after}
 use Rattle.logs.proofs.Theorems.{length_log, only_first}
-use Rattle.logs.specs.Steps.{meet_of, front_of, taken1, taken2}
+use Rattle.logs.specs.Steps.{kind_number, meet_of, front_of, taken1, taken2}
 
 -- ---- the fronts
 
 module _ (t a x b y : ℕ) where
-  pub agree : apart a b ≤ t → x ≡ y → 1 ≡ meet_of t a x b y
+  pub agree : apart a b ≤ t → x ≡ y → EqualPair ≡ meet_of t a x b y
   unfolding meet_of
   agree h e = simp (le-leb _ _ h, eq-eqb _ _ e)
 
-  pub differ : apart a b ≤ t → (x ≡ y → ⊥) → 2 ≡ meet_of t a x b y
+  pub differ : apart a b ≤ t → (x ≡ y → ⊥) → UnequalPair ≡ meet_of t a x b y
   unfolding meet_of
   differ h e = simp (le-leb _ _ h, ne_eqb _ _ e)
 
-  pub earlier : t < apart a b → a < b → 3 ≡ meet_of t a x b y
+  pub earlier : t < apart a b → a < b → Single1 ≡ meet_of t a x b y
   unfolding meet_of
   earlier h e = simp (lt-leb _ _ h, lt-ltb _ _ e)
 
-  pub later : t < apart a b → b ≤ a → 4 ≡ meet_of t a x b y
+  pub later : t < apart a b → b ≤ a → Single2 ≡ meet_of t a x b y
   unfolding meet_of
   later h e = simp (lt-leb _ _ h, le-ltb _ _ e)
 
@@ -52,20 +56,20 @@ entry_at (a ∷ s) [] i e h = absurd (none e)
 entry_at (a ∷ s) (x ∷ b) zero e h = refl
 entry_at (a ∷ s) (x ∷ b) (suc i) e h = entry_at s b i (omega arith) (omega arith)
 
-none_of_second : (t : ℕ) (xs : List Entry) → 3 ≡ front_of t xs []
+none_of_second : (t : ℕ) (xs : List Entry) → Single1 ≡ front_of t xs []
 unfolding front_of
 none_of_second t [] = refl
 none_of_second t (x ∷ xs) = refl
 
 module _ (s₁ b₁ s₂ b₂ : List ℕ) (e : length s₁ ≡ length b₁) (f : length s₂ ≡ length b₂) (t i j : ℕ) where
-  pub no_second : length s₂ ≤ j → 3 ≡ front_of t (drop i (entries_of s₁ b₁)) (drop j (entries_of s₂ b₂))
+  pub no_second : length s₂ ≤ j → Single1 ≡ front_of t (drop i (entries_of s₁ b₁)) (drop j (entries_of s₂ b₂))
   no_second h = rw (used_up s₂ b₂ j f h) (none_of_second t (drop i (entries_of s₁ b₁)))
 
-  pub no_first : j < length s₂ → length s₁ ≤ i → 4 ≡ front_of t (drop i (entries_of s₁ b₁)) (drop j (entries_of s₂ b₂))
+  pub no_first : j < length s₂ → length s₁ ≤ i → Single2 ≡ front_of t (drop i (entries_of s₁ b₁)) (drop j (entries_of s₂ b₂))
   unfolding front_of
   no_first g h = rw (used_up s₁ b₁ i e h, entry_at s₂ b₂ j f g)
 
-  pub two_fronts : j < length s₂ → i < length s₁ → (k : ℕ) → k ≡ meet_of t (get_or s₁ i 0) (get_or b₁ i 0) (get_or s₂ j 0) (get_or b₂ j 0)
+  pub two_fronts : j < length s₂ → i < length s₁ → (k : FindingKind) → k ≡ meet_of t (get_or s₁ i 0) (get_or b₁ i 0) (get_or s₂ j 0) (get_or b₂ j 0)
       → k ≡ front_of t (drop i (entries_of s₁ b₁)) (drop j (entries_of s₂ b₂))
   unfolding front_of
   two_fronts g h k p = rw (entry_at s₁ b₁ i e h, entry_at s₂ b₂ j f g) p
@@ -74,20 +78,20 @@ module _ (s₁ b₁ s₂ b₂ : List ℕ) (e : length s₁ ≡ length b₁) (f :
 
 -- the first number, and those of what it leaves of the logs
 module _ (t : ℕ) where
-  abbrev rest : ℕ → List Entry → List Entry → List ℕ
+  abbrev rest : FindingKind → List Entry → List Entry → List ℕ
   rest k xs ys = finding_numbers t (drop (taken1 k) xs) (drop (taken2 k) ys)
 
   two : (x y : Entry) (xs ys : List Entry) (p q r : Bool) → eqb x.bits y.bits ≡ r
       → map finding_number (cond p (pair x y ∷ findings t xs ys) (cond q (single1 x ∷ findings t xs (y ∷ ys)) (single2 y ∷ findings t (x ∷ xs) ys)))
-      ≡ cond p (cond r 1 2) (cond q 3 4) ∷ rest (cond p (cond r 1 2) (cond q 3 4)) (x ∷ xs) (y ∷ ys)
-  unfolding finding_numbers taken1 taken2
+      ≡ kind_number (cond p (cond r EqualPair UnequalPair) (cond q Single1 Single2)) ∷ rest (cond p (cond r EqualPair UnequalPair) (cond q Single1 Single2)) (x ∷ xs) (y ∷ ys)
+  unfolding finding_numbers
   two x y xs ys true q true e = ap (λ (b : Bool). cond b 1 2 ∷ map finding_number (findings t xs ys)) e
   two x y xs ys true q false e = ap (λ (b : Bool). cond b 1 2 ∷ map finding_number (findings t xs ys)) e
   two x y xs ys false true r e = refl
   two x y xs ys false false r e = refl
 
-  first_number : (xs ys : List Entry) → 1 ≤ length xs + length ys → finding_numbers t xs ys ≡ front_of t xs ys ∷ rest (front_of t xs ys) xs ys
-  unfolding finding_numbers findings taken1 taken2 front_of meet_of
+  first_number : (xs ys : List Entry) → 1 ≤ length xs + length ys → finding_numbers t xs ys ≡ kind_number (front_of t xs ys) ∷ rest (front_of t xs ys) xs ys
+  unfolding finding_numbers findings front_of meet_of
   first_number [] [] h = absurd (none h)
     where
       none : 1 ≤ 0 → ⊥
@@ -98,16 +102,14 @@ module _ (t : ℕ) where
       two x y xs ys (leb (apart x.second y.second) t) (ltb x.second y.second) (eqb x.bits y.bits) refl
 
   -- it takes no more than there is
-  at_most : (k : ℕ) → (taken1 k ≤ 1) × (taken2 k ≤ 1)
-  unfolding taken1 taken2
-  at_most k = (go (eqb k 4), go (eqb k 3))
-    where
-      go : (b : Bool) → cond b 0 1 ≤ 1
-      go true = omega arith
-      go false = omega arith
+  at_most : (k : FindingKind) → (taken1 k ≤ 1) × (taken2 k ≤ 1)
+  at_most EqualPair = (omega arith, omega arith)
+  at_most UnequalPair = (omega arith, omega arith)
+  at_most Single1 = (omega arith, omega arith)
+  at_most Single2 = (omega arith, omega arith)
 
   within_first : (xs ys : List Entry) → 1 ≤ length xs + length ys → taken1 (front_of t xs ys) ≤ length xs
-  unfolding taken1 front_of
+  unfolding front_of
   within_first [] [] h = absurd (none h)
     where
       none : 1 ≤ 0 → ⊥
@@ -116,7 +118,7 @@ module _ (t : ℕ) where
   within_first (x ∷ xs) ys h = omega (arith, (at_most (front_of t (x ∷ xs) ys)).0)
 
   within_second : (xs ys : List Entry) → 1 ≤ length xs + length ys → taken2 (front_of t xs ys) ≤ length ys
-  unfolding taken2 front_of
+  unfolding front_of
   within_second [] [] h = absurd (none h)
     where
       none : 1 ≤ 0 → ⊥
@@ -125,14 +127,11 @@ module _ (t : ℕ) where
   within_second xs (y ∷ ys) h = omega (arith, (at_most (front_of t xs (y ∷ ys))).1)
 
 -- a finding takes an entry of one log at least
-some_taken : (k : ℕ) → 1 ≤ taken1 k + taken2 k
-unfolding taken1 taken2
-some_taken k = go (eqb k 4) (eqb k 3) refl refl
-  where
-    go : (p q : Bool) → eqb k 4 ≡ p → eqb k 3 ≡ q → 1 ≤ cond (eqb k 4) 0 1 + cond (eqb k 3) 0 1
-    go true true e f = let u : k ≡ 4 = eqb-true k 4 e in let v : k ≡ 3 = eqb-true k 3 f in omega arith
-    go true false e f = simp (e, f) (omega arith)
-    go false q e f = simp e (omega arith)
+some_taken : (k : FindingKind) → 1 ≤ taken1 k + taken2 k
+some_taken EqualPair = omega arith
+some_taken UnequalPair = omega arith
+some_taken Single1 = omega arith
+some_taken Single2 = omega arith
 
 drop_zeros : (m : ℕ) → drop 1 (replicate {A = ℕ} m 0) ≡ replicate (m - 1) 0
 drop_zeros zero = refl
@@ -166,7 +165,7 @@ module _ (s₁ b₁ s₂ b₂ : List ℕ) (e : length s₁ ≡ length b₁) (f :
       → 1 ≤ length (drop i (entries_of s₁ b₁)) + length (drop j (entries_of s₂ b₂))
   entries_left g h w = simp length-drop (omega (arith, length_log s₁ b₁ e, length_log s₂ b₂ f))
 
-  module _ (g : i ≤ length s₁) (h : j ≤ length s₂) (w : i + j < length s₁ + length s₂) (k p q : ℕ)
+  module _ (g : i ≤ length s₁) (h : j ≤ length s₂) (w : i + j < length s₁ + length s₂) (k : FindingKind) (p q : ℕ)
       (u : k ≡ front_of t (drop i (entries_of s₁ b₁)) (drop j (entries_of s₂ b₂))) (c : p ≡ taken1 k) (d : q ≡ taken2 k) where
     pub first_fits : i + p ≤ length s₁
     first_fits =
@@ -181,12 +180,12 @@ module _ (s₁ b₁ s₂ b₂ : List ℕ) (e : length s₁ ≡ length b₁) (f :
     pub some_entry : 1 ≤ p + q
     some_entry = omega (arith, some_taken k)
 
-    pub turn : (n : ℕ) (table : List ℕ) → n < 512 → length table ≡ 512
+    pub turn : (n m : ℕ) (table : List ℕ) → m ≡ kind_number k → n < 512 → length table ≡ 512
         → Filled t (entries_of s₁ b₁) (entries_of s₂ b₂) table n i j
-        → Filled t (entries_of s₁ b₁) (entries_of s₂ b₂) (set table n k) (n + 1) (i + p) (j + q)
-    turn n table m l r = (
-      rw (add-one, take-suc-set table n k (omega arith), append_snoc, c, d, ← drop-drop (taken1 k) i (entries_of s₁ b₁), ← drop-drop (taken2 k) j (entries_of s₂ b₂), u, ← first_number t (drop i (entries_of s₁ b₁)) (drop j (entries_of s₂ b₂)) (entries_left g h w)) r.0,
-      rw add-one (drop-set-lt (suc n) table n k (omega arith)) ∙ zeros,
+        → Filled t (entries_of s₁ b₁) (entries_of s₂ b₂) (set table n m) (n + 1) (i + p) (j + q)
+    turn n m table z o l r = (
+      rw (z, add-one, take-suc-set table n (kind_number k) (omega arith), append_snoc, c, d, ← drop-drop (taken1 k) i (entries_of s₁ b₁), ← drop-drop (taken2 k) j (entries_of s₂ b₂), u, ← first_number t (drop i (entries_of s₁ b₁)) (drop j (entries_of s₂ b₂)) (entries_left g h w)) r.0,
+      rw add-one (drop-set-lt (suc n) table n m (omega arith)) ∙ zeros,
     )
       where
         fewer : 512 - n - 1 ≡ 512 - (n + 1)
@@ -200,7 +199,7 @@ module _ (s₁ b₁ s₂ b₂ : List ℕ) (e : length s₁ ≡ length b₁) (f :
 pub filled : (s₁ b₁ s₂ b₂ : List ℕ) → length s₁ ≡ length b₁ → length s₂ ≡ length b₂ → (t i j n : ℕ) (table : List ℕ) → n ≤ 512 → length table ≡ 512
     → length s₁ ≤ i → length s₂ ≤ j
     → Filled t (entries_of s₁ b₁) (entries_of s₂ b₂) table n i j
-    → record { answer = Counted n; table = table } ≡ accepted_logs (finding_numbers t (entries_of s₁ b₁) (entries_of s₂ b₂))
+    → record { answer = Ok n; table = table } ≡ accepted_logs (finding_numbers t (entries_of s₁ b₁) (entries_of s₂ b₂))
 unfolding finding_numbers findings
 filled s₁ b₁ s₂ b₂ e f t i j n table m l g h r =
     let N = finding_numbers t (entries_of s₁ b₁) (entries_of s₂ b₂) in
@@ -208,7 +207,7 @@ filled s₁ b₁ s₂ b₂ e f t i j n table m l g h r =
     let count : n ≡ length N = sym (length-take-le n table (omega arith)) ∙ ap length whole in
     let both : table ≡ N ++ replicate (512 - length N) 0 =
     sym (take-append-drop n table) ∙ ap₂ (λ (a z : List ℕ). a ++ z) whole (r.1 ∙ ap (λ (k : ℕ). replicate (512 - k) 0) count) in
-    ap₂ (λ (k : ℕ) (l : List ℕ). record { answer = Counted k; table = l }) count both
+    ap₂ (λ (k : ℕ) (l : List ℕ). record { answer = Ok k; table = l }) count both
 
 -- ---- rising seconds
 
@@ -239,22 +238,22 @@ module _ (s : List ℕ) (last i : ℕ) where
 -- ---- the call
 
 module _ (s₁ b₁ s₂ b₂ : List ℕ) (t : ℕ) where
-  pub unfit_first : unfit_log s₁ b₁ ≡ true → refusal 14 1 ≡ report_of s₁ b₁ s₂ b₂ t
+  pub unfit_first : unfit_log s₁ b₁ ≡ true → refusal (Unfit 1) ≡ report_of s₁ b₁ s₂ b₂ t
   unfolding report_of
   unfit_first e = simp e
 
   module _ (e : unfit_log s₁ b₁ ≡ false) where
-    pub unfit_second : unfit_log s₂ b₂ ≡ true → refusal 14 2 ≡ report_of s₁ b₁ s₂ b₂ t
+    pub unfit_second : unfit_log s₂ b₂ ≡ true → refusal (Unfit 2) ≡ report_of s₁ b₁ s₂ b₂ t
     unfolding report_of
     unfit_second f = simp (e, f)
 
     module _ (f : unfit_log s₂ b₂ ≡ false) (p : ℕ) (i : p ≡ seconds_rise s₁) where
-      pub first_falls : p < length s₁ → refusal 15 p ≡ report_of s₁ b₁ s₂ b₂ t
+      pub first_falls : p < length s₁ → refusal (NotRising p) ≡ report_of s₁ b₁ s₂ b₂ t
       unfolding report_of
       first_falls g = let w : seconds_rise s₁ < length s₁ = rw i at g in rw i (simp (e, f, lt-ltb _ _ w))
 
       module _ (g : length s₁ ≤ p) (q : ℕ) (j : q ≡ seconds_rise s₂) where
-        pub second_falls : q < length s₂ → refusal 15 (256 + q) ≡ report_of s₁ b₁ s₂ b₂ t
+        pub second_falls : q < length s₂ → refusal (NotRising (256 + q)) ≡ report_of s₁ b₁ s₂ b₂ t
         unfolding report_of
         second_falls h =
             let v : length s₁ ≤ seconds_rise s₁ = rw i at g in
@@ -271,22 +270,22 @@ module _ (s₁ b₁ s₂ b₂ : List ℕ) (t : ℕ) where
 -- ---- a lent slice
 
 module _ (s₁ b₁ s₂ b₂ : List ℕ) (t : ℕ) (xs : List ℕ) where
-  pub no_room : (length xs ≡ 512 → ⊥) → (Refused 4 512 ≡ lent_answer s₁ b₁ s₂ b₂ t (length xs)) × (xs ≡ lent_after s₁ b₁ s₂ b₂ t xs)
+  pub no_room : (length xs ≡ 512 → ⊥) → (Err (ReportLength 512) ≡ lent_answer s₁ b₁ s₂ b₂ t (length xs)) × (xs ≡ lent_after s₁ b₁ s₂ b₂ t xs)
   unfolding lent_answer lent_after
   no_room h = (simp (ne_eqb _ _ h), simp (ne_eqb _ _ h))
 
-  module _ (h : length xs ≡ 512) (r : Report) (e : r ≡ report_of s₁ b₁ s₂ b₂ t) (v : Bool) (f : v ≡ counted_of r.answer) where
+  module _ (h : length xs ≡ 512) (r : Report) (e : r ≡ report_of s₁ b₁ s₂ b₂ t) where
     answers : r.answer ≡ lent_answer s₁ b₁ s₂ b₂ t (length xs)
     unfolding lent_answer
     answers = simp (eq-eqb _ _ h, ← e)
 
-    after : lent_after s₁ b₁ s₂ b₂ t xs ≡ cond v r.table xs
+    after : (a : Result ℕ LogsRefusal) → r.answer ≡ a → lent_after s₁ b₁ s₂ b₂ t xs ≡ cond (is_ok a) r.table xs
     unfolding lent_after
-    after = simp (← answers, ← e, ← f)
+    after a f = simp (← answers, ← e, f)
 
-    pub kept : not v ≡ true → (r.answer ≡ lent_answer s₁ b₁ s₂ b₂ t (length xs)) × (xs ≡ lent_after s₁ b₁ s₂ b₂ t xs)
-    kept g = (answers, rw (after, not-true v g))
+    pub kept : (f : LogsRefusal) (a : Result ℕ LogsRefusal) → r.answer ≡ Err f → a ≡ Err f → (a ≡ lent_answer s₁ b₁ s₂ b₂ t (length xs)) × (xs ≡ lent_after s₁ b₁ s₂ b₂ t xs)
+    kept f a g i = (i ∙ sym g ∙ answers, sym (after (Err f) g))
 
-    pub written : not v ≡ false → (ys : List ℕ) → ys ≡ r.table
-        → (r.answer ≡ lent_answer s₁ b₁ s₂ b₂ t (length xs)) × (ys ≡ lent_after s₁ b₁ s₂ b₂ t xs)
-    written g ys w = (answers, rw (after, not-false v g) w)
+    pub written : (n : ℕ) → r.answer ≡ Ok n → (ys : List ℕ) → ys ≡ r.table
+        → (Ok n ≡ lent_answer s₁ b₁ s₂ b₂ t (length xs)) × (ys ≡ lent_after s₁ b₁ s₂ b₂ t xs)
+    written n g ys w = (sym g ∙ answers, w ∙ sym (after (Ok n) g))

@@ -1,12 +1,13 @@
 -- What holds of the report: each entry once, the count, the boards exchanged, the tolerance, the places of 15.
-use Rattle.std.specs.Prelude.{ℕ, zero, suc, ◌+◌, ◌*◌, ◌-◌, ◌≤◌, ◌<◌, ◌≡◌, refl, Bool, true, false, cond, not, ◌||◌, leb, ltb, eqb, get_or, replicate}
+use Rattle.std.specs.Prelude.{ℕ, zero, suc, ◌+◌, ◌*◌, ◌-◌, ◌≤◌, ◌<◌, ◌≡◌, refl, Bool, true, false, cond, not, ◌||◌, Result, Ok, Err, leb, ltb, eqb, get_or, replicate}
 use Rattle.std.proofs.Common.{sym, ◌∙◌, ap, ap₂, subst, ⊎_elim, arith, add_comm, ltb-true, ltb-false, leb-true, leb-false, lt-ltb, le-ltb, eqb-true, eq-eqb, ne_eqb}
 use Rattle.std.proofs.lemmas.Bool.{false≢true, eqb-false}
 use mathlib.Core.List.Memᴰ
 use mathlib.Core.List.{List, [], ◌∷◌, ◌++◌, map, map-map, map-append, Memᴰ}
 use Rattle.std.proofs.Math.ListN.{length}
 use Rattle.std.proofs.lemmas.List.{length-map}
-use Rattle.logs.specs.declared.Answer.TheVariants.{Counted, Refused}
+use Rattle.logs.specs.declared.LogsRefusal.{LogsRefusal}
+use Rattle.logs.specs.declared.LogsRefusal.TheVariants.{Unfit, NotRising}
 use Rattle.logs.specs.declared.Report.{Report}
 use Rattle.logs.specs.Logs.{Entry, entries_of, Finding, pair, single1, single2, apart, findings, finding_number, finding_numbers, unfit_log, seconds_rise_from, seconds_rise, accepted_logs, refusal, report_of}
 
@@ -138,26 +139,23 @@ log_fit s b h = go (ltb 256 (length s)) (eqb (length s) (length b)) refl refl h
     go false true u v w = (eqb-true _ _ v, ltb-false _ _ u)
     go false false u v w = absurd (false≢true (sym w))
 
-never : {X : Type 0} (n k m : ℕ) → Refused n k ≡ Counted m → X
-never n k m e = let z : ◌≡◌ {A = ℕ} 0 1 = cc in absurd (none z)
-  where
-    none : ◌≡◌ {A = ℕ} 0 1 → ⊥
-    none z = omega arith
+never : {X : Type 0} (f : LogsRefusal) (m : ℕ) → Err f ≡ Ok m → X
+never f m e = absurd (cc)
 
 module _ (s₁ b₁ s₂ b₂ : List ℕ) (t n : ℕ) where
   abbrev numbers : List ℕ
   numbers = finding_numbers t (entries_of s₁ b₁) (entries_of s₂ b₂)
 
   passed : (a b c d : Bool) (p q : ℕ) (r : Report)
-      → (cond a (refusal 14 1) (cond b (refusal 14 2) (cond c (refusal 15 p) (cond d (refusal 15 q) r)))).answer ≡ Counted n
+      → (cond a (refusal (Unfit 1)) (cond b (refusal (Unfit 2)) (cond c (refusal (NotRising p)) (cond d (refusal (NotRising q)) r)))).answer ≡ Ok n
       → (a ≡ false) × (b ≡ false) × (c ≡ false) × (d ≡ false)
-  passed true b c d p q r e = never 14 1 n e
-  passed false true c d p q r e = never 14 2 n e
-  passed false false true d p q r e = never 15 p n e
-  passed false false false true p q r e = never 15 q n e
+  passed true b c d p q r e = never (Unfit 1) n e
+  passed false true c d p q r e = never (Unfit 2) n e
+  passed false false true d p q r e = never (NotRising p) n e
+  passed false false false true p q r e = never (NotRising q) n e
   passed false false false false p q r e = (refl, refl, refl, refl)
 
-  module _ (e : (report_of s₁ b₁ s₂ b₂ t).answer ≡ Counted n) where
+  module _ (e : (report_of s₁ b₁ s₂ b₂ t).answer ≡ Ok n) where
     tests_passed : (unfit_log s₁ b₁ ≡ false) × (unfit_log s₂ b₂ ≡ false) × (ltb (seconds_rise s₁) (length s₁) ≡ false) × (ltb (seconds_rise s₂) (length s₂) ≡ false)
     unfolding report_of
     tests_passed =
@@ -168,7 +166,7 @@ module _ (s₁ b₁ s₂ b₂ : List ℕ) (t n : ℕ) where
     is_accepted = let h = tests_passed in simp (h.0, h.1, h.2, h.3)
 
     is_count : n ≡ length numbers
-    is_count = let f : Counted (length numbers) ≡ Counted n = sym (ap (λ (r : Report). r.answer) is_accepted) ∙ e in cc
+    is_count = let f : ◌≡◌ {A = Result ℕ LogsRefusal} (Ok (length numbers)) (Ok n) = sym (ap (λ (r : Report). r.answer) is_accepted) ∙ e in cc
 
     -- The count is that of the numbers found, at most 512, and they stand at the start of a table of 512 with 0 behind them.
     pub count_at_most_512 : (n ≡ length numbers) × (n ≤ 512)
@@ -270,7 +268,7 @@ zeros_stay : (m : ℕ) → replicate m 0 ≡ map exchanged (replicate m 0)
 zeros_stay zero = refl
 zeros_stay (suc m) = ap (λ (r : List ℕ). 0 ∷ r) (zeros_stay m)
 
-module _ (s₁ b₁ s₂ b₂ : List ℕ) (t n : ℕ) (e : (report_of s₁ b₁ s₂ b₂ t).answer ≡ Counted n) where
+module _ (s₁ b₁ s₂ b₂ : List ℕ) (t n : ℕ) (e : (report_of s₁ b₁ s₂ b₂ t).answer ≡ Ok n) where
   abbrev N : List ℕ
   N = finding_numbers t (entries_of s₁ b₁) (entries_of s₂ b₂)
 
@@ -293,10 +291,10 @@ module _ (s₁ b₁ s₂ b₂ : List ℕ) (t n : ℕ) (e : (report_of s₁ b₁ 
       ∙ (ap (λ (l : List ℕ). map exchanged N ++ l) (zeros_stay (512 - length N)) ∙ sym (map-append exchanged N (replicate (512 - length N) 0)))
 
   -- Exchanging the boards of an accepted call keeps the count, exchanges 3 and 4 in the table and keeps 1 and 2.
-  pub report_exchanged : report_of s₂ b₂ s₁ b₁ t ≡ record { answer = Counted n; table = map exchanged (report_of s₁ b₁ s₂ b₂ t).table }
+  pub report_exchanged : report_of s₂ b₂ s₁ b₁ t ≡ record { answer = Ok n; table = map exchanged (report_of s₁ b₁ s₂ b₂ t).table }
   report_exchanged =
       accepted_too
-      ∙ ap₂ (λ (k : ℕ) (l : List ℕ). record { answer = Counted k; table = l })
+      ∙ ap₂ (λ (k : ℕ) (l : List ℕ). record { answer = Ok k; table = l })
       (as_many ∙ sym (is_count s₁ b₁ s₂ b₂ t n e))
       (table_swapped ∙ sym (ap (λ (r : Report). map exchanged r.table) (is_accepted s₁ b₁ s₂ b₂ t n e)))
 

@@ -1,6 +1,7 @@
 -- Document 02, W-209: the two boards' logs held against each other.
-use Rattle.std.specs.Prelude.{ℕ, ◌+◌, ◌-◌, Bool, cond, not, ◌||◌, List, [], ◌∷◌, ◌++◌, map, leb, ltb, eqb, length, replicate}
-use Rattle.logs.specs.declared.Answer.TheVariants.{Counted, Refused}
+use Rattle.std.specs.Prelude.{ℕ, ◌+◌, ◌-◌, Bool, cond, not, ◌||◌, Ok, Err, List, [], ◌∷◌, ◌++◌, map, leb, ltb, eqb, length, replicate}
+use Rattle.logs.specs.declared.LogsRefusal.{LogsRefusal}
+use Rattle.logs.specs.declared.LogsRefusal.TheVariants.{Unfit, NotRising, ReportLength}
 use Rattle.logs.specs.declared.Report.{Report}
 
 -- an entry of a log: its second and the bits of its density
@@ -59,17 +60,28 @@ seconds_rise (a ∷ s) = seconds_rise_from 1 a s
 
 -- accepted: the count, and a table of 512 numbers, those found and 0 past the count
 abbrev pub accepted_logs : List ℕ → Report
-accepted_logs ns = record { answer = Counted (length ns); table = ns ++ replicate (512 - length ns) 0 }
+accepted_logs ns = record { answer = Ok (length ns); table = ns ++ replicate (512 - length ns) 0 }
 
--- refused: number and place
-abbrev pub refusal : ℕ → ℕ → Report
-refusal n k = record { answer = Refused n k; table = replicate 512 0 }
+-- refused
+abbrev pub refusal : LogsRefusal → Report
+refusal e = record { answer = Err e; table = replicate 512 0 }
+
+-- document 02's number of a refusal, and its place
+abbrev pub refusal_number : LogsRefusal → ℕ
+refusal_number (Unfit board) = 14
+refusal_number (NotRising index) = 15
+refusal_number (ReportLength n) = 4
+
+abbrev pub refusal_place : LogsRefusal → ℕ
+refusal_place (Unfit board) = board
+refusal_place (NotRising index) = index
+refusal_place (ReportLength n) = n
 
 -- 14 at the board, board 1 first; then 15 at the first later entry's index in board 1, else at 256 plus that in board 2
 unfoldable pub report_of : List ℕ → List ℕ → List ℕ → List ℕ → ℕ → Report
 report_of s₁ b₁ s₂ b₂ t =
-    cond (unfit_log s₁ b₁) (refusal 14 1)
-    (cond (unfit_log s₂ b₂) (refusal 14 2)
-    (cond (ltb (seconds_rise s₁) (length s₁)) (refusal 15 (seconds_rise s₁))
-    (cond (ltb (seconds_rise s₂) (length s₂)) (refusal 15 (256 + seconds_rise s₂))
+    cond (unfit_log s₁ b₁) (refusal (Unfit 1))
+    (cond (unfit_log s₂ b₂) (refusal (Unfit 2))
+    (cond (ltb (seconds_rise s₁) (length s₁)) (refusal (NotRising (seconds_rise s₁)))
+    (cond (ltb (seconds_rise s₂) (length s₂)) (refusal (NotRising (256 + seconds_rise s₂)))
     (accepted_logs (finding_numbers t (entries_of s₁ b₁) (entries_of s₂ b₂))))))

@@ -1,11 +1,13 @@
 -- The State that gtd7 leaves: when its mark says that dm28 was set, that dm28 is 0 where it does not, and that it says so after every accepted run below
 -- 72.5 km.
-use Rattle.std.specs.Prelude.{ℕ, ◌≡◌, refl, Bool, true, false, cond, not, ◌&&◌, List, eqb, ℤ, Float}
+use Rattle.std.specs.Prelude.{ℕ, ◌≡◌, refl, Bool, true, false, cond, not, ◌&&◌, List, eqb, ℤ, Float, Err, Ok}
 use Rattle.std.proofs.Common.{sym, ap, ◌∙◌}
 use Rattle.std.proofs.lemmas.Bool.{false≢true}
 use Rattle.std.specs.Float.Ieee.{lt, le, eq, ne, of_bits}
 use Rattle.numbers.specs.Arithmetic.{◌‼◌}
 use Rattle.numbers.specs.Literals.{0·0, 1·0, 72·5}
+use Rattle.refusals.specs.Refusals.{Accepted, Answer, Refused, accepted_of}
+use Rattle.refusals.specs.declared.Reason.TheVariants.{NotMixed, WrongLength}
 use Rattle.setting.specs.declared.Input.{Input}
 use Rattle.setting.specs.declared.View.{View}
 use Rattle.setting.specs.Switches.{given, is_one, on_off, filled, sw_of}
@@ -21,9 +23,7 @@ use Rattle.plan.specs.Mark.{marked_where, unmarked_leaves}
 use Rattle.gts7_arithmetic.specs.declared.Site.{Site}
 use Rattle.gts7_arithmetic.specs.Gts7Arithmetic.{site_from, site_with}
 use Rattle.lower_atmosphere.specs.declared.Gtd7Output.{Gtd7Output}
-use Rattle.acceptance.specs.declared.Answer.{Answer}
-use Rattle.acceptance.specs.declared.Answer.TheVariants.{Accepted, Refused}
-use Rattle.acceptance.specs.Acceptance.{judged_of, accepted_of, unmixed_of, record_answer}
+use Rattle.acceptance.specs.Acceptance.{judged_of, unmixed_of, record_answer}
 use Rattle.atmosphere.specs.Atmosphere.{gtd7_plan, left_with, left_of, answer_of}
 use Rattle.atmosphere.specs.Answers.{gtd7_left}
 use Rattle.model_state.specs.Mark.{gtd7_marks}
@@ -53,12 +53,12 @@ unmarked_zero v x alt e =
 
 -- ---- after accepted runs below 72.5 km
 
-ten_passed : (a : Answer) (c : Bool) → cond (not (accepted_of a)) a (cond c (Refused 10 3) Accepted) ≡ Accepted → c ≡ false
-ten_passed Accepted true e = absurd (false≢true (ap accepted_of e))
-ten_passed Accepted false e = refl
-ten_passed (Refused n k) c e = absurd (false≢true (ap accepted_of e))
+ten_passed : (a : Answer) (c : Bool) → cond (not (accepted_of a)) a (cond c (Refused NotMixed 3) Accepted) ≡ Accepted → c ≡ false
+ten_passed (Ok v) true e = absurd (false≢true (ap accepted_of e))
+ten_passed (Ok v) false e = refl
+ten_passed (Err r) c e = absurd (false≢true (ap accepted_of e))
 
-length_passed : (b : Bool) (a : Answer) → cond (not b) (Refused 4 11) a ≡ Accepted → a ≡ Accepted
+length_passed : (b : Bool) (a : Answer) → cond (not b) (Refused WrongLength 11) a ≡ Accepted → a ≡ Accepted
 length_passed true a e = e
 length_passed false a e = absurd (false≢true (ap accepted_of e))
 

@@ -30,7 +30,7 @@ use places::thinning::Thinning;
 use plan::ExpansionValues;
 use profile::unchecked::Shape;
 use season::season_into;
-use setting::{State, View, fresh};
+use setting::{Left, State, View, fresh};
 use species::{Blend, mixing, place_at, spine_at};
 use stages::{gradient_stage, tinf_stage, tlb_stage};
 use state_fields::{set_dd, set_gravity, set_nodes1, set_tn2, set_tn3, set_top3};
@@ -41,69 +41,21 @@ use state_steps::{
 use tables::{pd7, pd8, pdl1, pdm2};
 use thermosphere::{nodes_stage, turbopauses_of};
 
-// The nodes of the lower thermosphere, and the State that is left.
-#[derive(Clone, Copy)]
-pub struct NodesLeft {
-    pub value: Nodes,
-    pub state: State,
-}
-
-// What densu reads, and the State that is left.
-#[derive(Clone, Copy)]
-pub struct ShapeLeft {
-    pub value: Shape,
-    pub state: State,
-}
-
-// The six species that blend with N2, and the State that is left.
-#[derive(Clone, Copy)]
-pub struct SixLeft {
-    pub value: SixSpecies,
-    pub state: State,
-}
-
-// gts7's answer, and the State that is left.
-#[derive(Clone, Copy)]
-pub struct UpperLeft {
-    pub value: Gts7Output,
-    pub state: State,
-}
-
-// The nodes from 72.5 to 32.5 km, and the State that is left.
-#[derive(Clone, Copy)]
-pub struct MesoLeft {
-    pub value: Meso,
-    pub state: State,
-}
-
-// The nodes of the lower atmosphere, and the State that is left.
-#[derive(Clone, Copy)]
-pub struct LowerLeft {
-    pub value: lower_atmosphere::Nodes,
-    pub state: State,
-}
-
-// gtd7's answer, and the State that is left.
-#[derive(Clone, Copy)]
-pub struct WholeLeft {
-    pub value: Gtd7Output,
-    pub state: State,
-}
-
-pub fn nodes_step(sw: [f64; 24], z: f64, l: ExpansionValues, s: State) -> NodesLeft
+// The nodes of the lower thermosphere.
+pub fn nodes_step(sw: [f64; 24], z: f64, l: ExpansionValues, s: State) -> Left<Nodes>
     ensures { stepped (answer_to l) (nodes_plan sw z) s ≡ ends result.value result.state }
 {
     let n = nodes_stage(sw, z, l);
     let t = n.tn;
     let g = n.tgn;
     let s1 = set_nodes1(s, t, g);
-    NodesLeft {
+    Left {
         value: n,
         state: s1,
     }
 }
 
-pub fn shape_step(sw: [f64; 24], x: Site, z: f64, l: ExpansionValues, s: State) -> ShapeLeft
+pub fn shape_step(sw: [f64; 24], x: Site, z: f64, l: ExpansionValues, s: State) -> Left<Shape>
     ensures { stepped (answer_to l) (shape_plan sw x z) s ≡ ends result.value result.state }
 {
     let tinf = tinf_stage(sw, z, l);
@@ -113,7 +65,7 @@ pub fn shape_step(sw: [f64; 24], x: Site, z: f64, l: ExpansionValues, s: State) 
     let v = n.value;
     let s1 = n.state;
     let h = shape_of(x, tinf, tlb, g, v);
-    ShapeLeft {
+    Left {
         value: h,
         state: s1,
     }
@@ -133,7 +85,7 @@ pub fn species_step(
     xmm: f64,
     l: ExpansionValues,
     s: State,
-) -> SixLeft
+) -> Left<SixSpecies>
     requires { (k ≡ spine_at h) × (p ≡ place_at h z) × Mixes (some_mixed m) p xmm t }
     ensures { stepped (answer_to l) (species_plan sw h m z b28 flux xmm) s ≡ ends result.value result.state }
 {
@@ -170,7 +122,7 @@ pub fn species_step(
         h: x5,
         n: x6,
     };
-    SixLeft {
+    Left {
         value: six,
         state: s6,
     }
@@ -186,7 +138,7 @@ pub fn gather_step(
     y: SixSpecies,
     o: f64,
     s: State,
-) -> UpperLeft
+) -> Left<Gts7Output>
     requires { k ≡ spine_at h }
     ensures { (result.value ≡ gather_of sw0 h z b y o) × (result.state ≡ with_fields s (densu_sets h (sqrt_of (z ⊗ z)) (fields_of s))) }
 {
@@ -194,13 +146,13 @@ pub fn gather_step(
     let s1 = densu_sets(s, h, a);
     let p = place_at(h, k, z);
     let u = gather(sw0, h, k, z, p, b, y, o);
-    UpperLeft {
+    Left {
         value: u,
         state: s1,
     }
 }
 
-fn gts7(sw: [f64; 24], x: Site, z: f64, l: ExpansionValues, s: State) -> UpperLeft
+fn gts7(sw: [f64; 24], x: Site, z: f64, l: ExpansionValues, s: State) -> Left<Gts7Output>
     ensures { stepped (answer_to l) (gts7_plan sw x z) s ≡ ends result.value result.state }
 {
     let hs = shape_step(sw, x, z, l, s);
@@ -226,7 +178,7 @@ fn gts7(sw: [f64; 24], x: Site, z: f64, l: ExpansionValues, s: State) -> UpperLe
     gather_step(sw[0], h, k, z, b, y, os.value, s4)
 }
 
-pub fn meso_step(sw: [f64; 24], u: Gts7Output, l: ExpansionValues, s: State) -> MesoLeft
+pub fn meso_step(sw: [f64; 24], u: Gts7Output, l: ExpansionValues, s: State) -> Left<Meso>
     ensures { stepped (answer_to l) (meso_plan sw u) s ≡ ends result.value result.state }
 {
     let m = meso_stage(sw, u, l);
@@ -234,29 +186,35 @@ pub fn meso_step(sw: [f64; 24], u: Gts7Output, l: ExpansionValues, s: State) -> 
     let g = m.tgn2;
     let s1 = set_tn2(s, t, g);
     let s2 = set_top3(s1, t[3]);
-    MesoLeft {
+    Left {
         value: m,
         state: s2,
     }
 }
 
-pub fn lower_step(sw: [f64; 24], alt: f64, m: Meso, l: ExpansionValues, s: State) -> LowerLeft
+pub fn lower_step(
+    sw: [f64; 24],
+    alt: f64,
+    m: Meso,
+    l: ExpansionValues,
+    s: State,
+) -> Left<lower_atmosphere::Nodes>
     ensures { stepped (answer_to l) (lower_plan sw alt m) s ≡ ends result.value result.state }
 {
     let w = lower_stage(sw, alt, m, l);
     if !(alt < 32.5) {
-        return LowerLeft { value: w, state: s };
+        return Left { value: w, state: s };
     }
     let t = w.tn3;
     let g = w.tgn3;
     let s1 = set_tn3(s, t, g);
-    LowerLeft {
+    Left {
         value: w,
         state: s1,
     }
 }
 
-pub fn gtd7(sw: [f64; 24], x: Site, alt: f64, l: ExpansionValues, s: State) -> WholeLeft
+pub fn gtd7(sw: [f64; 24], x: Site, alt: f64, l: ExpansionValues, s: State) -> Left<Gtd7Output>
     ensures { stepped (answer_to l) (gtd7_plan sw x alt) s ≡ ends result.value result.state }
 {
     let s1 = set_gravity(s, x.gsurf, x.re);
@@ -266,7 +224,7 @@ pub fn gtd7(sw: [f64; 24], x: Site, alt: f64, l: ExpansionValues, s: State) -> W
     let s2 = us.state;
     if alt >= 72.5 {
         let a = above(u);
-        return WholeLeft {
+        return Left {
             value: a,
             state: s2,
         };
@@ -279,14 +237,14 @@ pub fn gtd7(sw: [f64; 24], x: Site, alt: f64, l: ExpansionValues, s: State) -> W
     let s4 = ns.state;
     let b = below(sw[0], x, alt, u, n);
     let s5 = set_dd(s4, b.dd);
-    WholeLeft {
+    Left {
         value: b,
         state: s5,
     }
 }
 
 // gtd7 from a fresh State: of what the expansions leave, nothing but PD[7]'s and PD[8]'s is left at the end.
-pub fn gtd7_from_fresh(v: View, x: Site, alt: f64) -> WholeLeft
+pub fn gtd7_from_fresh(v: View, x: Site, alt: f64) -> Left<Gtd7Output>
     requires { Shared v }
     ensures { run v (gtd7_plan v.sw x alt) fresh_of ≡ ends result.value result.state }
 {

@@ -40,14 +40,7 @@ pub fn need_at(alt: f64) -> Need
 pub fn with_high(a: Need) -> Need
     ensures { result ≡ with_high a }
 {
-    Need {
-        high: true,
-        pt: a.pt,
-        ps: a.ps,
-        nodes: a.nodes,
-        meso: a.meso,
-        tropo: a.tropo,
-    }
+    Need { high: true, ..a }
 }
 
 // Whether globe7's set k is needed, of PT, PD[0] to PD[8] and PS.

@@ -73,9 +73,5 @@ pub fn put_row(out: &mut [f64], row: [f64; 11])
     requires { length out.old ≡ 11 }
     ensures { out.new ≡ row }
 {
-    let mut i: usize = 0;
-    while i < 11 {
-        out[i] = row[i];
-        i += 1;
-    }
+    out.copy_from_slice(&row);
 }

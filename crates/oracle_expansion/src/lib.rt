@@ -3,24 +3,22 @@
 
 #![tactic(auto)]
 
-ghost use Rattle.std.specs.Prelude.{◌≡◌, length};
-ghost use Rattle.oracle_expansion.specs.OracleExpansion.{legendre_read, state_with, state_of, misfit_of, host_globe7, host_glob7s, entry_of, expanded_numbers, expanded_after, expanded_code};
+ghost use Rattle.std.specs.Prelude.{◌≡◌, None, length};
+ghost use Rattle.oracle_expansion.specs.OracleExpansion.{legendre_read, state_with, state_of, misfit_of, host_globe7, host_glob7s, told_of, entry_of, expanded_numbers, expanded_after, expanded_code};
 
-use expansion_calls::{Expanded, glob7s, globe7};
+use expansion_calls::{ExpansionRefusal, glob7s, globe7};
 use host_record::{packed, record_of, switch_row};
 use oracle_state::number;
-use setting::State;
+use setting::{Left, State};
 
 // The Legendre values of the 79 numbers, 31 to 66.
 pub fn legendre(x: &[f64]) -> [f64; 36]
     requires { length x.now ≡ 79 }
     ensures { result ≡ legendre_read x.now }
 {
-    [
-        x[31], x[32], x[33], x[34], x[35], x[36], x[37], x[38], x[39], x[40], x[41], x[42], x[43],
-        x[44], x[45], x[46], x[47], x[48], x[49], x[50], x[51], x[52], x[53], x[54], x[55], x[56],
-        x[57], x[58], x[59], x[60], x[61], x[62], x[63], x[64], x[65], x[66],
-    ]
+    let mut g = [0.0; 36];
+    g.copy_from_slice(&x[31..67]);
+    g
 }
 
 // State from its 79 numbers in the order of its fields, the Legendre values from g; dm28 was set where the last is 1.
@@ -67,37 +65,37 @@ pub fn state_of(x: &[f64]) -> State
     state_with(x, g)
 }
 
-// The length that the first slice without its length needs, 0 where all have theirs.
+// The length that the first slice without its length needs; none where all have theirs.
 pub fn misfit(
     numbers: usize,
     fields: usize,
     ap_array: usize,
     switches: usize,
     state: usize,
-) -> usize
+) -> Option<usize>
     ensures value { result ≡ misfit_of numbers fields ap_array switches state }
-    ensures numbers_value { result ≡ 0 → (numbers ≡ 80) × (fields ≡ 8) × (switches ≡ 24) × (state ≡ 79) }
+    ensures numbers_value { result ≡ None → (numbers ≡ 80) × (fields ≡ 8) × (switches ≡ 24) × (state ≡ 79) }
 {
     if numbers != 80 {
-        return 80;
+        return Some(80);
     }
     if fields != 8 {
-        return 8;
+        return Some(8);
     }
     if (ap_array != 0) & (ap_array != 7) {
-        return 7;
+        return Some(7);
     }
     if switches != 24 {
-        return 24;
+        return Some(24);
     }
     if state != 79 {
-        return 79;
+        return Some(79);
     }
-    0
+    None
 }
 
 // The value at 0, then the State's numbers.
-pub fn entry(e: Expanded, k: usize) -> f64
+pub fn entry(e: Left<f64>, k: usize) -> f64
     ensures { result ≡ entry_of e k }
 {
     if k == 0 {
@@ -107,27 +105,27 @@ pub fn entry(e: Expanded, k: usize) -> f64
     number(s, k - 1)
 }
 
-pub fn put(e: Expanded, numbers: &mut [f64])
+pub fn put(e: Left<f64>, numbers: &mut [f64])
     requires { length numbers.old ≡ 80 }
     ensures { numbers.new ≡ expanded_numbers e }
 {
-    let mut i: usize = 0;
-    while i < 80 {
+    for i in 0..80 {
         numbers[i] = entry(e, i);
-        i += 1;
     }
 }
 
-pub fn tell(e: Expanded, numbers: &mut [f64]) -> u64
+// A call's answer: 0 and the numbers, or the refusal as one number and the slice as lent.
+pub fn tell(a: Result<Left<f64>, ExpansionRefusal>, numbers: &mut [f64]) -> u64
     requires { length numbers.old ≡ 80 }
-    ensures { (result ≡ expanded_code e) × (numbers.new ≡ expanded_after e numbers.old) }
+    ensures { (result ≡ expanded_code (told_of a)) × (numbers.new ≡ expanded_after (told_of a) numbers.old) }
 {
-    let c = packed(e.refused, e.place);
-    if e.refused != 0 {
-        return c;
+    match a {
+        Ok(e) => {
+            put(e, numbers);
+            0
+        }
+        Err(r) => packed(r.number(), r.place()),
     }
-    put(e, numbers);
-    c
 }
 
 // globe7: fields and ap_array as potirehu_gtd7 has them, p the coefficients, state the 79 numbers of State.
@@ -152,14 +150,14 @@ pub extern "C" fn expansion_globe7(
         switches.len(),
         state.len(),
     );
-    if k != 0 {
-        return packed(4, k);
+    if let Some(needed) = k {
+        return packed(4, needed);
     }
     let w = switch_row(switches);
     let n = record_of(year, doy, fields, ap_array);
     let s = state_of(state);
-    let e = globe7(w, n, p, s);
-    tell(e, numbers)
+    let a = globe7(w, n, p, s);
+    tell(a, numbers)
 }
 
 // glob7s: fields and ap_array as potirehu_gtd7 has them, p the coefficients, state the 79 numbers of State.
@@ -184,12 +182,12 @@ pub extern "C" fn expansion_glob7s(
         switches.len(),
         state.len(),
     );
-    if k != 0 {
-        return packed(4, k);
+    if let Some(needed) = k {
+        return packed(4, needed);
     }
     let w = switch_row(switches);
     let n = record_of(year, doy, fields, ap_array);
     let s = state_of(state);
-    let e = glob7s(w, n, p, s);
-    tell(e, numbers)
+    let a = glob7s(w, n, p, s);
+    tell(a, numbers)
 }

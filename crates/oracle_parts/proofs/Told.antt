@@ -1,21 +1,20 @@
 -- What the host is told of an answer is what it is told of its outcome.
 use Prim.Native.Nat.{ℕ}
-use mathlib.Core.Path.{◌≡◌, refl, sym, ap, ◌∙◌}
+use mathlib.Core.Path.{◌≡◌, refl, sym, ◌∙◌}
 use mathlib.Core.List.{List, [], ◌∷◌}
 use native.Mathlib.Omega.{arith}
 use borrow.Author.Tests.{eq-eqb, ne_eqb}
 use lib.ListN.{length, set}
 use lib.Ieee.{Float}
-use Rattle.spline_calls.specs.Outcome.{Outcome, after}
-use Rattle.spline_calls.specs.Calls.{value_outcome, write_outcome}
-use Rattle.spline_calls.specs.declared.SplineValue.{SplineValue}
-use Rattle.spline_calls.specs.declared.SplineValue.TheVariants as value
-use Rattle.spline_calls.specs.declared.SplineWrite.{SplineWrite}
-use Rattle.spline_calls.specs.declared.SplineWrite.TheVariants as write
-use Rattle.profile_calls.specs.Calls.{profile_outcome}
-use Rattle.profile_calls.specs.declared.ProfileCall.{ProfileCall}
-use Rattle.profile_calls.specs.declared.ProfileCall.TheVariants as profile
-use Rattle.oracle_parts.specs.OracleParts.{refusal_of, outcome_place, outcome_packed, outcome_code, value_in, returned_in, written_in, one_number, two_numbers, lent, kept_unless_long}
+use Rattle.std.proofs.Common.{Ok, Err}
+use Rattle.spline_calls.specs.Outcome.{Outcome, gives, after}
+use Rattle.spline_calls.specs.Calls.{outcome_of, write_outcome}
+use Rattle.spline_calls.specs.declared.NodesRefusal.{NodesRefusal}
+use Rattle.spline_calls.specs.declared.NodesRefusal.TheVariants.{NodeCount, SliceLength}
+use Rattle.profile.specs.Profile.{returned_number, temperature_in}
+use Rattle.profile.specs.declared.unchecked.Profile.{Profile}
+use Rattle.host_record.specs.Record.{packed_of}
+use Rattle.oracle_parts.specs.OracleParts.{outcome_code, one_number, two_numbers, lent, kept_unless_long}
 
 -- ---- lists of one and of two numbers
 
@@ -30,68 +29,43 @@ set_two (x ∷ []) y z e = absurd (omega (arith, e))
 set_two (x ∷ w ∷ []) y z e = refl
 set_two (x ∷ w ∷ v ∷ xs) y z e = absurd (omega (arith, e))
 
--- ---- a spline's value
+-- ---- a refusal, and the values
 
-value_code : (a : SplineValue) (n k : ℕ) → n ≡ refusal_of (value_outcome a) → k ≡ outcome_place (value_outcome a) → outcome_packed n k ≡ outcome_code (one_number (value_outcome a))
-unfolding outcome_code one_number
-value_code (value.Value x) n k e f = rw (e, f)
-value_code (value.NodeCount place) n k e f = rw (e, f)
-value_code (value.SliceLength place) n k e f = rw (e, f)
+module _ (e : NodesRefusal) (xs : List Float) (c : ℕ) (h : c ≡ outcome_code (outcome_of {A = List Float} (Err e))) where
+  pub value_refused : (c ≡ outcome_code (one_number (outcome_of (Err e)))) × (xs ≡ after (one_number (outcome_of (Err e))) xs)
+  unfolding outcome_code one_number after
+  value_refused = by e h
+    where
+      by : (e : NodesRefusal) → c ≡ outcome_code (outcome_of {A = List Float} (Err e)) → (c ≡ outcome_code (one_number (outcome_of (Err e)))) × (xs ≡ after (one_number (outcome_of (Err e))) xs)
+      by (NodeCount place) h = (h, refl)
+      by (SliceLength place) h = (h, refl)
 
-pub value_refused : (a : SplineValue) (xs : List Float) (n k c : ℕ) → n ≡ refusal_of (value_outcome a) → (n ≡ 0 → ⊥) → k ≡ outcome_place (value_outcome a) → c ≡ outcome_packed n k
-    → (c ≡ outcome_code (one_number (value_outcome a))) × (xs ≡ after (one_number (value_outcome a)) xs)
-unfolding one_number after
-value_refused a xs n k c e h f g = (g ∙ value_code a n k e f, by a e)
-  where
-    by : (a : SplineValue) → n ≡ refusal_of (value_outcome a) → xs ≡ after (one_number (value_outcome a)) xs
-    by (value.Value x) e = absurd (h e)
-    by (value.NodeCount place) e = refl
-    by (value.SliceLength place) e = refl
+  pub profile_refused : (c ≡ outcome_code (two_numbers (outcome_of (Err e)))) × (xs ≡ after (two_numbers (outcome_of (Err e))) xs)
+  unfolding outcome_code two_numbers after
+  profile_refused = by e h
+    where
+      by : (e : NodesRefusal) → c ≡ outcome_code (outcome_of {A = List Float} (Err e)) → (c ≡ outcome_code (two_numbers (outcome_of (Err e)))) × (xs ≡ after (two_numbers (outcome_of (Err e))) xs)
+      by (NodeCount place) h = (h, refl)
+      by (SliceLength place) h = (h, refl)
 
-pub value_given : (a : SplineValue) (xs : List Float) (n : ℕ) (x : Float) → n ≡ refusal_of (value_outcome a) → n ≡ 0 → x ≡ value_in a → length xs ≡ 1
-    → (0 ≡ outcome_code (one_number (value_outcome a))) × (set xs 0 x ≡ after (one_number (value_outcome a)) xs)
+pub value_given : (x : Float) (xs : List Float) → length xs ≡ 1 → (0 ≡ outcome_code (one_number (gives x))) × (set xs 0 x ≡ after (one_number (gives x)) xs)
 unfolding outcome_code one_number after
-value_given (value.Value y) xs n x e h f l = (refl, set_one xs x l ∙ ap (λ (z : Float). z ∷ []) f)
-value_given (value.NodeCount place) xs n x e h f l = absurd (omega (arith, e, h))
-value_given (value.SliceLength place) xs n x e h f l = absurd (omega (arith, e, h))
+value_given x xs l = (refl, set_one xs x l)
 
--- ---- spline's refusal
-
-pub write_code : (a : SplineWrite) (ys : List Float) (n k : ℕ) → n ≡ refusal_of (write_outcome a []) → k ≡ outcome_place (write_outcome a []) → outcome_packed n k ≡ outcome_code (write_outcome a ys)
-unfolding outcome_code
-write_code write.Written ys n k e f = rw (e, f)
-write_code (write.NodeCount place) ys n k e f = rw (e, f)
-write_code (write.SliceLength place) ys n k e f = rw (e, f)
-
--- ---- a profile's two numbers
-
-profile_code : (a : ProfileCall) (n k : ℕ) → n ≡ refusal_of (profile_outcome a) → k ≡ outcome_place (profile_outcome a) → outcome_packed n k ≡ outcome_code (two_numbers (profile_outcome a))
-unfolding outcome_code two_numbers
-profile_code (profile.Answer p) n k e f = rw (e, f)
-profile_code (profile.NodeCount place) n k e f = rw (e, f)
-profile_code (profile.SliceLength place) n k e f = rw (e, f)
-
-pub profile_refused : (a : ProfileCall) (xs : List Float) (n k c : ℕ) → n ≡ refusal_of (profile_outcome a) → (n ≡ 0 → ⊥) → k ≡ outcome_place (profile_outcome a) → c ≡ outcome_packed n k
-    → (c ≡ outcome_code (two_numbers (profile_outcome a))) × (xs ≡ after (two_numbers (profile_outcome a)) xs)
-unfolding two_numbers after
-profile_refused a xs n k c e h f g = (g ∙ profile_code a n k e f, by a e)
-  where
-    by : (a : ProfileCall) → n ≡ refusal_of (profile_outcome a) → xs ≡ after (two_numbers (profile_outcome a)) xs
-    by (profile.Answer p) e = absurd (h e)
-    by (profile.NodeCount place) e = refl
-    by (profile.SliceLength place) e = refl
-
-pub profile_given : (a : ProfileCall) (xs : List Float) (n : ℕ) (x y : Float) → n ≡ refusal_of (profile_outcome a) → n ≡ 0 → x ≡ returned_in a → y ≡ written_in a → length xs ≡ 2
-    → (0 ≡ outcome_code (two_numbers (profile_outcome a))) × (set (set xs 0 x) 1 y ≡ after (two_numbers (profile_outcome a)) xs)
+pub profile_given : (p : Profile) (xs : List Float) (x y : Float) → x ≡ returned_number p → y ≡ temperature_in p → length xs ≡ 2
+    → (0 ≡ outcome_code (two_numbers (gives p))) × (set (set xs 0 x) 1 y ≡ after (two_numbers (gives p)) xs)
 unfolding outcome_code two_numbers after
-profile_given (profile.Answer p) xs n x y e h f g l = (refl, set_two xs x y l ∙ rw (f, g))
-profile_given (profile.NodeCount place) xs n x y e h f g l = absurd (omega (arith, e, h))
-profile_given (profile.SliceLength place) xs n x y e h f g l = absurd (omega (arith, e, h))
+profile_given p xs x y f g l = (refl, set_two xs x y l ∙ rw (f, g))
+
+-- spline's 0
+pub write_given : (ys : List Float) (u : Unit {0}) → 0 ≡ outcome_code (write_outcome (Ok u) ys)
+unfolding outcome_code
+write_given ys u = refl
 
 -- ---- the slice for the values
 
 module _ (k : ℕ) (xs : List Float) (o : Outcome (List Float)) where
-  pub no_room : (c : ℕ) → (length xs ≡ k → ⊥) → c ≡ outcome_packed 4 k → (c ≡ outcome_code (lent k xs o)) × (xs ≡ after (lent k xs o) xs)
+  pub no_room : (c : ℕ) → (length xs ≡ k → ⊥) → c ≡ packed_of 4 k → (c ≡ outcome_code (lent k xs o)) × (xs ≡ after (lent k xs o) xs)
   unfolding lent outcome_code after
   no_room c h e = (simp (e, ne_eqb _ _ h), simp (ne_eqb _ _ h))
 

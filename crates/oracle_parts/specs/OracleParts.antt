@@ -1,13 +1,9 @@
 -- What the host sees of an outcome: a number for the refusal, and the values in a lent slice.
-use Rattle.std.specs.Prelude.{ℕ, ◌+◌, ◌*◌, ◌%◌, cond, not, List, [], ◌∷◌, eqb, length, Float}
-use Rattle.numbers.specs.Literals.{0·0}
+use Rattle.std.specs.Prelude.{ℕ, cond, not, List, [], ◌∷◌, eqb, length, Float}
+use Rattle.host_record.specs.Record.{packed_of}
 use Rattle.spline_calls.specs.Outcome.{Outcome, gives, refused}
-use Rattle.spline_calls.specs.declared.SplineValue.{SplineValue}
-use Rattle.spline_calls.specs.declared.SplineValue.TheVariants as value
 use Rattle.profile.specs.Profile.{returned_number, temperature_in}
 use Rattle.profile.specs.declared.unchecked.Profile.{Profile}
-use Rattle.profile_calls.specs.declared.ProfileCall.{ProfileCall}
-use Rattle.profile_calls.specs.declared.ProfileCall.TheVariants as profile
 
 -- document 01's number of a refusal and its place, 0 and 0 where there is none
 abbrev pub refusal_of : {A : Type 0} → Outcome A → ℕ
@@ -18,12 +14,9 @@ abbrev pub outcome_place : {A : Type 0} → Outcome A → ℕ
 outcome_place (gives x) = 0
 outcome_place (refused number place) = place
 
-abbrev pub outcome_packed : ℕ → ℕ → ℕ
-outcome_packed n k = n % 4294967296 * 4294967296 + k % 4294967296
-
 -- an outcome as one number: the refusal's number times 2^32 and its place
 unfoldable pub outcome_code : {A : Type 0} → Outcome A → ℕ
-outcome_code o = outcome_packed (refusal_of o) (outcome_place o)
+outcome_code o = packed_of (refusal_of o) (outcome_place o)
 
 -- the values as a list: the one of a spline; of a profile the number that the Rust returns and the temperature that it writes into tz
 unfoldable pub one_number : Outcome Float → Outcome (List Float)
@@ -41,20 +34,3 @@ lent k out rest = cond (not (eqb (length out) k)) (refused 4 k) rest
 -- another lent slice: as it was after that refusal, else what the call leaves in it
 unfoldable pub kept_unless_long : ℕ → List Float → List Float → List Float → List Float
 kept_unless_long k out xs ys = cond (not (eqb (length out) k)) xs ys
-
--- ---- what the code reads of an answer; it asks for the refusal first
-
-abbrev pub value_in : SplineValue → Float
-value_in (value.Value x) = x
-value_in (value.NodeCount place) = 0·0
-value_in (value.SliceLength place) = 0·0
-
-abbrev pub returned_in : ProfileCall → Float
-returned_in (profile.Answer p) = returned_number p
-returned_in (profile.NodeCount place) = 0·0
-returned_in (profile.SliceLength place) = 0·0
-
-abbrev pub written_in : ProfileCall → Float
-written_in (profile.Answer p) = temperature_in p
-written_in (profile.NodeCount place) = 0·0
-written_in (profile.SliceLength place) = 0·0

@@ -4,7 +4,7 @@
 
 #![tactic(auto)]
 
-ghost use Rattle.std.specs.Prelude.{◌≡◌, [], length};
+ghost use Rattle.std.specs.Prelude.{◌≡◌, Err, List, length, Float};
 ghost use Rattle.elementary.specs.Exp.{exp_of};
 ghost use Rattle.elementary.specs.Log.{log_of};
 ghost use Rattle.elementary.specs.Trig.{sin_of, cos_of};
@@ -12,150 +12,60 @@ ghost use Rattle.elementary.specs.Root.{sqrt_of};
 ghost use Rattle.elementary.specs.Pow.{pow_of};
 ghost use Rattle.mixing.specs.Mixing.{ccor_of, ccor2_of, dnet_of};
 ghost use Rattle.spline_calls.specs.Outcome.{after};
-ghost use Rattle.spline_calls.specs.Calls.{value_outcome, write_outcome, splini_call, splint_call, spline_call};
+ghost use Rattle.spline_calls.specs.Calls.{outcome_of, splini_call, splint_call, spline_call};
 ghost use Rattle.profile.specs.Gravity.{glatf_of, zeta_of};
-ghost use Rattle.profile_calls.specs.Calls.{profile_outcome, scalh_call, densm_call, densu_call, densu_tn1, densu_tgn1};
-ghost use Rattle.oracle_parts.specs.OracleParts.{refusal_of, outcome_place, outcome_packed, outcome_code, value_in, returned_in, written_in, one_number, two_numbers, lent, kept_unless_long};
+ghost use Rattle.profile_calls.specs.Calls.{scalh_call, densm_call, densu_call, densu_tn1, densu_tgn1};
+ghost use Rattle.oracle_parts.specs.OracleParts.{outcome_code, one_number, two_numbers, lent, kept_unless_long};
 
 use elementary::exponential::exp;
 use elementary::logarithm::log;
 use elementary::power::pow;
 use elementary::root::sqrt;
 use elementary::trigonometry::{cos, sin};
+use host_record::packed;
 use mixing::{ccor, ccor2, dnet};
 use profile::gravity::{glatf, zeta};
-use profile::unchecked::{returned_number, temperature_in};
-use profile_calls::{ProfileCall, densm, densu, scalh};
-use spline_calls::{SplineValue, SplineWrite, spline, splini, splint};
+use profile::unchecked::{Profile, returned_number, temperature_in};
+use profile_calls::{densm, densu, scalh};
+use spline_calls::{NodesRefusal, spline, splini, splint};
 
-// Document 01's number of a refusal, 0 where there is none, and its place.
-fn value_refusal(a: SplineValue) -> usize
-    ensures { result ≡ refusal_of (value_outcome a) }
+// A refusal as one number: document 01's times 2^32, and its place.
+fn code(e: NodesRefusal) -> u64
+    ensures { result ≡ outcome_code (outcome_of {A = List Float} (Err e)) }
 {
-    match a {
-        SplineValue::Value(_) => 0,
-        SplineValue::NodeCount(_) => 5,
-        SplineValue::SliceLength(_) => 4,
-    }
-}
-
-fn value_place(a: SplineValue) -> usize
-    ensures { result ≡ outcome_place (value_outcome a) }
-{
-    match a {
-        SplineValue::Value(_) => 0,
-        SplineValue::NodeCount(k) => k,
-        SplineValue::SliceLength(k) => k,
-    }
-}
-
-fn write_refusal(a: SplineWrite) -> usize
-    ensures { result ≡ refusal_of (write_outcome a []) }
-{
-    match a {
-        SplineWrite::Written => 0,
-        SplineWrite::NodeCount(_) => 5,
-        SplineWrite::SliceLength(_) => 4,
-    }
-}
-
-fn write_place(a: SplineWrite) -> usize
-    ensures { result ≡ outcome_place (write_outcome a []) }
-{
-    match a {
-        SplineWrite::Written => 0,
-        SplineWrite::NodeCount(k) => k,
-        SplineWrite::SliceLength(k) => k,
-    }
-}
-
-fn profile_refusal(a: ProfileCall) -> usize
-    ensures { result ≡ refusal_of (profile_outcome a) }
-{
-    match a {
-        ProfileCall::Answer(_) => 0,
-        ProfileCall::NodeCount(_) => 5,
-        ProfileCall::SliceLength(_) => 4,
-    }
-}
-
-fn profile_place(a: ProfileCall) -> usize
-    ensures { result ≡ outcome_place (profile_outcome a) }
-{
-    match a {
-        ProfileCall::Answer(_) => 0,
-        ProfileCall::NodeCount(k) => k,
-        ProfileCall::SliceLength(k) => k,
-    }
-}
-
-// The number times 2^32 and the place.
-fn packed(n: usize, k: usize) -> u64
-    ensures { result ≡ outcome_packed n k }
-{
-    let a = n % 4294967296;
-    let b = k % 4294967296;
-    (a * 4294967296 + b) as u64
-}
-
-// The value of an answer that is none of the refusals.
-fn value(a: SplineValue) -> f64
-    ensures { result ≡ value_in a }
-{
-    match a {
-        SplineValue::Value(x) => x,
-        SplineValue::NodeCount(_) => 0.0,
-        SplineValue::SliceLength(_) => 0.0,
-    }
-}
-
-// The number that the Rust returns, of an answer that is none of the refusals.
-fn returned(a: ProfileCall) -> f64
-    ensures { result ≡ returned_in a }
-{
-    match a {
-        ProfileCall::Answer(p) => returned_number(p),
-        ProfileCall::NodeCount(_) => 0.0,
-        ProfileCall::SliceLength(_) => 0.0,
-    }
-}
-
-// The temperature that the Rust writes into tz.
-fn written(a: ProfileCall) -> f64
-    ensures { result ≡ written_in a }
-{
-    match a {
-        ProfileCall::Answer(p) => temperature_in(p),
-        ProfileCall::NodeCount(_) => 0.0,
-        ProfileCall::SliceLength(_) => 0.0,
+    match e {
+        NodesRefusal::NodeCount(place) => packed(5, place),
+        NodesRefusal::SliceLength(place) => packed(4, place),
     }
 }
 
 // An answer into a lent slice of one number.
-fn tell_value(a: SplineValue, out: &mut [f64]) -> u64
+fn tell_value(a: Result<f64, NodesRefusal>, out: &mut [f64]) -> u64
     requires { length out.old ≡ 1 }
-    ensures { (result ≡ outcome_code (one_number (value_outcome a))) × (out.new ≡ after (one_number (value_outcome a)) out.old) }
+    ensures { (result ≡ outcome_code (one_number (outcome_of a))) × (out.new ≡ after (one_number (outcome_of a)) out.old) }
 {
-    let n = value_refusal(a);
-    if n != 0 {
-        return packed(n, value_place(a));
+    match a {
+        Ok(x) => {
+            out[0] = x;
+            0
+        }
+        Err(e) => code(e),
     }
-    out[0] = value(a);
-    0
 }
 
-// An answer into a lent slice of two numbers.
-fn tell_profile(a: ProfileCall, out: &mut [f64]) -> u64
+// An answer into a lent slice of two numbers: the number that the Rust returns, and the temperature that it writes into tz.
+fn tell_profile(a: Result<Profile, NodesRefusal>, out: &mut [f64]) -> u64
     requires { length out.old ≡ 2 }
-    ensures { (result ≡ outcome_code (two_numbers (profile_outcome a))) × (out.new ≡ after (two_numbers (profile_outcome a)) out.old) }
+    ensures { (result ≡ outcome_code (two_numbers (outcome_of a))) × (out.new ≡ after (two_numbers (outcome_of a)) out.old) }
 {
-    let n = profile_refusal(a);
-    if n != 0 {
-        return packed(n, profile_place(a));
+    match a {
+        Ok(p) => {
+            out[0] = returned_number(p);
+            out[1] = temperature_in(p);
+            0
+        }
+        Err(e) => code(e),
     }
-    out[0] = returned(a);
-    out[1] = written(a);
-    0
 }
 
 // ccor.
@@ -269,8 +179,10 @@ pub extern "C" fn parts_spline(
     ensures value { result ≡ outcome_code (spline_call x.now y.now n yp1 ypn y2.old) }
     ensures y2_after { y2.new ≡ after (spline_call x.now y.now n yp1 ypn y2.old) y2.old }
 {
-    let a = spline(x, y, n, yp1, ypn, y2);
-    packed(write_refusal(a), write_place(a))
+    match spline(x, y, n, yp1, ypn, y2) {
+        Ok(()) => 0,
+        Err(e) => code(e),
+    }
 }
 
 // densm; out gets the number that the Rust returns and the temperature that it writes into tz.

@@ -12,6 +12,8 @@ use lib.ListN.{length, get_or}
 use lib.Ieee.{Float, nan}
 use Rattle.numbers.specs.Arithmetic.{◌‼◌}
 use Rattle.numbers.specs.Literals.{0·0, 1·0}
+use Rattle.refusals.specs.Refusals.{Accepted, Refused}
+use Rattle.refusals.specs.declared.Reason.TheVariants.{WrongLength}
 use Rattle.setting.specs.declared.Input.{Input}
 use Rattle.setting.specs.declared.State.{State}
 use Rattle.setting.specs.declared.View.{View}
@@ -21,7 +23,6 @@ use Rattle.gts7_arithmetic.specs.declared.Site.{Site}
 use Rattle.gts7_arithmetic.specs.Gts7Arithmetic.{site_of}
 use Rattle.lower_atmosphere.specs.declared.Gtd7Output.{Gtd7Output}
 use Rattle.plan.specs.Plan.{Ran, ends, run}
-use Rattle.acceptance.specs.declared.Answer.TheVariants.{Accepted, Refused}
 use Rattle.atmosphere.specs.Atmosphere.{gtd7_plan, left_with, left_of}
 use Rattle.host_record.specs.Record.{code_of, record_of, lengths_of}
 use Rattle.oracle_state.specs.OracleState.{node_numbers, last_numbers, state_number, numbers_from, numbers_of_state, state_answer, state_numbers}
@@ -84,7 +85,7 @@ left_law w n b t x v e0 e1 e2 = sym (ap (λ (r : Ran Gtd7Output). r.left) e0) �
 -- ---- the call
 
 module _ (f l : List Float) (w : List ℤ) (xs : List Float) where
-  pub no_slice : (length xs ≡ 79 → ⊥) → state_answer f l w (length xs) ≡ Refused 4 79
+  pub no_slice : (length xs ≡ 79 → ⊥) → state_answer f l w (length xs) ≡ Refused WrongLength 79
   unfolding state_answer
   no_slice h = simp (ne_eqb _ _ h)
 

@@ -2,10 +2,9 @@
 use Rattle.std.specs.Prelude.{ℕ, zero, suc, ◌-◌, cond, not, ◌&&◌, List, [], ◌∷◌, eqb, ltb, ℤ, length, Float}
 use Rattle.numbers.specs.Arithmetic.{◌‼◌}
 use Rattle.numbers.specs.Literals.{0·0, 1·0}
+use Rattle.refusals.specs.Refusals.{Accepted, Answer, Refused, accepted_of}
+use Rattle.refusals.specs.declared.Reason.TheVariants.{WrongLength}
 use Rattle.setting.specs.declared.State.{State}
-use Rattle.acceptance.specs.declared.Answer.{Answer}
-use Rattle.acceptance.specs.declared.Answer.TheVariants.{Accepted, Refused}
-use Rattle.acceptance.specs.Acceptance.{accepted_of}
 use Rattle.atmosphere.specs.Atmosphere.{left_of}
 use Rattle.host_record.specs.Record.{record_of, lengths_of}
 
@@ -44,7 +43,7 @@ numbers_of_state s = numbers_from 79 0 s
 
 -- 4 for the lent slice, then for the fields, the array and the switches
 unfoldable pub state_answer : List Float → List Float → List ℤ → ℕ → Answer
-state_answer f l w len = cond (not (eqb len 79)) (Refused 4 79) (lengths_of f l w Accepted)
+state_answer f l w len = cond (not (eqb len 79)) (Refused WrongLength 79) (lengths_of f l w Accepted)
 
 -- the lent slice afterwards
 unfoldable pub state_numbers : ℤ → ℤ → List Float → List Float → List ℤ → List Float → List Float

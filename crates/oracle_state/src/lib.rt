@@ -7,11 +7,11 @@ ghost use Rattle.host_record.specs.Record.{code_of};
 ghost use Rattle.atmosphere.specs.Atmosphere.{left_of};
 ghost use Rattle.oracle_state.specs.OracleState.{node_numbers, last_numbers, state_number, numbers_of_state, state_answer, state_numbers};
 
-use acceptance::{Answer, accepted};
 use gts7_arithmetic::site_of;
 use host_record::{code, lengths, record_of, switch_row};
 use model_state::gtd7_from_fresh;
 use numbers::pick;
+use refusals::Reason;
 use setting::{Input, State};
 use views::view_of;
 
@@ -90,10 +90,8 @@ pub fn put_state(s: State, out: &mut [f64])
     requires { length out.old ≡ 79 }
     ensures { out.new ≡ numbers_of_state s }
 {
-    let mut i: usize = 0;
-    while i < 79 {
+    for i in 0..79 {
         out[i] = number(s, i);
-        i += 1;
     }
 }
 
@@ -122,15 +120,14 @@ pub fn state_after_gtd7(
         × (numbers.new ≡ state_numbers year doy fields.now ap_array.now switches.now numbers.old) }
 {
     if numbers.len() != 79 {
-        return code(Answer::Refused(4, 79));
+        return code(Err(Reason::WrongLength.at(79)));
     }
-    let l = lengths(fields, ap_array, switches);
-    if !accepted(l) {
-        return code(l);
+    if let Err(refusal) = lengths(fields, ap_array, switches) {
+        return code(Err(refusal));
     }
     let w = switch_row(switches);
     let n = record_of(year, doy, fields, ap_array);
     let s = left(w, n);
     put_state(s, numbers);
-    code(Answer::Accepted)
+    code(Ok(()))
 }

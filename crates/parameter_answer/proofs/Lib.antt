@@ -1,2 +1,3 @@
--- What the answer with other constants means for a user.
+-- The first of the nine that is unfit, and what the answer with other constants means for a user.
+pub mod Nine
 pub mod Theorems

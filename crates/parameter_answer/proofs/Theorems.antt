@@ -1,5 +1,5 @@
 -- What the answer of the second one-altitude call means for its nine constants.
-use Rattle.std.specs.Prelude.{ℕ, ◌*◌, ◌≤◌, ◌≡◌, refl, Bool, true, false, cond, not, ◌&&◌, ◌||◌, List, [], ◌∷◌, eqb, ltb, ℤ, Float}
+use Rattle.std.specs.Prelude.{ℕ, ◌*◌, ◌≤◌, ◌≡◌, refl, Bool, true, false, cond, not, ◌&&◌, ◌||◌, List, [], ◌∷◌, eqb, ltb, ℤ, Ok, Err, Float}
 use Rattle.std.proofs.Common.{ap, true≢false, le_antisymm, ltb-false, eqb-true, eq-eqb}
 use Rattle.std.proofs.lemmas.Bool.{false≢true, not-false}
 use Rattle.std.specs.Float.{nan, inf, fin}
@@ -9,11 +9,11 @@ use Rattle.numbers.specs.Tests.{finite_of}
 use Rattle.numbers.specs.Booleans.{neither}
 use Rattle.parameters.specs.declared.Parameters.{Parameters}
 use Rattle.parameters.specs.Parameters.{present_of}
+use Rattle.refusals.specs.Refusals.{Accepted, Answer, Refused, accepted_of}
+use Rattle.refusals.specs.declared.Reason.TheVariants.{ConstantUnfit, NotMixed, WrongLength}
 use Rattle.setting.specs.declared.Input.{Input}
 use Rattle.setting.specs.Switches.{given, is_one}
-use Rattle.acceptance.specs.declared.Answer.{Answer}
-use Rattle.acceptance.specs.declared.Answer.TheVariants.{Accepted, Refused}
-use Rattle.acceptance.specs.Acceptance.{lowest, judged_of, accepted_of, unmixed_of, record_answer}
+use Rattle.acceptance.specs.Acceptance.{lowest, judged_of, unmixed_of, record_answer}
 use Rattle.parameter_answer.specs.ParameterAnswer.{unfit_value, of_species, first_unfit, one_of_nine, unmixed_with, answer_with}
 
 -- ---- 'the record of these gives the present answers'
@@ -34,7 +34,7 @@ present_unmixed one z = and_exchanged (lt z 72·5) one
 
 -- with the present nine the answer is the one-altitude call's
 pub present_answer : (w : List ℤ) (n : Input) (len : ℕ)
-    → answer_with present_of w n len ≡ cond (not (eqb len 11)) (Refused 4 11) (record_answer w n)
+    → answer_with present_of w n len ≡ cond (not (eqb len 11)) (Refused WrongLength 11) (record_answer w n)
 unfolding answer_with record_answer one_of_nine
 present_answer w n len = rw (present_fit, present_unmixed (is_one (given w 15)) n.alt) refl
 
@@ -42,13 +42,13 @@ present_answer w n len = rw (present_fit, present_unmixed (is_one (given w 15)) 
 
 -- each test in turn, none of which fits
 none_fits : (a b : Bool) (j : Answer) (u : Bool) (k : ℕ)
-    → accepted_of (cond a (Refused 16 k) (cond b (Refused 4 11) (cond (not (accepted_of j)) j (cond u (Refused 10 3) Accepted)))) ≡ true
+    → accepted_of (cond a (Refused ConstantUnfit k) (cond b (Refused WrongLength 11) (cond (not (accepted_of j)) j (cond u (Refused NotMixed 3) Accepted)))) ≡ true
     → (a ≡ false) × (b ≡ false) × (j ≡ Accepted) × (u ≡ false)
 none_fits true b j u k h = absurd (false≢true h)
 none_fits false true j u k h = absurd (false≢true h)
-none_fits false false (Refused m p) u k h = absurd (false≢true h)
-none_fits false false Accepted true k h = absurd (false≢true h)
-none_fits false false Accepted false k h = (refl, refl, refl, refl)
+none_fits false false (Err r) u k h = absurd (false≢true h)
+none_fits false false (Ok v) true k h = absurd (false≢true h)
+none_fits false false (Ok v) false k h = (refl, refl, refl, refl)
 
 -- a constant is fit: finite and above 0
 abbrev pub PositiveFinite : Float → Type 0

@@ -3,12 +3,13 @@
 
 #![tactic(auto)]
 
-ghost use Rattle.std.specs.Prelude.{◌≡◌};
-ghost use Rattle.parameter_answer.specs.ParameterAnswer.{unfit_value, of_species, first_unfit, one_of_nine, unmixed_with, answer_with};
+ghost use Rattle.std.specs.Prelude.{◌≡◌, position};
+ghost use Rattle.parameter_answer.specs.ParameterAnswer.{unfit_value, of_species, first_unfit, among_nine, unmixed_with, answer_with};
 
-use acceptance::{Answer, accepted, judge, mixing_on};
+use acceptance::{judge, mixing_on};
 use numbers::finite;
 use parameters::Parameters;
+use refusals::{Reason, Refusal};
 use setting::Input;
 
 // Whether a constant is NaN, infinite, or not above 0.
@@ -25,45 +26,32 @@ pub fn of_species(x: f64) -> bool
     (x == 1.0) | (x == 4.0) | (x == 14.0) | (x == 16.0) | (x == 28.0) | (x == 32.0) | (x == 40.0)
 }
 
-// The position of the first of the nine that is unfit, or 10.
-pub fn first_unfit(c: Parameters) -> usize
-    ensures { result ≡ first_unfit c }
+// The index of the first test that is passed.
+pub fn first_passed(tests: &[bool]) -> Option<usize>
+    ensures { result ≡ position (λ b. b) tests.now }
 {
-    if unfit_value(c.rgas) {
-        return 1;
-    }
-    if unfit_value(c.xmm) | of_species(c.xmm) {
-        return 2;
-    }
-    if unfit_value(c.he) {
-        return 3;
-    }
-    if unfit_value(c.o) {
-        return 4;
-    }
-    if unfit_value(c.n2) {
-        return 5;
-    }
-    if unfit_value(c.o2) {
-        return 6;
-    }
-    if unfit_value(c.ar) {
-        return 7;
-    }
-    if unfit_value(c.h) {
-        return 8;
-    }
-    if unfit_value(c.n) {
-        return 9;
-    }
-    10
+    tests.iter().position(|passed| *passed)
 }
 
-// Whether a position is one of the nine.
-pub fn one_of_nine(k: usize) -> bool
-    ensures { result ≡ one_of_nine k }
+// The position, from 1, of the first of the nine that is unfit.
+pub fn first_unfit(c: Parameters) -> Option<usize>
+    ensures { result ≡ among_nine (first_unfit c) }
 {
-    k < 10
+    let unfit = [
+        unfit_value(c.rgas),
+        unfit_value(c.xmm) | of_species(c.xmm),
+        unfit_value(c.he),
+        unfit_value(c.o),
+        unfit_value(c.n2),
+        unfit_value(c.o2),
+        unfit_value(c.ar),
+        unfit_value(c.h),
+        unfit_value(c.n),
+    ];
+    match first_passed(&unfit) {
+        Some(i) => Some(1 + i),
+        None => None,
+    }
 }
 
 // Whether an altitude lies below 72.5 km and N2, which it needs, is not mixed at 72.5; on says whether switch 15 is 1.
@@ -74,23 +62,18 @@ pub fn unmixed_with(c: Parameters, on: bool, alt: f64) -> bool
 }
 
 // The answer to nine constants, a switch row, a record, and a row of so many numbers.
-pub fn answer_with(c: Parameters, w: [i32; 24], n: Input, len: usize) -> Answer
+pub fn answer_with(c: Parameters, w: [i32; 24], n: Input, len: usize) -> Result<(), Refusal>
     ensures { result ≡ answer_with c w n len }
 {
-    let k = first_unfit(c);
-    if one_of_nine(k) {
-        return Answer::Refused(16, k);
+    if let Some(k) = first_unfit(c) {
+        return Err(Reason::ConstantUnfit.at(k));
     }
     if len != 11 {
-        return Answer::Refused(4, 11);
+        return Err(Reason::WrongLength.at(11));
     }
-    let a = judge(w, n);
-    if !accepted(a) {
-        return a;
+    judge(w, n)?;
+    if unmixed_with(c, mixing_on(w), n.alt) {
+        return Err(Reason::NotMixed.at(3));
     }
-    let on = mixing_on(w);
-    if unmixed_with(c, on, n.alt) {
-        return Answer::Refused(10, 3);
-    }
-    Answer::Accepted
+    Ok(())
 }

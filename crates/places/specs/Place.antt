@@ -7,15 +7,14 @@ use Rattle.numbers.specs.Arithmetic.{◌⊕◌, ◌⊗◌, ◌⊘◌, ◌‼◌}
 use Rattle.numbers.specs.Literals.{0·0, 1·0, 2·0}
 use Rattle.elementary.specs.Log.{log_of}
 use Rattle.elementary.specs.Pow.{pow_of}
-use Rattle.spline.specs.Nodes.{splint_of, splini_of, integral}
-use Rattle.layers.specs.Layers.{first_five, splint_five, splini_five}
+use Rattle.spline.specs.Nodes.{splini_of, integral}
+use Rattle.layers.specs.Layers.{first_five, layer_read, splint_five, splini_five}
 use Rattle.profile.specs.Gravity.{zeta_of}
 use Rattle.profile.specs.Curve.{layer_of, floored_of, unset_curve}
-use Rattle.profile.specs.Profile.{bates_of, gradient_of, zg2_of, tt_of}
+use Rattle.profile.specs.Profile.{bates_of, gradient_of, tt_of}
 use Rattle.profile.specs.Point.{on_curve, off_curve, point_of}
 use Rattle.places.specs.declared.place.Spine.{Spine}
 use Rattle.places.specs.declared.place.Place.{Place}
-use Rattle.places.specs.declared.place.Read.{Read}
 use Rattle.profile.specs.declared.point.Point.{Point}
 use Rattle.profile.specs.declared.unchecked.Shape.{Shape}
 
@@ -43,19 +42,17 @@ spine_of h zlb zn =
       y2 = first_five l.y2;
     }
 
-unfoldable pub place_read : List Float → List Float → List Float → Float → Read
-place_read xs ys y2 x = record { tz = 1·0 ⊘ splint_of xs ys y2 5 x; yi = splini_of xs ys y2 5 x }
-
 -- an altitude below za, from the spine
 unfoldable pub under_of : Float → Spine → Float → Float → Float → Place
 under_of re s z za low =
-    let a = place_read s.xs s.ys s.y2 (zeta_of re (cond (lt low z) z low) za ⊘ s.zgdif) in
+    let a = layer_read s.xs s.ys s.y2 5 (zeta_of re (cond (lt low z) z low) za ⊘ s.zgdif) in
+    let tz = 1·0 ⊘ a.y in
     record {
       z = z;
       under = true;
       zg2 = s.zg2;
       tt = s.tt;
-      tz = a.tz;
+      tz = tz;
       glb = s.glb;
       zgdif = s.zgdif;
       yi = a.yi;
@@ -65,8 +62,8 @@ under_of re s z za low =
       s = s.s;
       rt = s.rt;
       lt = s.lt;
-      r1 = s.t1 ⊘ a.tz;
-      l1 = log_of (s.t1 ⊘ a.tz);
+      r1 = s.t1 ⊘ tz;
+      l1 = log_of (s.t1 ⊘ tz);
     }
 
 -- an altitude at or above za, which reads no curve
@@ -145,7 +142,7 @@ place_of h z zlb zn = place_on h zlb (point_of h z zlb zn)
 -- Below za the spine, which no altitude changes, gives the place
 pub under_place : (h : Shape) (z zlb : Float) (zn : List Float) → lt z (zn ‼ 0) ≡ true → lt (zn ‼ 0) z ≡ false
     → under_of h.re (spine_of h zlb zn) z (zn ‼ 0) (zn ‼ 4) ≡ place_of h z zlb zn
-unfolding under_of place_read spine_of place_of place_on point_of on_curve floored_of layer_of
+unfolding under_of layer_read spine_of place_of place_on point_of on_curve floored_of layer_of
 under_place h z zlb zn below not_above = rw (below, not_above, splint_five, splini_five)
 
 -- At or above za

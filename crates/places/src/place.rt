@@ -2,19 +2,17 @@
 ghost use Rattle.std.specs.Prelude.{◌≡◌, false};
 ghost use Rattle.std.specs.Float.Ieee.{lt};
 ghost use Rattle.numbers.specs.Arithmetic.{◌‼◌};
-ghost use Rattle.profile.specs.Curve.{layer_of};
-ghost use Rattle.spline.specs.Nodes.{splint_of};
-ghost use Rattle.places.specs.Place.{spine_of, place_read, under_of, over_of, unset_place, place_on, place_of};
+ghost use Rattle.places.specs.Place.{spine_of, under_of, over_of, unset_place, place_on, place_of};
 
 use elementary::logarithm::log;
 use elementary::power::pow;
-use layers::first_five;
+use layers::{first_five, read_at};
 use numbers::pick;
-use profile::curve::{Curve, layer};
+use profile::curve::layer;
 use profile::gravity::zeta;
 use profile::point::{Point, point_of};
 use profile::unchecked::{Shape, bates, gradient};
-use spline::nodes::{splini, splint};
+use spline::nodes::splint;
 
 // What a Shape fixes: gravity base at zlb, k = s * rgas * tinf; the gas constant rgas; the height zg2, the temperature tt, rt = tlb / tt and its
 // logarithm lt at za; and the curve below za.
@@ -57,20 +55,6 @@ pub struct Place {
     pub l1: f64,
 }
 
-// The temperature and the integral on a curve.
-#[derive(Clone, Copy)]
-pub struct Read {
-    pub tz: f64,
-    pub yi: f64,
-}
-
-// The curve over five nodes by value, read at z.
-pub fn layer5(re: f64, zn: [f64; 5], tn: [f64; 5], tgn: [f64; 2], z: f64) -> Curve
-    ensures { result ≡ layer_of re zn tn 5 tgn z }
-{
-    layer(re, &zn, &tn, 5, &tgn, z)
-}
-
 // What a Shape fixes.
 pub fn spine_of(h: Shape, zlb: f64, zn: [f64; 5]) -> Spine
     ensures { result ≡ spine_of h zlb zn }
@@ -85,7 +69,7 @@ pub fn spine_of(h: Shape, zlb: f64, zn: [f64; 5]) -> Spine
     tn[0] = tt;
     let mut tgn = h.tgn;
     tgn[0] = dta;
-    let l = layer5(h.re, zn, tn, tgn, za);
+    let l = layer(h.re, &zn, &tn, 5, &tgn, za);
     let q = pow(1.0 + zlb / h.re, 2.0);
     let g = pow(1.0 + l.z1 / h.re, 2.0);
     let a = l.xs;
@@ -112,25 +96,6 @@ pub fn spine_of(h: Shape, zlb: f64, zn: [f64; 5]) -> Spine
     }
 }
 
-// splint over arrays by value.
-pub fn value(xs: [f64; 5], ys: [f64; 5], y2: [f64; 5], x: f64) -> f64
-    ensures { result ≡ splint_of xs ys y2 5 x }
-{
-    splint(&xs, &ys, &y2, 5, x)
-}
-
-// The curve read at x.
-pub fn read_at(xs: [f64; 5], ys: [f64; 5], y2: [f64; 5], x: f64) -> Read
-    ensures { result ≡ place_read xs ys y2 x }
-{
-    let y = splint(&xs, &ys, &y2, 5, x);
-    let yi = splini(&xs, &ys, &y2, 5, x);
-    Read {
-        tz: 1.0 / y,
-        yi: yi,
-    }
-}
-
 // An altitude below za, read no lower than the last node.
 pub fn under(re: f64, s: Spine, z: f64, za: f64, low: f64) -> Place
     ensures { result ≡ under_of re s z za low }
@@ -140,15 +105,16 @@ pub fn under(re: f64, s: Spine, z: f64, za: f64, low: f64) -> Place
     let xs = s.xs;
     let ys = s.ys;
     let y2 = s.y2;
-    let a = read_at(xs, ys, y2, zg / s.zgdif);
-    let r1 = s.t1 / a.tz;
+    let a = read_at(xs, ys, y2, 5, zg / s.zgdif);
+    let tz = 1.0 / a.y;
+    let r1 = s.t1 / tz;
     let l1 = log(r1);
     Place {
         z: z,
         under: true,
         zg2: s.zg2,
         tt: s.tt,
-        tz: a.tz,
+        tz: tz,
         glb: s.glb,
         zgdif: s.zgdif,
         yi: a.yi,
@@ -308,7 +274,7 @@ pub fn temperature_under(re: f64, s: Spine, z: f64, za: f64, low: f64) -> f64
     let xs = s.xs;
     let ys = s.ys;
     let y2 = s.y2;
-    let y = value(xs, ys, y2, zg / s.zgdif);
+    let y = splint(&xs, &ys, &y2, 5, zg / s.zgdif);
     1.0 / y
 }
 

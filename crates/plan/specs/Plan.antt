@@ -7,18 +7,18 @@ use Rattle.numbers.specs.Literals.{1·0}
 use Rattle.elementary.specs.Exp.{exp_of}
 use Rattle.setting.specs.declared.State.{State}
 use Rattle.setting.specs.declared.View.{View}
-use Rattle.setting.specs.declared.Valued.{Valued}
+use Rattle.setting.specs.declared.Left.{Left}
 use Rattle.tables.specs.Names.{Wide, Narrow, wide, narrow, PT, PS, PD0, PD1, PD2, PD3, PD4, PD5, PD6, PD7, PD8, PTL0, PTL1, PTL2, PTL3, PMA0, PMA1, PMA2, PMA3, PMA4, PMA5, PMA6, PMA7, PMA8, PMA9}
 use Rattle.plan.specs.declared.ExpansionValues.{ExpansionValues}
 use Rattle.plan.specs.Fields.{Fields, fields_of, with_fields}
 use Rattle.expansion.specs.Expansion.{carried_of, turns_after_of, state_after, globe7_of, glob7s_of}
 
 -- 1 + f * globe7
-unfoldable pub one_plus_globe7_of : View → Float → List Float → State → Valued
+unfoldable pub one_plus_globe7_of : View → Float → List Float → State → Left Float
 one_plus_globe7_of v f p s = let g = globe7_of v p s in record { value = 1·0 ⊕ f ⊗ g.value; state = g.state }
 
 -- exp(f * globe7)
-unfoldable pub exp_globe7_of : View → Float → List Float → State → Valued
+unfoldable pub exp_globe7_of : View → Float → List Float → State → Left Float
 exp_globe7_of v f p s = let g = globe7_of v p s in record { value = exp_of (f ⊗ g.value); state = g.state }
 
 -- 1 + f * glob7s
@@ -64,7 +64,7 @@ either true x y = x
 either false x y = y
 
 -- the answer, from the View and the State, with the State after it
-unfoldable pub answer : View → Ask → State → Valued
+unfoldable pub answer : View → Ask → State → Left Float
 answer v (one_plus_globe7 f p) s = one_plus_globe7_of v f (wide p) s
 answer v (exp_globe7 f p) s = exp_globe7_of v f (wide p) s
 answer v (one_plus_glob7s f p) s = record { value = one_plus_glob7s_of v f (narrow p) s; state = s }

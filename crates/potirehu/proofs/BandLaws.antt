@@ -8,17 +8,16 @@ use lib.Dec.{eqb}
 use lib.IntN.{ℤ}
 use lib.ListN.{length}
 use lib.Ieee.{Float}
+use Rattle.refusals.specs.Refusals.{Accepted, Answer, Refused, accepted_of}
+use Rattle.refusals.specs.declared.Reason.TheVariants.{WrongLength}
 use Rattle.setting.specs.declared.Input.{Input}
-use Rattle.acceptance.specs.declared.Answer.{Answer}
-use Rattle.acceptance.specs.declared.Answer.TheVariants.{Accepted, Refused}
-use Rattle.acceptance.specs.Acceptance.{accepted_of}
 use Rattle.bands.specs.Bands.{banded_answer, banded_after}
 use Rattle.host_record.specs.Record.{code_of, record_of}
 use Rattle.potirehu.specs.Bands.{band_lengths_of, host_banded, host_banded_row}
 use Rattle.potirehu.proofs.Laws.{twice}
 
 abbrev tests : Bool → Bool → Bool → Bool → Answer → Answer
-tests a b c d rest = cond (not a) (Refused 4 11) (cond (not b) (Refused 4 1601) (cond (not c) (Refused 4 8) (cond d (Refused 4 7) rest)))
+tests a b c d rest = cond (not a) (Refused WrongLength 11) (cond (not b) (Refused WrongLength 1601) (cond (not c) (Refused WrongLength 8) (cond d (Refused WrongLength 7) rest)))
 
 halted : (a b c d : Bool) (rest : Answer) → accepted_of (tests a b c d Accepted) ≡ false → tests a b c d rest ≡ tests a b c d Accepted
 halted false b c d rest h = refl

@@ -7,10 +7,8 @@ use lib.IntN.{ℤ}
 use lib.ListN.{length}
 use lib.Ieee.{Float}
 use Rattle.parameters.specs.declared.Parameters.{Parameters}
+use Rattle.refusals.specs.Refusals.{Accepted, Answer, accepted_of}
 use Rattle.setting.specs.declared.Input.{Input}
-use Rattle.acceptance.specs.declared.Answer.{Answer}
-use Rattle.acceptance.specs.declared.Answer.TheVariants.{Accepted}
-use Rattle.acceptance.specs.Acceptance.{accepted_of}
 use Rattle.parameter_answer.specs.ParameterAnswer.{answer_with}
 use Rattle.varied_constants.specs.VariedConstants.{row_with}
 use Rattle.host_record.specs.Record.{code_of, record_of}

@@ -6,9 +6,8 @@ use mathlib.Core.List.{List}
 use lib.IntN.{ℤ}
 use lib.ListN.{length}
 use lib.Ieee.{Float}
+use Rattle.refusals.specs.Refusals.{Answer, accepted_of}
 use Rattle.setting.specs.declared.Input.{Input}
-use Rattle.acceptance.specs.declared.Answer.{Answer}
-use Rattle.acceptance.specs.Acceptance.{accepted_of}
 use Rattle.known.specs.Known.{known_answer, known_row}
 use Rattle.host_record.specs.Record.{code_of, record_of}
 use Rattle.potirehu.specs.Potirehu.{slices_of}

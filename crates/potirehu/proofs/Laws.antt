@@ -1,4 +1,5 @@
 -- The outcomes of the host's calls, by the tests on their slices.
+use Rattle.std.specs.Prelude.{Err, Ok}
 use Prim.Native.Nat.{ℕ}
 use mathlib.Core.Path.{◌≡◌, refl, sym, ◌∙◌, ap}
 use mathlib.Core.Bool.{Bool, true, false, cond, true≢false}
@@ -7,17 +8,16 @@ use borrow.Author.Tests.{eq-eqb, ne_eqb}
 use lib.IntN.{ℤ}
 use lib.ListN.{length}
 use lib.Ieee.{Float}
+use Rattle.crossings_list.specs.CrossingsList.{Listing}
+use Rattle.refusals.specs.Refusals.{Accepted, Answer, Refused, accepted_of, refused_or}
+use Rattle.refusals.specs.declared.Reason.TheVariants.{WrongLength}
 use Rattle.setting.specs.declared.Input.{Input}
-use Rattle.acceptance.specs.declared.Answer.{Answer}
-use Rattle.acceptance.specs.declared.Answer.TheVariants.{Accepted, Refused}
-use Rattle.acceptance.specs.Acceptance.{accepted_of}
 use Rattle.atmosphere.specs.Atmosphere.{answer_of}
 use Rattle.altitudes.specs.Altitudes.{column_answer}
 use Rattle.column.specs.Column.{column_after}
 use Rattle.station_answer.specs.Answers.{station_answer, switches_answer}
 use Rattle.station.specs.Station.{whole_after, station_numbers_after, switched_whole, switched_numbers}
-use Rattle.crossings_list.specs.declared.Listing.{Listing}
-use Rattle.crossings.specs.Crossings.{crossings_refused_or, crossings_answer, crossings_after}
+use Rattle.crossings.specs.Crossings.{crossings_answer, crossings_after}
 use Rattle.crossings.proofs.Laws.{goes_on}
 use Rattle.potirehu.specs.Crossings.{listing_code, host_crossings, host_list}
 use Rattle.host_record.specs.Record.{code_of, record_of, lengths_of}
@@ -30,7 +30,7 @@ twice false y x = refl
 
 -- the tests on a lent slice and on the record's
 module _ (needed : ℕ) (f l : List Float) (w : List ℤ) (len : ℕ) where
-  pub wrong_length : (len ≡ needed → ⊥) → Refused 4 needed ≡ slices_of needed f l w len
+  pub wrong_length : (len ≡ needed → ⊥) → Refused WrongLength needed ≡ slices_of needed f l w len
   unfolding slices_of
   wrong_length h = simp (ne_eqb _ _ h)
 
@@ -45,7 +45,7 @@ module _ (year doy : ℤ) (f l : List Float) (w : List ℤ) where
   rest xs = answer_of w (record_of year doy f l) (length xs)
 
   module _ (xs : List Float) where
-    pub no_row_lem : (length xs ≡ 11 → ⊥) → host_answer year doy f l w (length xs) ≡ Refused 4 11
+    pub no_row_lem : (length xs ≡ 11 → ⊥) → host_answer year doy f l w (length xs) ≡ Refused WrongLength 11
     unfolding host_answer
     no_row_lem h = simp (ne_eqb _ _ h)
 
@@ -83,10 +83,10 @@ module _ (year doy : ℤ) (f l : List Float) (w : List ℤ) where
 -- ---- the crossings
 
 -- the slices' own answer goes first
-stays : (a : Answer) (x : Listing) → accepted_of a ≡ false → code_of a ≡ listing_code (crossings_refused_or a x)
+stays : (a : Answer) (x : Listing) → accepted_of a ≡ false → code_of a ≡ listing_code (refused_or a x)
 unfolding code_of
-stays Accepted x t = absurd (true≢false t)
-stays (Refused n k) x t = refl
+stays (Ok v) x t = absurd (true≢false t)
+stays (Err r) x t = refl
 
 module _ (year doy : ℤ) (f l : List Float) (w : List ℤ) (alts : List Float) (level : Float) (xs : List ℕ) (a : Answer) (e : a ≡ lengths_of f l w Accepted) where
   abbrev Listed : ℕ → List ℕ → Type 0
@@ -106,7 +106,7 @@ module _ (year doy : ℤ) (f l : List Float) (w : List ℤ) (alts : List Float) 
       → Listed x ys
   unfolding host_crossings host_list
   a_list x r n v ys t e0 e1 e2 e3 e4 =
-      let told : r ≡ crossings_refused_or (lengths_of f l w Accepted) (crossings_answer w (record_of year doy f l) alts level (length xs)) =
+      let told : r ≡ refused_or (lengths_of f l w Accepted) (crossings_answer w (record_of year doy f l) alts level (length xs)) =
       e1 ∙ rw (e3, e4, ← e) (sym (goes_on a _ t)) in
       (e0 ∙ ap (λ (q : Listing). listing_code q) told, e2 ∙ rw (e3, e4, ← e, t))
 
@@ -122,11 +122,11 @@ module _ (year doy : ℤ) (f l : List Float) (w : List ℤ) (ys : List ℤ) (xs 
   unfolding host_whole host_numbers
   station_refused d x e t c = (c ∙ sym (ap code_of e), rw (e, t), rw (e, t))
 
-  pub no_whole : (length ys ≡ 27 → ⊥) → host_station year doy f l w (length ys) (length xs) ≡ Refused 4 27
+  pub no_whole : (length ys ≡ 27 → ⊥) → host_station year doy f l w (length ys) (length xs) ≡ Refused WrongLength 27
   unfolding host_station
   no_whole h = simp (ne_eqb _ _ h)
 
-  pub no_numbers : length ys ≡ 27 → (length xs ≡ 259 → ⊥) → host_station year doy f l w (length ys) (length xs) ≡ Refused 4 259
+  pub no_numbers : length ys ≡ 27 → (length xs ≡ 259 → ⊥) → host_station year doy f l w (length ys) (length xs) ≡ Refused WrongLength 259
   unfolding host_station
   no_numbers e h = simp (eq-eqb _ _ e, ne_eqb _ _ h)
 
@@ -158,17 +158,17 @@ module _ (w whole : List ℤ) (xs : List Float) where
   unfolding host_switched_whole host_switched_numbers
   kept d x e t c = (c ∙ sym (ap code_of e), rw (e, t), rw (e, t))
 
-  pub switches_no_whole : (x : ℕ) → (length whole ≡ 27 → ⊥) → x ≡ code_of (Refused 4 27) → Switched x whole xs
+  pub switches_no_whole : (x : ℕ) → (length whole ≡ 27 → ⊥) → x ≡ code_of (Refused WrongLength 27) → Switched x whole xs
   unfolding host_switches
-  switches_no_whole x h c = kept (Refused 4 27) x (simp (ne_eqb _ _ h)) refl c
+  switches_no_whole x h c = kept (Refused WrongLength 27) x (simp (ne_eqb _ _ h)) refl c
 
-  pub switches_no_numbers : (x : ℕ) → length whole ≡ 27 → (length xs ≡ 259 → ⊥) → x ≡ code_of (Refused 4 259) → Switched x whole xs
+  pub switches_no_numbers : (x : ℕ) → length whole ≡ 27 → (length xs ≡ 259 → ⊥) → x ≡ code_of (Refused WrongLength 259) → Switched x whole xs
   unfolding host_switches
-  switches_no_numbers x e h c = kept (Refused 4 259) x (simp (eq-eqb _ _ e, ne_eqb _ _ h)) refl c
+  switches_no_numbers x e h c = kept (Refused WrongLength 259) x (simp (eq-eqb _ _ e, ne_eqb _ _ h)) refl c
 
-  pub switches_no_row : (x : ℕ) → length whole ≡ 27 → length xs ≡ 259 → (length w ≡ 24 → ⊥) → x ≡ code_of (Refused 4 24) → Switched x whole xs
+  pub switches_no_row : (x : ℕ) → length whole ≡ 27 → length xs ≡ 259 → (length w ≡ 24 → ⊥) → x ≡ code_of (Refused WrongLength 24) → Switched x whole xs
   unfolding host_switches
-  switches_no_row x e f h c = kept (Refused 4 24) x (simp (eq-eqb _ _ e, eq-eqb _ _ f, ne_eqb _ _ h)) refl c
+  switches_no_row x e f h c = kept (Refused WrongLength 24) x (simp (eq-eqb _ _ e, eq-eqb _ _ f, ne_eqb _ _ h)) refl c
 
   pub switches_done : length whole ≡ 27 → length xs ≡ 259 → length w ≡ 24 → (x : ℕ) (r : Answer) (v ys : List ℤ) (zs : List Float)
       → x ≡ code_of r

@@ -6,8 +6,7 @@ use mathlib.Core.List.{List}
 use lib.IntN.{ℤ}
 use lib.ListN.{length}
 use lib.Ieee.{Float}
-use Rattle.acceptance.specs.declared.Answer.{Answer}
-use Rattle.acceptance.specs.Acceptance.{accepted_of}
+use Rattle.refusals.specs.Refusals.{Answer, accepted_of}
 use Rattle.host_record.specs.Record.{code_of}
 use Rattle.record_list.specs.RecordList.{Listed, lengths_answer}
 use Rattle.record_list.proofs.Laws.{lengths_met, lengths_refused}

@@ -1,8 +1,6 @@
 -- The host's call with nine constants: what its slices and the constants meet first, then the call behind it.
 use Rattle.std.specs.Prelude.{ℕ, cond, List, ℤ, length, Float}
-use Rattle.acceptance.specs.declared.Answer.{Answer}
-use Rattle.acceptance.specs.declared.Answer.TheVariants.{Accepted}
-use Rattle.acceptance.specs.Acceptance.{accepted_of}
+use Rattle.refusals.specs.Refusals.{Accepted, Answer, accepted_of}
 use Rattle.parameter_answer.specs.ParameterAnswer.{answer_with}
 use Rattle.varied_constants.specs.VariedConstants.{row_with}
 use Rattle.host_record.specs.Record.{record_of}

@@ -1,8 +1,7 @@
 -- The host's calls on what counts and on a record known in part: 4 for their slices, then what the calls behind them answer.
 use Rattle.std.specs.Prelude.{ℕ, cond, not, List, eqb, ℤ, length, Float}
-use Rattle.acceptance.specs.declared.Answer.{Answer}
-use Rattle.acceptance.specs.declared.Answer.TheVariants.{Accepted, Refused}
-use Rattle.acceptance.specs.Acceptance.{accepted_of}
+use Rattle.refusals.specs.Refusals.{Accepted, Answer, Refused, accepted_of}
+use Rattle.refusals.specs.declared.Reason.TheVariants.{WrongLength}
 use Rattle.known_record.specs.KnownRecord.{marks_of}
 use Rattle.counts.specs.Counts.{counts_of}
 use Rattle.known.specs.Known.{known_answer, known_row}
@@ -11,7 +10,7 @@ use Rattle.potirehu.specs.Potirehu.{slices_of}
 
 -- 4 for the lent fields first, then for the row
 unfoldable pub host_counts : List ℤ → ℕ → Answer
-host_counts w len = cond (not (eqb len 17)) (Refused 4 17) (cond (not (eqb (length w) 24)) (Refused 4 24) Accepted)
+host_counts w len = cond (not (eqb len 17)) (Refused WrongLength 17) (cond (not (eqb (length w) 24)) (Refused WrongLength 24) Accepted)
 
 -- the lent fields afterwards: 1 where the field counts, else 0
 unfoldable pub host_counted : List ℤ → List ℤ → List ℤ

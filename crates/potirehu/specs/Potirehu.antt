@@ -1,8 +1,7 @@
 -- The host's calls: their slices' lengths are refused with 4 first, then they are the calls behind them.
 use Rattle.std.specs.Prelude.{ℕ, cond, not, List, eqb, ℤ, length, Float}
-use Rattle.acceptance.specs.declared.Answer.{Answer}
-use Rattle.acceptance.specs.declared.Answer.TheVariants.{Accepted, Refused}
-use Rattle.acceptance.specs.Acceptance.{accepted_of}
+use Rattle.refusals.specs.Refusals.{Accepted, Answer, Refused, accepted_of}
+use Rattle.refusals.specs.declared.Reason.TheVariants.{WrongLength}
 use Rattle.atmosphere.specs.Atmosphere.{answer_of, row_after}
 use Rattle.altitudes.specs.Altitudes.{column_answer}
 use Rattle.column.specs.Column.{column_after}
@@ -13,12 +12,12 @@ use Rattle.host_record.specs.Record.{record_of, lengths_of}
 
 -- 4 for a lent slice of len numbers that needs to have another length, then for the record's slices
 unfoldable pub slices_of : ℕ → List Float → List Float → List ℤ → ℕ → Answer
-slices_of needed f l w len = cond (not (eqb len needed)) (Refused 4 needed) (lengths_of f l w Accepted)
+slices_of needed f l w len = cond (not (eqb len needed)) (Refused WrongLength needed) (lengths_of f l w Accepted)
 
 -- 4 for the row first, then for the other slices, then the one-altitude call's answer
 unfoldable pub host_answer : ℤ → ℤ → List Float → List Float → List ℤ → ℕ → Answer
 host_answer year doy f l w len =
-    cond (not (eqb len 11)) (Refused 4 11) (lengths_of f l w (answer_of w (record_of year doy f l) len))
+    cond (not (eqb len 11)) (Refused WrongLength 11) (lengths_of f l w (answer_of w (record_of year doy f l) len))
 
 -- the lent row afterwards
 unfoldable pub host_row : ℤ → ℤ → List Float → List Float → List ℤ → List Float → List Float
@@ -43,8 +42,8 @@ host_rows year doy f l w alts xs =
 
 unfoldable pub host_station : ℤ → ℤ → List Float → List Float → List ℤ → ℕ → ℕ → Answer
 host_station year doy f l w ints count =
-    cond (not (eqb ints 27)) (Refused 4 27)
-    (cond (not (eqb count 259)) (Refused 4 259)
+    cond (not (eqb ints 27)) (Refused WrongLength 27)
+    (cond (not (eqb count 259)) (Refused WrongLength 259)
     (lengths_of f l w (station_answer w (record_of year doy f l) ints count)))
 
 -- its slices afterwards
@@ -59,9 +58,9 @@ host_numbers year doy f l w ints xs =
 -- a new switch row: 4 for the station's two slices, for the row, then what the station answers
 unfoldable pub host_switches : List ℤ → List ℤ → List Float → Answer
 host_switches w whole xs =
-    cond (not (eqb (length whole) 27)) (Refused 4 27)
-    (cond (not (eqb (length xs) 259)) (Refused 4 259)
-    (cond (not (eqb (length w) 24)) (Refused 4 24)
+    cond (not (eqb (length whole) 27)) (Refused WrongLength 27)
+    (cond (not (eqb (length xs) 259)) (Refused WrongLength 259)
+    (cond (not (eqb (length w) 24)) (Refused WrongLength 24)
     (switches_answer w whole xs)))
 
 -- its slices afterwards

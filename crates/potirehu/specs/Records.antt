@@ -1,7 +1,6 @@
 -- Many records from C: the answers and the rows afterwards.
 use Rattle.std.specs.Prelude.{ℕ, cond, List, ℤ, length, Float}
-use Rattle.acceptance.specs.declared.Answer.{Answer}
-use Rattle.acceptance.specs.Acceptance.{accepted_of}
+use Rattle.refusals.specs.Refusals.{Answer, accepted_of}
 use Rattle.record_list.specs.RecordList.{lengths_answer}
 use Rattle.records.specs.Records.{answers_to, rows_to}
 

@@ -6,15 +6,16 @@ use Rattle.std.proofs.Math.Bool.{not}
 use borrow.Author.Tests.{eqb-true, not-false}
 use Rattle.numbers.specs.Arithmetic.{◌‼◌}
 use Rattle.numbers.specs.Literals.{0·0}
+use Rattle.refusals.specs.Refusals.{Accepted, Answer, Refused, accepted_of}
+use Rattle.refusals.specs.declared.Reason.TheVariants.{WrongLength}
 use Rattle.setting.specs.declared.Input.{Input}
-use Rattle.acceptance.specs.declared.Answer.{Answer}
-use Rattle.acceptance.specs.declared.Answer.TheVariants.{Accepted, Refused}
-use Rattle.acceptance.specs.Acceptance.{judged_of, accepted_of, with_alt_of}
+use Rattle.acceptance.specs.Acceptance.{judged_of, with_alt_of}
 use Rattle.acceptance.specs.Refusals.{no_refusal}
 use Rattle.atmosphere.specs.Atmosphere.{answer_of, row_after}
 use Rattle.drag.specs.Drag.{drag_after}
 use Rattle.station_record.specs.Record.{station_whole}
-use Rattle.station_answer.specs.Answers.{station_answer, altitude_answer, Change, switches_answer}
+use Rattle.station_answer.specs.declared.Change.{Change}
+use Rattle.station_answer.specs.Answers.{station_answer, altitude_answer, switches_answer}
 use Rattle.station.specs.Station.{station_numbers, whole_after, station_numbers_after, altitude_row, altitude_drag, changed_numbers, switched_whole, switched_numbers}
 use Rattle.station.proofs.Theorems.{Held, station_of, call_of, call_on, call_told, call_held, prepared_held, altitude_told}
 use Rattle.station.proofs.Theorems as station
@@ -52,8 +53,8 @@ host_held_after w n (c ∷ cs) = host_held_after (host_call_of c w n).0 (host_ca
 -- ---- a new row
 
 again : (a b : Bool) (x : Answer)
-    → cond (not a) (Refused 4 27) (cond (not b) (Refused 4 259) (cond (not a) (Refused 4 27) (cond (not b) (Refused 4 259) x)))
-    ≡ cond (not a) (Refused 4 27) (cond (not b) (Refused 4 259) x)
+    → cond (not a) (Refused WrongLength 27) (cond (not b) (Refused WrongLength 259) (cond (not a) (Refused WrongLength 27) (cond (not b) (Refused WrongLength 259) x)))
+    ≡ cond (not a) (Refused WrongLength 27) (cond (not b) (Refused WrongLength 259) x)
 again true true x = refl
 again true false x = refl
 again false b x = refl
@@ -79,7 +80,7 @@ row_refused : (u whole : List ℤ) (xs : List Float) → eqb (length u) 24 ≡ f
 unfolding host_switches
 row_refused u whole xs e = rw e (go (eqb (length whole) 27) (eqb (length xs) 259))
   where
-    go : (a b : Bool) → accepted_of (cond (not a) (Refused 4 27) (cond (not b) (Refused 4 259) (Refused 4 24))) ≡ false
+    go : (a b : Bool) → accepted_of (cond {A = Answer} (not a) (Refused WrongLength 27) (cond (not b) (Refused WrongLength 259) (Refused WrongLength 24))) ≡ false
     go true true = refl
     go true false = refl
     go false b = refl
@@ -134,11 +135,11 @@ module _ (year doy : ℤ) (f l : List Float) (w : List ℤ) (ys : List ℤ) (xs 
   passed : (length w ≡ 24) × (station_answer w n (length ys) (length xs) ≡ Accepted) × (length ys ≡ 27) × (length xs ≡ 259)
   unfolding host_station lengths_of
   passed =
-      let a = no_refusal (not (eqb (length ys) 27)) 4 27 _ e in
-      let b = no_refusal (not (eqb (length xs) 259)) 4 259 _ a.1 in
-      let c = no_refusal (not (eqb (length f) 8)) 4 8 _ b.1 in
-      let d = no_refusal (not (eqb (length l) 0) && not (eqb (length l) 7)) 4 7 _ c.1 in
-      let g = no_refusal (not (eqb (length w) 24)) 4 24 _ d.1 in
+      let a = no_refusal (not (eqb (length ys) 27)) WrongLength 27 _ e in
+      let b = no_refusal (not (eqb (length xs) 259)) WrongLength 259 _ a.1 in
+      let c = no_refusal (not (eqb (length f) 8)) WrongLength 8 _ b.1 in
+      let d = no_refusal (not (eqb (length l) 0) && not (eqb (length l) 7)) WrongLength 7 _ c.1 in
+      let g = no_refusal (not (eqb (length w) 24)) WrongLength 24 _ d.1 in
       (eqb-true _ _ (not-false _ g.0), g.1, eqb-true _ _ (not-false _ a.0), eqb-true _ _ (not-false _ b.0))
 
   -- what it leaves in the two slices, and that it is kept

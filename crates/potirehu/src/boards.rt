@@ -4,15 +4,15 @@ ghost use Rattle.potirehu.specs.Boards.{log_code_of};
 ghost use Rattle.logs.specs.Lent.{lent_answer, lent_after};
 
 use host_record::packed;
-use logs::{Answer, held_in};
+use logs::{LogsRefusal, held_in};
 
 // The count, or a refusal's number times 2^32 and its place.
-pub fn log_code(a: Answer) -> u64
+pub fn log_code(a: Result<usize, LogsRefusal>) -> u64
     ensures { result ≡ log_code_of a }
 {
     match a {
-        Answer::Counted(n) => n as u64,
-        Answer::Refused(n, k) => packed(n, k),
+        Ok(n) => n as u64,
+        Err(e) => packed(e.number(), e.place()),
     }
 }
 

@@ -3,7 +3,6 @@ ghost use Rattle.std.specs.Prelude.{◌≡◌, length};
 ghost use Rattle.host_record.specs.Record.{code_of};
 ghost use Rattle.potirehu.specs.Constants.{host_with, host_with_row};
 
-use acceptance::accepted;
 use host_record::nine::{lengths_with, nine_of};
 use host_record::{code, record_of, switch_row};
 use varied_constants::gtd7_with;
@@ -22,9 +21,8 @@ pub extern "C" fn potirehu_gtd7_with(
     ensures { (result ≡ code_of (host_with nine.now year doy fields.now ap_array.now switches.now (length row.old)))
         × (row.new ≡ host_with_row nine.now year doy fields.now ap_array.now switches.now row.old) }
 {
-    let l = lengths_with(nine, row.len(), fields, ap_array, switches);
-    if !accepted(l) {
-        return code(l);
+    if let Err(refusal) = lengths_with(nine, row.len(), fields, ap_array, switches) {
+        return code(Err(refusal));
     }
     let c = nine_of(nine);
     let w = switch_row(switches);

@@ -2,22 +2,22 @@
 ghost use Rattle.std.specs.Prelude.{◌≡◌, length};
 ghost use Rattle.potirehu.specs.Descents.{descended_code, end_after, EndFits, host_descent, host_losses, host_end};
 
-use acceptance::{Answer, accepted};
 use descent::descent;
 use descent_orbits::{Descended, put_end};
 use host_record::{code, lengths, packed, record_of, switch_row};
+use refusals::{Reason, Refusal};
 
 // An ending into its three numbers, and 0; or a refusal's number times 2^32 and its place.
-pub fn put_descended(end: &mut [i64], a: Descended) -> u64
+pub fn put_descended(end: &mut [i64], a: Result<Descended, Refusal>) -> u64
     requires { (length end.old ≡ 3) × EndFits a }
     ensures { (result ≡ descended_code a) × (end.new ≡ end_after a end.old) }
 {
     match a {
-        Descended::Ended(e, last, taken) => {
-            put_end(end, e, last, taken);
+        Ok(d) => {
+            put_end(end, d);
             0
         }
-        Descended::Refused(n, k) => packed(n, k),
+        Err(r) => packed(r.reason.number(), r.place),
     }
 }
 
@@ -39,11 +39,10 @@ pub extern "C" fn potirehu_descent(
         × (end.new ≡ host_end year doy fields.now ap_array.now switches.now start settings.now (length losses.old) end.old) }
 {
     if end.len() != 3 {
-        return code(Answer::Refused(4, 3));
+        return code(Err(Reason::WrongLength.at(3)));
     }
-    let l = lengths(fields, ap_array, switches);
-    if !accepted(l) {
-        return code(l);
+    if let Err(refusal) = lengths(fields, ap_array, switches) {
+        return code(Err(refusal));
     }
     let w = switch_row(switches);
     let n = record_of(year, doy, fields, ap_array);

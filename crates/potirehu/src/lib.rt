@@ -22,7 +22,6 @@ ghost use Rattle.elementary.specs.Trig.{sin_of, cos_of};
 ghost use Rattle.elementary.specs.Root.{sqrt_of};
 ghost use Rattle.elementary.specs.Pow.{pow_of};
 
-use acceptance::{Answer, accepted};
 use atmosphere::gtd7;
 use column::gtd7_column;
 use drag::gtd7d;
@@ -32,6 +31,7 @@ use elementary::power::pow;
 use elementary::root::sqrt;
 use elementary::trigonometry::{cos, sin};
 use host_record::{code, lengths, record_of, switch_row};
+use refusals::Reason;
 
 #[unsafe(no_mangle)]
 pub extern "C" fn elementary_exp(x: f64) -> f64
@@ -89,11 +89,10 @@ pub extern "C" fn potirehu_gtd7(
     ensures { (result ≡ code_of (host_answer year doy fields.now ap_array.now switches.now (length row.old))) × (row.new ≡ host_row year doy fields.now ap_array.now switches.now row.old) }
 {
     if row.len() != 11 {
-        return code(Answer::Refused(4, 11));
+        return code(Err(Reason::WrongLength.at(11)));
     }
-    let l = lengths(fields, ap_array, switches);
-    if !accepted(l) {
-        return code(l);
+    if let Err(refusal) = lengths(fields, ap_array, switches) {
+        return code(Err(refusal));
     }
     let w = switch_row(switches);
     let n = record_of(year, doy, fields, ap_array);
@@ -114,11 +113,10 @@ pub extern "C" fn potirehu_gtd7d(
     ensures { (result ≡ code_of (host_answer year doy fields.now ap_array.now switches.now (length row.old))) × (row.new ≡ host_drag year doy fields.now ap_array.now switches.now row.old) }
 {
     if row.len() != 11 {
-        return code(Answer::Refused(4, 11));
+        return code(Err(Reason::WrongLength.at(11)));
     }
-    let l = lengths(fields, ap_array, switches);
-    if !accepted(l) {
-        return code(l);
+    if let Err(refusal) = lengths(fields, ap_array, switches) {
+        return code(Err(refusal));
     }
     let w = switch_row(switches);
     let n = record_of(year, doy, fields, ap_array);
@@ -139,9 +137,8 @@ pub extern "C" fn potirehu_gtd7_column(
 ) -> u64
     ensures { (result ≡ code_of (host_column year doy fields.now ap_array.now switches.now altitudes.now (length rows.old))) × (rows.new ≡ host_rows year doy fields.now ap_array.now switches.now altitudes.now rows.old) }
 {
-    let l = lengths(fields, ap_array, switches);
-    if !accepted(l) {
-        return code(l);
+    if let Err(refusal) = lengths(fields, ap_array, switches) {
+        return code(Err(refusal));
     }
     let w = switch_row(switches);
     let n = record_of(year, doy, fields, ap_array);

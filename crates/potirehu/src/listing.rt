@@ -2,18 +2,17 @@
 ghost use Rattle.std.specs.Prelude.{◌≡◌, length};
 ghost use Rattle.potirehu.specs.Crossings.{listing_code, host_crossings, host_list};
 
-use acceptance::accepted;
 use crossings::crossings;
-use crossings_list::Listing;
 use host_record::{code, lengths, packed, record_of, switch_row};
+use refusals::Refusal;
 
 // How long the list is, or a refusal's number times 2^32 and its place.
-pub fn listing_code(a: Listing) -> u64
+pub fn listing_code(a: Result<usize, Refusal>) -> u64
     ensures { result ≡ listing_code a }
 {
     match a {
-        Listing::Listed(m) => m as u64,
-        Listing::Refused(n, k) => packed(n, k),
+        Ok(m) => m as u64,
+        Err(r) => packed(r.reason.number(), r.place),
     }
 }
 
@@ -32,9 +31,8 @@ pub extern "C" fn potirehu_crossings(
     ensures { (result ≡ listing_code (host_crossings year doy fields.now ap_array.now switches.now altitudes.now level (length list.old)))
         × (list.new ≡ host_list year doy fields.now ap_array.now switches.now altitudes.now level list.old) }
 {
-    let l = lengths(fields, ap_array, switches);
-    if !accepted(l) {
-        return code(l);
+    if let Err(refusal) = lengths(fields, ap_array, switches) {
+        return code(Err(refusal));
     }
     let w = switch_row(switches);
     let n = record_of(year, doy, fields, ap_array);

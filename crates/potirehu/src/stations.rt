@@ -1,16 +1,15 @@
 // A prepared station on the host: 27 whole numbers and 259 numbers that the caller keeps.
 ghost use Rattle.std.specs.Prelude.{◌≡◌, length};
-ghost use Rattle.station_answer.specs.Answers.{to_sec, to_lst, to_long, to_fluxes, to_move, altitude_answer, change_answer};
+ghost use Rattle.station_answer.specs.declared.Change.TheVariants.{Fluxes, GLong, Lst, Move, Sec};
+ghost use Rattle.station_answer.specs.Answers.{altitude_answer, change_answer};
 ghost use Rattle.station.specs.Station.{altitude_row, altitude_drag, changed_numbers};
 ghost use Rattle.host_record.specs.Record.{code_of};
 ghost use Rattle.potirehu.specs.Potirehu.{host_station, host_whole, host_numbers, host_switches, host_switched_whole, host_switched_numbers};
 
-use acceptance::{Answer, accepted};
 use host_record::{code, lengths, record_of, switch_row};
-use station::{
-    change_fluxes, change_g_long, change_lst, change_move, change_sec, change_switches, gtd7,
-    gtd7d, prepare,
-};
+use refusals::Reason;
+use station::{change, change_switches, gtd7, gtd7d, prepare};
+use station_answer::Change;
 
 // Prepares a station from a record, whose altitude is not looked at, and a switch row.
 #[unsafe(no_mangle)]
@@ -28,14 +27,13 @@ pub extern "C" fn potirehu_station(
         × (numbers.new ≡ host_numbers year doy fields.now ap_array.now switches.now (length whole.old) numbers.old) }
 {
     if whole.len() != 27 {
-        return code(Answer::Refused(4, 27));
+        return code(Err(Reason::WrongLength.at(27)));
     }
     if numbers.len() != 259 {
-        return code(Answer::Refused(4, 259));
+        return code(Err(Reason::WrongLength.at(259)));
     }
-    let l = lengths(fields, ap_array, switches);
-    if !accepted(l) {
-        return code(l);
+    if let Err(refusal) = lengths(fields, ap_array, switches) {
+        return code(Err(refusal));
     }
     let w = switch_row(switches);
     let n = record_of(year, doy, fields, ap_array);
@@ -76,25 +74,25 @@ pub extern "C" fn potirehu_station_gtd7d(
 // Changes of one field of the record, or of both fluxes.
 #[unsafe(no_mangle)]
 pub extern "C" fn potirehu_station_sec(whole: &[i32], numbers: &mut [f64], sec: f64) -> u64
-    ensures { (result ≡ code_of (change_answer (to_sec sec) whole.now numbers.old)) × (numbers.new ≡ changed_numbers (to_sec sec) whole.now numbers.old) }
+    ensures { (result ≡ code_of (change_answer (Sec sec) whole.now numbers.old)) × (numbers.new ≡ changed_numbers (Sec sec) whole.now numbers.old) }
 {
-    let a = change_sec(whole, numbers, sec);
+    let a = change(whole, numbers, Change::Sec(sec));
     code(a)
 }
 
 #[unsafe(no_mangle)]
 pub extern "C" fn potirehu_station_lst(whole: &[i32], numbers: &mut [f64], lst: f64) -> u64
-    ensures { (result ≡ code_of (change_answer (to_lst lst) whole.now numbers.old)) × (numbers.new ≡ changed_numbers (to_lst lst) whole.now numbers.old) }
+    ensures { (result ≡ code_of (change_answer (Lst lst) whole.now numbers.old)) × (numbers.new ≡ changed_numbers (Lst lst) whole.now numbers.old) }
 {
-    let a = change_lst(whole, numbers, lst);
+    let a = change(whole, numbers, Change::Lst(lst));
     code(a)
 }
 
 #[unsafe(no_mangle)]
 pub extern "C" fn potirehu_station_g_long(whole: &[i32], numbers: &mut [f64], g_long: f64) -> u64
-    ensures { (result ≡ code_of (change_answer (to_long g_long) whole.now numbers.old)) × (numbers.new ≡ changed_numbers (to_long g_long) whole.now numbers.old) }
+    ensures { (result ≡ code_of (change_answer (GLong g_long) whole.now numbers.old)) × (numbers.new ≡ changed_numbers (GLong g_long) whole.now numbers.old) }
 {
-    let a = change_g_long(whole, numbers, g_long);
+    let a = change(whole, numbers, Change::GLong(g_long));
     code(a)
 }
 
@@ -105,9 +103,9 @@ pub extern "C" fn potirehu_station_fluxes(
     f107a: f64,
     f107: f64,
 ) -> u64
-    ensures { (result ≡ code_of (change_answer (to_fluxes f107a f107) whole.now numbers.old)) × (numbers.new ≡ changed_numbers (to_fluxes f107a f107) whole.now numbers.old) }
+    ensures { (result ≡ code_of (change_answer (Fluxes f107a f107) whole.now numbers.old)) × (numbers.new ≡ changed_numbers (Fluxes f107a f107) whole.now numbers.old) }
 {
-    let a = change_fluxes(whole, numbers, f107a, f107);
+    let a = change(whole, numbers, Change::Fluxes(f107a, f107));
     code(a)
 }
 
@@ -120,9 +118,9 @@ pub extern "C" fn potirehu_station_move(
     lst: f64,
     g_long: f64,
 ) -> u64
-    ensures { (result ≡ code_of (change_answer (to_move sec lst g_long) whole.now numbers.old)) × (numbers.new ≡ changed_numbers (to_move sec lst g_long) whole.now numbers.old) }
+    ensures { (result ≡ code_of (change_answer (Move sec lst g_long) whole.now numbers.old)) × (numbers.new ≡ changed_numbers (Move sec lst g_long) whole.now numbers.old) }
 {
-    let a = change_move(whole, numbers, sec, lst, g_long);
+    let a = change(whole, numbers, Change::Move(sec, lst, g_long));
     code(a)
 }
 
@@ -138,13 +136,13 @@ pub extern "C" fn potirehu_station_switches(
         × (numbers.new ≡ host_switched_numbers switches.now whole.old numbers.old) }
 {
     if whole.len() != 27 {
-        return code(Answer::Refused(4, 27));
+        return code(Err(Reason::WrongLength.at(27)));
     }
     if numbers.len() != 259 {
-        return code(Answer::Refused(4, 259));
+        return code(Err(Reason::WrongLength.at(259)));
     }
     if switches.len() != 24 {
-        return code(Answer::Refused(4, 24));
+        return code(Err(Reason::WrongLength.at(24)));
     }
     let w = switch_row(switches);
     let a = change_switches(w, whole, numbers);

@@ -2,19 +2,18 @@
 ghost use Rattle.std.specs.Prelude.{◌≡◌, length};
 ghost use Rattle.potirehu.specs.FirstBelow.{first_code, host_first, host_first_row};
 
-use acceptance::{Answer, accepted};
 use first_below::first_below;
-use first_below_list::First;
 use host_record::{code, lengths, packed, record_of, switch_row};
+use refusals::{Reason, Refusal};
 
 // The index, 2^32 - 1 where no altitude is thin enough, or a refusal's number times 2^32 and its place.
-pub fn first_code(a: First) -> u64
+pub fn first_code(a: Result<Option<usize>, Refusal>) -> u64
     ensures { result ≡ first_code a }
 {
     match a {
-        First::At(k) => k as u64,
-        First::Nowhere => 4294967295,
-        First::Refused(n, k) => packed(n, k),
+        Ok(Some(k)) => k as u64,
+        Ok(None) => 4294967295,
+        Err(r) => packed(r.reason.number(), r.place),
     }
 }
 
@@ -34,11 +33,10 @@ pub extern "C" fn potirehu_first_below(
         × (row.new ≡ host_first_row year doy fields.now ap_array.now switches.now altitudes.now level row.old) }
 {
     if row.len() != 11 {
-        return code(Answer::Refused(4, 11));
+        return code(Err(Reason::WrongLength.at(11)));
     }
-    let l = lengths(fields, ap_array, switches);
-    if !accepted(l) {
-        return code(l);
+    if let Err(refusal) = lengths(fields, ap_array, switches) {
+        return code(Err(refusal));
     }
     let w = switch_row(switches);
     let n = record_of(year, doy, fields, ap_array);

@@ -28,10 +28,8 @@ fn node_xs(re: f64, zn: &[f64], n: usize, z1: f64, zgdif: f64) -> [f64; 10]
     ensures { result ≡ node_xs_of re zn.now n z1 zgdif }
 {
     let mut xs = [0.0; 10];
-    let mut k: usize = 0;
-    while k < n {
+    for k in 0..n {
         xs[k] = zeta(re, zn[k], z1) / zgdif;
-        k += 1;
     }
     xs
 }
@@ -42,10 +40,8 @@ fn node_ys(tn: &[f64], n: usize) -> [f64; 10]
     ensures { result ≡ node_ys_of tn.now n }
 {
     let mut ys = [0.0; 10];
-    let mut k: usize = 0;
-    while k < n {
+    for k in 0..n {
         ys[k] = 1.0 / tn[k];
-        k += 1;
     }
     ys
 }
@@ -78,14 +74,14 @@ pub fn layer(re: f64, zn: &[f64], tn: &[f64], n: usize, tgn: &[f64], z: f64) -> 
     let x = zg / zgdif;
     let y = splint(&xs, &ys, &y2, n, x);
     Curve {
-        z1: z1,
-        t1: t1,
-        zgdif: zgdif,
-        x: x,
+        z1,
+        t1,
+        zgdif,
+        x,
         tz: 1.0 / y,
-        xs: xs,
-        ys: ys,
-        y2: y2,
+        xs,
+        ys,
+        y2,
     }
 }
 

@@ -1,6 +1,5 @@
 // densu in two parts: what the altitude gives, and what a gas adds to it.
 ghost use Rattle.std.specs.Prelude.{◌≡◌};
-ghost use Rattle.profile.specs.Curve.{floored_of};
 ghost use Rattle.profile.specs.Point.{on_curve, off_curve, point_of, densu_at};
 
 use super::curve::{Curve, capped, floored, integral, unset};
@@ -63,13 +62,6 @@ pub fn off_curve(z: f64, zg2: f64, tt: f64) -> Point
     }
 }
 
-// The curve over five nodes by value, read no lower than the last one.
-pub fn floored5(re: f64, zn: [f64; 5], tn: [f64; 5], tgn: [f64; 2], z: f64) -> Curve
-    ensures { result ≡ floored_of re zn tn 5 tgn z }
-{
-    floored(re, &zn, &tn, 5, &tgn, z)
-}
-
 // What an altitude gives.
 pub fn point_of(h: Shape, z: f64, zlb: f64, zn: [f64; 5]) -> Point
     ensures { result ≡ point_of h z zlb zn }
@@ -84,7 +76,7 @@ pub fn point_of(h: Shape, z: f64, zlb: f64, zn: [f64; 5]) -> Point
         tn[0] = tt;
         let mut tgn = h.tgn;
         tgn[0] = dta;
-        let l = floored5(h.re, zn, tn, tgn, z);
+        let l = floored(h.re, &zn, &tn, 5, &tgn, z);
         return on_curve(h, z, zg2, tt, l);
     }
     if z >= za {

@@ -1,54 +1,34 @@
--- A set of nodes, checked: the four ways that it goes.
-use mathlib.Core.Path.{◌≡◌, refl, sym}
-use mathlib.Core.Bool.{true, false, ◌||◌}
+-- A set of nodes, checked: what follows a refusal, and what follows a set that is fit.
+use mathlib.Core.Path.{◌≡◌, refl, ap, ◌∙◌}
+use mathlib.Core.Bool.{Bool, true, false, cond, ◌||◌}
 use mathlib.Core.List.{List}
-use Prim.Native.Nat.{ℕ, ◌≤◌, ◌<◌}
-use native.Mathlib.Omega.{arith}
+use Prim.Native.Nat.{ℕ}
 use lib.Dec.{ltb}
 use lib.ListN.{length}
 use lib.Ieee.{Float}
-use borrow.Author.Tests.{ltb-false, lt-ltb, le-ltb}
-use Rattle.spline_calls.specs.Outcome.{Outcome, gives, refused, counted, after}
-use Rattle.spline_calls.proofs.Accept.{neither, counted_in}
+use Rattle.std.proofs.Common.{Result, Ok, Err}
+use Rattle.spline_calls.specs.declared.NodesRefusal.{NodesRefusal}
+use Rattle.spline_calls.specs.Outcome.{Outcome, gives, refused, counted}
+use Rattle.spline_calls.specs.Calls.{outcome_of}
+use Rattle.spline_calls.proofs.Accept.{carried, carried_err}
 use Rattle.profile_calls.specs.Calls.{checked}
 
-module _ {A : Type 0} (n top : ℕ) (zn tn tgn : List Float) (rest : Outcome A) where
-  pub refused_count : (ltb n 2 || ltb top n) ≡ true → refused 5 top ≡ checked n top zn tn tgn rest
-  unfolding checked counted
-  refused_count e = simp (e)
+module _ {A : Type 0} (o : Outcome A) (n top : ℕ) (zn tn tgn : List Float) where
+  set_carried : carried (checked n top zn tn tgn (gives tt)) o ≡ checked n top zn tn tgn o
+  unfolding carried checked counted
+  set_carried = by (ltb n 2 || ltb top n) (ltb (length zn) n || ltb (length tn) n) (ltb (length tgn) 2)
+    where
+      by : (s t u : Bool) → carried (cond s (refused 5 top) (cond t (refused 4 n) (cond u (refused 4 2) (gives tt)))) o
+          ≡ cond s (refused 5 top) (cond t (refused 4 n) (cond u (refused 4 2) o))
+      by true t u = refl
+      by false true u = refl
+      by false false true = refl
+      by false false false = refl
 
-  pub refused_nodes : (ltb n 2 || ltb top n) ≡ false → (ltb (length zn) n || ltb (length tn) n) ≡ true
-      → refused 4 n ≡ checked n top zn tn tgn rest
-  unfolding checked counted
-  refused_nodes e f = simp (e, f)
+  pub set_stops : (e : NodesRefusal) (r : Result A NodesRefusal) → r ≡ Err e → outcome_of {A = Unit {0}} (Err e) ≡ checked n top zn tn tgn (gives tt)
+      → outcome_of r ≡ checked n top zn tn tgn o
+  set_stops e r i h = ap (λ (q : Result A NodesRefusal). outcome_of q) i ∙ carried_err e o ∙ ap (λ (w : Outcome (Unit {0})). carried w o) h ∙ set_carried
 
-  pub refused_gradients : (ltb n 2 || ltb top n) ≡ false → (ltb (length zn) n || ltb (length tn) n) ≡ false
-      → length tgn < 2 → refused 4 2 ≡ checked n top zn tn tgn rest
-  unfolding checked counted
-  refused_gradients e f h = simp (e, f, lt-ltb (length tgn) 2 h)
-
-  pub passed : (ltb n 2 || ltb top n) ≡ false → (ltb (length zn) n || ltb (length tn) n) ≡ false
-      → 2 ≤ length tgn → rest ≡ checked n top zn tn tgn rest
-  unfolding checked counted
-  passed e f h = simp (e, f, le-ltb (length tgn) 2 h)
-
--- the lengths a, b and g of a set that is not refused
-pub set_holds : (n top a b g : ℕ) → (ltb n 2 || ltb top n) ≡ false → (ltb a n || ltb b n) ≡ false → 2 ≤ g
-    → (2 ≤ n) × (n ≤ top) × (n ≤ a) × (n ≤ b) × (2 ≤ g)
-set_holds n top a b g e f h =
-    let p = counted_in n top e in
-    let q = neither (ltb a n) (ltb b n) f in
-    (p.0, p.1, ltb-false a n q.0, ltb-false b n q.1, h)
-
--- densu's counts are counts of a spline
-pub within_ten : (n : ℕ) → n ≤ 5 → n ≤ 10
-within_ten n h = omega arith
-
--- a lent slice after a refusal, and after an answer
-pub left_alone : (o : Outcome (List Float)) (number place : ℕ) (xs : List Float) → refused number place ≡ o → xs ≡ after o xs
-unfolding after
-left_alone o number place xs e = rw (sym e) refl
-
-pub left_with_lem : (o : Outcome (List Float)) (ys xs w : List Float) → gives ys ≡ o → w ≡ ys → w ≡ after o xs
-unfolding after
-left_with_lem o ys xs w e f = rw (sym e) f
+  pub set_goes_on : (u : Unit {0}) → outcome_of {A = Unit {0}} (Ok u) ≡ checked n top zn tn tgn (gives tt) → o ≡ checked n top zn tn tgn o
+  unfolding carried
+  set_goes_on u h = ap (λ (w : Outcome (Unit {0})). carried w o) h ∙ set_carried

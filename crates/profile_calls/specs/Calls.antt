@@ -5,14 +5,6 @@ use Rattle.spline_calls.specs.Outcome.{Outcome, gives, refused, counted, after}
 use Rattle.profile.specs.Gravity.{scalh_of}
 use Rattle.profile.specs.Profile.{densm_of, densu_of, tn1_of, tgn1_of}
 use Rattle.profile.specs.declared.unchecked.Profile.{Profile}
-use Rattle.profile_calls.specs.declared.ProfileCall.{ProfileCall}
-use Rattle.profile_calls.specs.declared.ProfileCall.TheVariants.{Answer, NodeCount, SliceLength}
-
--- document 01's number and values for each case of the answer
-abbrev pub profile_outcome : ProfileCall → Outcome Profile
-profile_outcome (Answer p) = gives p
-profile_outcome (NodeCount place) = refused 5 place
-profile_outcome (SliceLength place) = refused 4 place
 
 -- a set of n nodes: refusal 5, then 4 for the nodes, then 4 for the gradients; the place of 4 is the length needed
 unfoldable pub checked : {A : Type 0} → ℕ → ℕ → List Float → List Float → List Float → Outcome A → Outcome A

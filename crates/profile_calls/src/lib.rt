@@ -2,18 +2,28 @@
 
 #![tactic(auto)]
 
-ghost use Rattle.std.specs.Prelude.{◌≡◌};
-ghost use Rattle.profile_calls.specs.Calls.{profile_outcome, scalh_call, densm_call, densu_call, densu_tn1, densu_tgn1};
+ghost use Rattle.std.specs.Prelude.{◌≡◌, ◌≤◌, OnOk, length};
+ghost use Rattle.spline_calls.specs.Outcome.{gives};
+ghost use Rattle.spline_calls.specs.Calls.{outcome_of};
+ghost use Rattle.profile_calls.specs.Calls.{checked, scalh_call, densm_call, densu_call, densu_tn1, densu_tgn1};
 
 use numbers::RGAS;
 use profile::unchecked::Profile;
+use spline_calls::{NodesRefusal, check_count};
 
-// What densm and densu answer: the profile's answer, or why they refuse with the place.
-#[derive(Clone, Copy)]
-pub enum ProfileCall {
-    Answer(Profile),
-    NodeCount(usize),
-    SliceLength(usize),
+// A set of nodes: their count, the slices that hold them, then two gradients.
+fn check_set(n: usize, most: usize, zn: &[f64], tn: &[f64], tgn: &[f64]) -> Result<(), NodesRefusal>
+    ensures outcome { outcome_of result ≡ checked n most zn.now tn.now tgn.now (gives tt) }
+    ensures fit { OnOk result ((2 ≤ n) × (n ≤ most) × (n ≤ length zn.now) × (n ≤ length tn.now) × (2 ≤ length tgn.now)) }
+{
+    check_count(n, most)?;
+    if (zn.len() < n) | (tn.len() < n) {
+        return Err(NodesRefusal::SliceLength(n));
+    }
+    if tgn.len() < 2 {
+        return Err(NodesRefusal::SliceLength(2));
+    }
+    Ok(())
 }
 
 // The scale height of a gas of mass xm.
@@ -39,31 +49,15 @@ pub fn densm(
     zn2: &[f64],
     tn2: &[f64],
     tgn2: &[f64],
-) -> ProfileCall
-    ensures { profile_outcome result ≡ densm_call gsurf re alt d0 xm tz mn3 zn3.now tn3.now tgn3.now mn2 zn2.now tn2.now tgn2.now }
+) -> Result<Profile, NodesRefusal>
+    ensures { outcome_of result ≡ densm_call gsurf re alt d0 xm tz mn3 zn3.now tn3.now tgn3.now mn2 zn2.now tn2.now tgn2.now }
 {
-    if (mn2 < 2) | (mn2 > 10) {
-        return ProfileCall::NodeCount(10);
-    }
-    if (zn2.len() < mn2) | (tn2.len() < mn2) {
-        return ProfileCall::SliceLength(mn2);
-    }
-    if tgn2.len() < 2 {
-        return ProfileCall::SliceLength(2);
-    }
-    if (mn3 < 2) | (mn3 > 10) {
-        return ProfileCall::NodeCount(10);
-    }
-    if (zn3.len() < mn3) | (tn3.len() < mn3) {
-        return ProfileCall::SliceLength(mn3);
-    }
-    if tgn3.len() < 2 {
-        return ProfileCall::SliceLength(2);
-    }
+    check_set(mn2, 10, zn2, tn2, tgn2)?;
+    check_set(mn3, 10, zn3, tn3, tgn3)?;
     let p = profile::unchecked::densm(
         RGAS, gsurf, re, alt, d0, xm, tz, mn3, zn3, tn3, tgn3, mn2, zn2, tn2, tgn2,
     );
-    ProfileCall::Answer(p)
+    Ok(p)
 }
 
 // Temperature and density in the thermosphere; tz is not read.
@@ -83,22 +77,14 @@ pub fn densu(
     zn1: &[f64],
     tn1: &mut [f64],
     tgn1: &mut [f64],
-) -> ProfileCall
-    ensures result_value { profile_outcome result ≡ densu_call gsurf re alt dlb tinf tlb xm alpha tz zlb s2 mn1 zn1.now tn1.old tgn1.old }
+) -> Result<Profile, NodesRefusal>
+    ensures result_value { outcome_of result ≡ densu_call gsurf re alt dlb tinf tlb xm alpha tz zlb s2 mn1 zn1.now tn1.old tgn1.old }
     ensures tn1_after { tn1.new ≡ densu_tn1 re alt tinf tlb zlb s2 mn1 zn1.now tn1.old tgn1.old }
     ensures tgn1_after { tgn1.new ≡ densu_tgn1 re alt tinf tlb zlb s2 mn1 zn1.now tn1.old tgn1.old }
 {
-    if (mn1 < 2) | (mn1 > 5) {
-        return ProfileCall::NodeCount(5);
-    }
-    if (zn1.len() < mn1) | (tn1.len() < mn1) {
-        return ProfileCall::SliceLength(mn1);
-    }
-    if tgn1.len() < 2 {
-        return ProfileCall::SliceLength(2);
-    }
+    check_set(mn1, 5, zn1, tn1, tgn1)?;
     let a = profile::unchecked::densu(
         RGAS, gsurf, re, alt, dlb, tinf, tlb, xm, alpha, zlb, s2, mn1, zn1, tn1, tgn1,
     );
-    ProfileCall::Answer(a)
+    Ok(a)
 }

@@ -1,4 +1,5 @@
 -- The place of a refusal from 32 bits of the count, and what each length gives.
+use Rattle.std.specs.Prelude.{Err, Ok}
 use Prim.Native.Nat.{ℕ, ◌+◌, ◌-◌, ◌*◌, ◌/◌, ◌%◌, ◌<◌, ◌≤◌}
 use mathlib.Core.Path.{◌≡◌, refl, sym, ap, ◌∙◌}
 use mathlib.Core.Bool.{Bool, true, false, cond, not, ◌&&◌, ◌||◌, false≢true}
@@ -10,10 +11,9 @@ use lib.Dec.{eqb, ltb}
 use lib.IntN.{ℤ, pos}
 use lib.ListN.{length, get_or, take, drop}
 use lib.Ieee.{Float}
+use Rattle.refusals.specs.Refusals.{Accepted, Answer, Refused, accepted_of}
+use Rattle.refusals.specs.declared.Reason.TheVariants.{WrongLength}
 use Rattle.setting.specs.declared.Input.{Input}
-use Rattle.acceptance.specs.declared.Answer.{Answer}
-use Rattle.acceptance.specs.declared.Answer.TheVariants.{Accepted, Refused}
-use Rattle.acceptance.specs.Acceptance.{accepted_of}
 use Rattle.host_record.specs.Record.{packed_of, code_of, record_of}
 use Rattle.record_list.specs.RecordList.{Listed, record_at, lengths_answer}
 
@@ -96,7 +96,7 @@ module _ (days : List ℤ) (fields histories : List Float) (k : ℕ) where
 
 -- ---- where no length is refused
 
-refused_not_0 : (k : ℕ) → code_of (Refused 4 k) ≡ 0 → ⊥
+refused_not_0 : (k : ℕ) → code_of (Refused WrongLength k) ≡ 0 → ⊥
 unfolding code_of
 refused_not_0 k e = omega (arith, e)
 
@@ -111,8 +111,8 @@ lengths_met count fields histories switches answers rows =
     go (ltb rows (11 * count)) (ltb answers count) (eqb fields (8 * count)) (not (eqb histories 0) && not (eqb histories (7 * count))) (eqb switches 24) refl refl refl refl refl
   where
     go : (a b c d e : Bool) → ltb rows (11 * count) ≡ a → ltb answers count ≡ b → eqb fields (8 * count) ≡ c → (not (eqb histories 0) && not (eqb histories (7 * count))) ≡ d → eqb switches 24 ≡ e
-        → code_of (cond a (Refused 4 (11 * count)) (cond b (Refused 4 count) (cond (not c) (Refused 4 (8 * count)) (cond d (Refused 4 (7 * count)) (cond (not e) (Refused 4 24) Accepted))))) ≡ 0
-        → (cond a (Refused 4 (11 * count)) (cond b (Refused 4 count) (cond (not c) (Refused 4 (8 * count)) (cond d (Refused 4 (7 * count)) (cond (not e) (Refused 4 24) Accepted)))) ≡ Accepted)
+        → code_of (cond a (Refused WrongLength (11 * count)) (cond b (Refused WrongLength count) (cond (not c) (Refused WrongLength (8 * count)) (cond d (Refused WrongLength (7 * count)) (cond (not e) (Refused WrongLength 24) Accepted))))) ≡ 0
+        → (cond a (Refused WrongLength (11 * count)) (cond b (Refused WrongLength count) (cond (not c) (Refused WrongLength (8 * count)) (cond d (Refused WrongLength (7 * count)) (cond (not e) (Refused WrongLength 24) Accepted)))) ≡ Accepted)
         × Met count fields histories switches answers rows
     go true b c d e ea eb ec ed ee h = absurd (refused_not_0 (11 * count) h)
     go false true c d e ea eb ec ed ee h = absurd (refused_not_0 count h)
@@ -128,5 +128,5 @@ unfolding code_of
 lengths_refused count fields histories switches answers rows h = go (lengths_answer count fields histories switches answers rows) h
   where
     go : (a : Answer) → (code_of a ≡ 0 → ⊥) → accepted_of a ≡ false
-    go Accepted k = absurd (k refl)
-    go (Refused n m) k = refl
+    go (Ok v) k = absurd (k refl)
+    go (Err r) k = refl

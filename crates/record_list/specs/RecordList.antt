@@ -1,9 +1,9 @@
 -- Records that lie one behind the other under one switch row: days one a record, fields eight, histories seven or none at all; an answer and a row of
 -- eleven for each.
 use Rattle.std.specs.Prelude.{ℕ, ◌*◌, ◌≡◌, false, cond, not, ◌&&◌, List, eqb, ltb, ℤ, pos, length, get_or, take, drop, Float}
+use Rattle.refusals.specs.Refusals.{Accepted, Answer, Refused}
+use Rattle.refusals.specs.declared.Reason.TheVariants.{WrongLength}
 use Rattle.setting.specs.declared.Input.{Input}
-use Rattle.acceptance.specs.declared.Answer.{Answer}
-use Rattle.acceptance.specs.declared.Answer.TheVariants.{Accepted, Refused}
 use Rattle.host_record.specs.Record.{record_of}
 
 -- the lengths of days, fields and histories agree
@@ -21,9 +21,9 @@ record_at days f l k = record_of (pos 0) (get_or days k (pos 0)) (take 8 (drop (
 -- 4 with the length that is needed: rows and answers may be longer
 unfoldable pub lengths_answer : ℕ → ℕ → ℕ → ℕ → ℕ → ℕ → Answer
 lengths_answer count fields histories switches answers rows =
-    cond (ltb rows (11 * count)) (Refused 4 (11 * count)) (
-    cond (ltb answers count) (Refused 4 count) (
-    cond (not (eqb fields (8 * count))) (Refused 4 (8 * count)) (
-    cond (not (eqb histories 0) && not (eqb histories (7 * count))) (Refused 4 (7 * count)) (
-    cond (not (eqb switches 24)) (Refused 4 24) (
+    cond (ltb rows (11 * count)) (Refused WrongLength (11 * count)) (
+    cond (ltb answers count) (Refused WrongLength count) (
+    cond (not (eqb fields (8 * count))) (Refused WrongLength (8 * count)) (
+    cond (not (eqb histories 0) && not (eqb histories (7 * count))) (Refused WrongLength (7 * count)) (
+    cond (not (eqb switches 24)) (Refused WrongLength 24) (
     Accepted)))))

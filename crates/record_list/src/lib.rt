@@ -3,10 +3,11 @@
 #![tactic(auto)]
 
 ghost use Rattle.std.specs.Prelude.{◌≡◌, not, ◌*◌, ◌<◌, eqb, ltb, length};
-ghost use Rattle.host_record.specs.Record.{code_of};
+ghost use Rattle.host_record.specs.Record.{packed_of, code_of};
 ghost use Rattle.record_list.specs.RecordList.{Listed, record_at, lengths_answer};
 
 use host_record::{packed, record_of};
+use refusals::Reason;
 use setting::Input;
 
 // The k-th record, of the year 0, which nothing reads.
@@ -52,6 +53,13 @@ pub fn not_seven(len: usize, count: usize) -> bool
     len != 7 * count
 }
 
+// A slice has not the length needed.
+fn length_needed(length: usize) -> u64
+    ensures { result ≡ packed_of 4 length }
+{
+    packed(Reason::WrongLength.number(), length)
+}
+
 // 4 with the length that is needed, for the first slice that has not its length: rows, answers, fields, ap_arrays, switches; 0 where all have. A
 // refusal's place has 32 bits, so that of the count no more is multiplied.
 pub fn lengths_code(
@@ -66,19 +74,19 @@ pub fn lengths_code(
 {
     let low = count % 4294967296;
     if no_room(rows, count) {
-        return packed(4, 11 * low);
+        return length_needed(11 * low);
     }
     if answers < count {
-        return packed(4, low);
+        return length_needed(low);
     }
     if not_eight(fields, count) {
-        return packed(4, 8 * low);
+        return length_needed(8 * low);
     }
     if (ap_arrays != 0) & not_seven(ap_arrays, count) {
-        return packed(4, 7 * low);
+        return length_needed(7 * low);
     }
     if switches != 24 {
-        return packed(4, 24);
+        return length_needed(24);
     }
     0
 }

@@ -1,18 +1,19 @@
 -- The season that is kept, and the outcomes of a record.
 use Prim.Native.Nat.{ℕ, ◌+◌, ◌-◌, ◌*◌}
+use Rattle.std.specs.Prelude.{Option, Some}
 use mathlib.Core.Path.{◌≡◌, refl, sym, ap, ◌∙◌}
-use mathlib.Core.Bool.{Bool, true, false, cond, not, ◌&&◌, false≢true}
+use mathlib.Core.Bool.{Bool, true, false, cond, not, false≢true}
 use mathlib.Core.List.{List}
 use native.Mathlib.Numerals.{add-one}
 use native.Mathlib.Omega.{arith}
 use borrow.Rule.Slice.PartMut.{put_mid}
-use lib.Dec.{eqb}
 use lib.IntN.{ℤ}
 use lib.ListN.{length, take, drop, set}
 use lib.Ieee.{Float, binary64, of_int}
 use mir.Syntax.{w32}
 use mir.Val.{of_z, to_z}
 use Rattle.numbers.specs.Booleans.{both}
+use Rattle.refusals.specs.Refusals.{accepted_of}
 use Rattle.setting.specs.declared.Input.{Input}
 use Rattle.needed_sets.specs.declared.Need.{Need}
 use Rattle.needed_sets.specs.NeededSets.{need_at}
@@ -22,8 +23,7 @@ use Rattle.expansion_values.specs.declared.RecordValues.{RecordValues}
 use Rattle.expansion_values.specs.ExpansionValues.{record_values_of}
 use Rattle.expansion_values.specs.Sets.{record_values_given}
 use Rattle.expansion_values.specs.InSeason.{longitude_in, record_in_season}
-use Rattle.acceptance.specs.declared.Answer.{Answer}
-use Rattle.acceptance.specs.Acceptance.{accepted_of, record_answer}
+use Rattle.acceptance.specs.Acceptance.{record_answer}
 use Rattle.atmosphere.specs.Atmosphere.{eleven_of, answer_of, row_after}
 use Rattle.host_record.specs.Record.{code_of}
 use Rattle.records.specs.declared.KeptSeason.{KeptSeason}
@@ -60,14 +60,12 @@ same_bits : (x y : ℤ) → to_z w32 (of_z w32 x) ≡ x → to_z w32 (of_z w32 y
 same_bits x y e f g = sym e ∙ ap (to_z w32) g ∙ f
 
 pub serves_law : (k : KeptSeason) (doy : ℤ) (a : Need) (same : Bool) → same ≡ same_need k.need a → to_z w32 (of_z w32 k.doy) ≡ k.doy → to_z w32 (of_z w32 doy) ≡ doy
-    → of_z w32 k.doy ≡ of_z w32 doy → (k.there && same) ≡ true → (k.there ≡ true) × (k.doy ≡ doy) × (k.need ≡ a)
-serves_law k doy a same e f g h t =
-    let p = both k.there same t in
-    (p.0, same_bits k.doy doy f g h, same_is k.need a (sym e ∙ p.1))
+    → of_z w32 k.doy ≡ of_z w32 doy → same ≡ true → (k.doy ≡ doy) × (k.need ≡ a)
+serves_law k doy a same e f g h t = (same_bits k.doy doy f g h, same_is k.need a (sym e ∙ t))
 
-pub kept_serves : (w : List ℤ) (k : KeptSeason) (s : List Float) (doy d : ℤ) (a : Need) → d ≡ doy → KeptRight w k s → (k.there ≡ true) × (k.doy ≡ d) × (k.need ≡ a)
+pub kept_serves : (w : List ℤ) (kept : Option KeptSeason) (s : List Float) (k : KeptSeason) (doy : ℤ) (a : Need) → KeptRight w kept s → kept ≡ Some k → k.doy ≡ doy → k.need ≡ a
     → Seasoned (of_int binary64 doy) a (longitude_in w) s
-kept_serves w k s doy d a e q p = rw (p.1 ∙ e, p.2) at (q.1 p.0)
+kept_serves w kept s k doy a right is e f = rw (e, f) at ((rw is at right).1)
 
 pub filled_serves : (w : List ℤ) (n : Input) (a : Need) (s t : List Float) (doy : Float) (long : Bool) → length s ≡ 156
     → t ≡ season_into doy a long s → long ≡ longitude_in w → doy ≡ of_int binary64 n.doy → Seasoned (of_int binary64 n.doy) a (longitude_in w) t
@@ -85,19 +83,14 @@ eleven_long : (w : List ℤ) (n : Input) (len : ℕ) → len ≡ 11 → answer_o
 unfolding answer_of
 eleven_long w n len e = rw e
 
-module _ (w : List ℤ) (n : Input) (xs : List Float) (len : length xs ≡ 11) (r : Answer) (b : Bool) (er : r ≡ record_answer w n) (eb : b ≡ accepted_of r) where
-  pub refused_row : b ≡ false → xs ≡ row_after w n xs
+module _ (w : List ℤ) (n : Input) (xs : List Float) (len : length xs ≡ 11) where
+  pub refused_row : accepted_of (record_answer w n) ≡ false → xs ≡ row_after w n xs
   unfolding row_after
-  refused_row t = rw (eleven_long w n (length xs) len, sym (ap accepted_of er) ∙ sym eb ∙ t)
+  refused_row t = rw (eleven_long w n (length xs) len, t)
 
-  pub accepted_row : (ys : List Float) → b ≡ true → ys ≡ eleven_of w n → ys ≡ row_after w n xs
+  pub accepted_row : (ys : List Float) → accepted_of (record_answer w n) ≡ true → ys ≡ eleven_of w n → ys ≡ row_after w n xs
   unfolding row_after
-  accepted_row ys t e = rw (eleven_long w n (length xs) len, sym (ap accepted_of er) ∙ sym eb ∙ t) e
-
--- a season that is there, of a day and its sets, is right to be kept
-pub kept_now : (w : List ℤ) (doy d : ℤ) (a : Need) (s : List Float) → d ≡ doy → Seasoned (of_int binary64 doy) a (longitude_in w) s
-    → KeptRight w (record { there = true; doy = d; need = a }) s
-kept_now w doy d a s e q = (q.places, λ _. rw e q)
+  accepted_row ys t e = rw (eleven_long w n (length xs) len, t) e
 
 -- ---- one more record
 

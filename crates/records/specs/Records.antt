@@ -1,5 +1,5 @@
 -- Many records under one switch row: their answers and rows, one behind the other.
-use Rattle.std.specs.Prelude.{ℕ, zero, suc, ◌*◌, ◌≡◌, Bool, true, cond, not, ◌&&◌, List, ◌++◌, ℤ, length, take, drop, set, Float}
+use Rattle.std.specs.Prelude.{IfSome, ℕ, zero, suc, ◌*◌, ◌≡◌, Bool, cond, not, ◌&&◌, Option, List, ◌++◌, ℤ, length, take, drop, set, Float}
 use Rattle.std.specs.Float.{binary64}
 use Rattle.std.specs.Float.Ieee.{of_int}
 use Rattle.needed_sets.specs.declared.Need.{Need}
@@ -36,6 +36,6 @@ agreed a b = cond a b (not b)
 abbrev pub same_need : Need → Need → Bool
 same_need a b = agreed a.high b.high && agreed a.pt b.pt && agreed a.ps b.ps && agreed a.nodes b.nodes && agreed a.meso b.meso && agreed a.tropo b.tropo
 
--- a season that is there is the one of its day, for its sets
-abbrev pub KeptRight : List ℤ → KeptSeason → List Float → Type 0
-KeptRight w k s = (length s ≡ 156) × (k.there ≡ true → Seasoned (of_int binary64 k.doy) k.need (longitude_in w) s)
+-- a season that is kept is the one of its day, for its sets
+abbrev pub KeptRight : List ℤ → Option KeptSeason → List Float → Type 0
+KeptRight w kept s = (length s ≡ 156) × IfSome kept (λ k. Seasoned (of_int binary64 k.doy) k.need (longitude_in w) s)

@@ -2,7 +2,7 @@
 
 #![tactic(auto)]
 
-ghost use Rattle.std.specs.Prelude.{◌≡◌, true, false, not, cond, ◌*◌, ◌≤◌, length};
+ghost use Rattle.std.specs.Prelude.{◌≡◌, true, not, cond, ◌*◌, ◌≤◌, length};
 ghost use Rattle.std.specs.Float.{binary64};
 ghost use Rattle.std.specs.Float.Ieee.{of_int};
 ghost use Rattle.needed_sets.specs.NeededSets.{need_at};
@@ -10,56 +10,34 @@ ghost use Rattle.season.specs.Season.{Seasoned};
 ghost use Rattle.expansion_values.specs.InSeason.{longitude_in};
 ghost use Rattle.acceptance.specs.Acceptance.{record_answer};
 ghost use Rattle.atmosphere.specs.Atmosphere.{eleven_of, row_after};
-ghost use Rattle.host_record.specs.Record.{code_of};
 ghost use Rattle.record_list.specs.RecordList.{Listed};
 ghost use Rattle.records.specs.Records.{same_need, KeptRight, answers_to, rows_to};
 
-use acceptance::{accepted, record_answer};
+use acceptance::record_answer;
 use atmosphere::{put_row_above, put_row_lower, takes_upper_way};
 use expansion_values::{longitude_in, record_values_in};
 use host_record::code;
 use needed_sets::{Need, need_at};
 use parameters::present;
 use record_list::record_at;
+use refusals::Refusal;
 use season::season_into;
 use setting::Input;
 use views::day;
 
 // ---- the season that is kept
 
-// The day and the sets that it was worked out for, if there is one.
+// The day and the sets that it was worked out for.
 #[derive(Clone, Copy)]
 pub struct KeptSeason {
-    pub there: bool,
     pub doy: i32,
     pub need: Need,
-}
-
-pub fn no_season() -> KeptSeason
-    ensures { result.there ≡ false }
-{
-    let none = Need {
-        high: false,
-        pt: false,
-        ps: false,
-        nodes: false,
-        meso: false,
-        tropo: false,
-    };
-    KeptSeason {
-        there: false,
-        doy: 0,
-        need: none,
-    }
 }
 
 pub fn agree(a: bool, b: bool) -> bool
     ensures { result ≡ cond a b (not b) }
 {
-    if a {
-        return b;
-    }
-    !b
+    if a { b } else { !b }
 }
 
 pub fn same_need(a: Need, b: Need) -> bool
@@ -76,26 +54,25 @@ pub fn same_need(a: Need, b: Need) -> bool
 
 // Whether the season that is kept is the day's, for the same sets.
 pub fn serves(k: KeptSeason, doy: i32, a: Need) -> bool
-    ensures { result ≡ true → (k.there ≡ true) × (k.doy ≡ doy) × (k.need ≡ a) }
+    ensures { result ≡ true → (k.doy ≡ doy) × (k.need ≡ a) }
 {
     if k.doy != doy {
         return false;
     }
-    let need = k.need;
-    k.there & same_need(need, a)
+    same_need(k.need, a)
 }
 
 // The season of a record's day for the sets a: the one that is kept where it serves.
-pub fn season_for(w: [i32; 24], n: Input, a: Need, k: KeptSeason, s: &mut [f64])
-    requires { KeptRight w k s.old }
+pub fn season_for(w: [i32; 24], n: Input, a: Need, kept: Option<KeptSeason>, s: &mut [f64])
+    requires { KeptRight w kept s.old }
     ensures { Seasoned (of_int binary64 n.doy) a (longitude_in w) s.new }
 {
-    if serves(k, n.doy, a) {
-        return;
+    if let Some(k) = kept {
+        if serves(k, n.doy, a) {
+            return;
+        }
     }
-    let doy = day(n);
-    let long = longitude_in(w);
-    season_into(doy, a, long, s);
+    season_into(day(n), a, longitude_in(w), s);
 }
 
 // ---- one record
@@ -114,43 +91,26 @@ pub fn row_in_season(w: [i32; 24], n: Input, a: Need, s: &[f64], out: &mut [f64]
     put_row_lower(c, n, v, out);
 }
 
-// A record's answer as one number, and the season that is kept behind it.
-#[derive(Clone, Copy)]
-pub struct AnswerAndSeason {
-    pub code: u64,
-    pub kept: KeptSeason,
-}
-
+// A record's answer; the season behind it is the one that is kept from here on.
 pub fn answered(
     w: [i32; 24],
     n: Input,
-    k: KeptSeason,
+    kept: &mut Option<KeptSeason>,
     s: &mut [f64],
     out: &mut [f64],
-) -> AnswerAndSeason
-    requires { KeptRight w k s.old × (length out.old ≡ 11) }
-    ensures { (result.code ≡ code_of (record_answer w n)) × (out.new ≡ row_after w n out.old) × KeptRight w result.kept s.new }
+) -> Result<(), Refusal>
+    requires { KeptRight w kept.old s.old × (length out.old ≡ 11) }
+    ensures { (result ≡ record_answer w n) × (out.new ≡ row_after w n out.old) × KeptRight w kept.new s.new }
 {
-    let r = record_answer(w, n);
-    let number = code(r);
-    if !accepted(r) {
-        return AnswerAndSeason {
-            code: number,
-            kept: k,
-        };
-    }
+    record_answer(w, n)?;
     let a = need_at(n.alt);
-    season_for(w, n, a, k, s);
+    season_for(w, n, a, *kept, s);
     row_in_season(w, n, a, s, out);
-    let kept = KeptSeason {
-        there: true,
+    *kept = Some(KeptSeason {
         doy: n.doy,
         need: a,
-    };
-    AnswerAndSeason {
-        code: number,
-        kept: kept,
-    }
+    });
+    Ok(())
 }
 
 // ---- all of them
@@ -168,14 +128,10 @@ pub fn gtd7_records(
         × (rows.new ≡ rows_to w days.now fields.now ap_arrays.now (length days.now) rows.old) }
 {
     let mut season = [0.0; 156];
-    let mut kept = no_season();
-    let mut i: usize = 0;
-    while i < days.len() {
+    let mut kept = None;
+    for i in 0..days.len() {
         let n = record_at(days, fields, ap_arrays, i);
-        let lo = 11 * i;
-        let r = answered(w, n, kept, &mut season, &mut rows[lo..lo + 11]);
-        answers[i] = r.code;
-        kept = r.kept;
-        i += 1;
+        let row = &mut rows[11 * i..11 * i + 11];
+        answers[i] = code(answered(w, n, &mut kept, &mut season, row));
     }
 }

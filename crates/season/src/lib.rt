@@ -58,10 +58,8 @@ pub fn fill_places(first: usize, end: usize, doy: f64, year: f64, half: f64, s: 
     requires { (length s.old ≡ 156) × (first ≤ end) × (end ≤ 156) × (year ≡ annual_cos_of doy 0·0) × (half ≡ semiannual_cos_of doy 0·0) }
     ensures { s.new ≡ filled (end - first) (place_cosine doy) first s.old }
 {
-    let mut i = first;
-    while i < end {
+    for i in first..end {
         s[i] = place_cosine(i, doy, year, half);
-        i += 1;
     }
 }
 

@@ -47,10 +47,10 @@ pub struct State {
     pub apt: [f64; 4],
 }
 
-// A value and the State after it.
+// A value, and the State that is left.
 #[derive(Clone, Copy)]
-pub struct Valued {
-    pub value: f64,
+pub struct Left<T> {
+    pub value: T,
     pub state: State,
 }
 

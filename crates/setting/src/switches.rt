@@ -40,12 +40,10 @@ pub fn tselec(w: [i32; 24]) -> Flags
 {
     let mut sw = [0.0; 24];
     let mut swc = [0.0; 24];
-    let mut i = 0;
-    while i < 24 {
+    for i in 0..24 {
         let x = w[i];
         sw[i] = main_of(x);
         swc[i] = cross_of(x);
-        i += 1;
     }
     let nine = nine_of(w);
     sw[9] = nine;

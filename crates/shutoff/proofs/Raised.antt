@@ -12,7 +12,7 @@ use Rattle.numbers.specs.Literals.{1·0E-4}
 use Rattle.setting.specs.declared.Input.{Input}
 use Rattle.setting.specs.declared.State.{State}
 use Rattle.setting.specs.declared.View.{View}
-use Rattle.setting.specs.declared.Valued.{Valued}
+use Rattle.setting.specs.declared.Left.{Left}
 use Rattle.views.specs.View.{view_of}
 use Rattle.setting.specs.ApHistory.{lacks_history_of}
 use Rattle.terms.specs.Terms.{t0_of, f1_of, f2_of, t1_of, t3_of, t4_of, t5_of, diurnal_of, semidiurnal_of, terdiurnal_of, long_cos_of, long_sin_of, ut_mean_of, ut_long_of}
@@ -21,7 +21,9 @@ use Rattle.activity.specs.Activity.{sg0_of, apt_next_of}
 use Rattle.legendre.specs.Legendre.{rows_of}
 use Rattle.expansion.specs.declared.Carried.{Carried}
 use Rattle.expansion.specs.Expansion.{first_terms_of, carried_of, globe7_given, globe7_value, state_after, globe7_of}
-use Rattle.expansion_calls.specs.ExpansionCalls.{accepted_call, refused_at, globe7_call_of}
+use Rattle.std.proofs.Common.{Err}
+use Rattle.expansion_calls.specs.declared.ExpansionRefusal.TheVariants.{Coefficients, NoHistory}
+use Rattle.expansion_calls.specs.ExpansionCalls.{accepted_call, globe7_call_of}
 use Rattle.shutoff.specs.Raised.{OnlyIn24}
 
 -- ---- the raised number
@@ -105,5 +107,5 @@ pub globe7_call_raised : (w : List ℤ) (n : Input) (p q : List Float) (s : Stat
     → globe7_call_of w n p s ≡ globe7_call_of w n q s
 unfolding globe7_call_of
 globe7_call_raised w n p q s e only low low' =
-    ap₂ (λ (m : ℕ) (a : Valued). cond (not (eqb m 150)) (refused_at 6 150 s) (cond (lacks_history_of w n) (refused_at 1 10 s) (accepted_call a.value a.state)))
+    ap₂ (λ (m : ℕ) (a : Left Float). cond (not (eqb m 150)) (Err (Coefficients 150)) (cond (lacks_history_of w n) (Err NoHistory) (accepted_call a.value a.state)))
     e (globe7_raised (view_of w n) p q s only low low')

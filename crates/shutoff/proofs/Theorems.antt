@@ -1,9 +1,11 @@
 -- Demand 3.
-use Rattle.std.specs.Prelude.{◌≡◌, refl, List, Bool, true, false, not, ◌&&◌, cond, ℕ, zero, suc, T, eqb, length, ℤ, Float}
+use Rattle.std.specs.Prelude.{◌≡◌, refl, List, Bool, true, false, not, ◌&&◌, cond, ℕ, zero, suc, T, eqb, length, ℤ, Float, Err, Ok}
 use Rattle.std.proofs.Common.{sym, ◌∙◌, ap, ap₂, subst, get_or-set_other}
 use Rattle.std.proofs.Math.Decide.{ℕ_discrete}
 use Rattle.numbers.specs.Arithmetic.{◌⊖◌}
 use Rattle.numbers.specs.Literals.{150·0}
+use Rattle.refusals.specs.declared.Reason.TheVariants.{HistoryLacking, NotFinite, OutOfRange, WrongLength}
+use Rattle.refusals.specs.Refusals.{Accepted, Answer, Refused, accepted_of}
 use Rattle.setting.specs.declared.Input.{Input}
 use Rattle.setting.specs.declared.State.{State}
 use Rattle.setting.specs.declared.View.{View}
@@ -18,9 +20,7 @@ use Rattle.plan.specs.Plan.{Plan, run}
 use Rattle.gts7_arithmetic.specs.declared.Site.{Site}
 use Rattle.gts7_arithmetic.specs.Gts7Arithmetic.{site_with}
 use Rattle.lower_atmosphere.specs.declared.Gtd7Output.{Gtd7Output}
-use Rattle.acceptance.specs.declared.Answer.{Answer}
-use Rattle.acceptance.specs.declared.Answer.TheVariants.{Accepted, Refused}
-use Rattle.acceptance.specs.Acceptance.{unfit_of, outside_of, found_of, judged_of, accepted_of, record_answer, with_alt_of}
+use Rattle.acceptance.specs.Acceptance.{unfit_of, outside_of, found_of, judged_of, record_answer, with_alt_of}
 use Rattle.acceptance.specs.Refusals.{no_refusal}
 use Rattle.parameters.specs.Parameters.{present_of}
 use Rattle.parameters.specs.declared.Parameters.{Parameters}
@@ -37,13 +37,13 @@ use Rattle.shutoff.proofs.Agree.{asks_nine, Has, state_itself, run≡, alt≡, d
 
 -- an answer that is accepted comes from no refusal before it
 pub first_accepted : (a b : Answer) → cond (not (accepted_of a)) a b ≡ Accepted → a ≡ Accepted
-first_accepted Accepted b e = refl
-first_accepted (Refused n k) b e = e
+first_accepted (Ok v) b e = refl
+first_accepted (Err r) b e = e
 
 -- a record that is accepted is judged so
 pub judged_first : (w : List ℤ) (n : Input) (len : ℕ) → answer_of w n len ≡ Accepted → judged_of w n ≡ Accepted
 unfolding answer_of record_answer
-judged_first w n len e = first_accepted (judged_of w n) _ (no_refusal (not (eqb len 11)) 4 11 _ e).1
+judged_first w n len e = first_accepted (judged_of w n) _ (no_refusal (not (eqb len 11)) WrongLength 11 _ e).1
 
 history_there : (m : Bool) (h : History) → (m && absent_of h) ≡ false → T m → T (not (absent_of h))
 history_there true Absent e t = subst T e tt
@@ -62,11 +62,11 @@ has w n e t = history_there (is_minus_one (given w 9)) n.history e (asks_nine (g
 pub known : (w : List ℤ) (n : Input) → judged_of w n ≡ Accepted → Known w n
 unfolding judged_of
 known w n e =
-    let b = no_refusal (found_of (unfit_of n)) 2 (unfit_of n) _ e in
-    let c = no_refusal (lacks_history_of w n) 1 10 _ b.1 in
+    let b = no_refusal (found_of (unfit_of n)) NotFinite (unfit_of n) _ e in
+    let c = no_refusal (lacks_history_of w n) HistoryLacking 10 _ b.1 in
     record {
       has = has w n c.0;
-      fit = fit n (no_refusal (found_of (outside_of n)) 3 (outside_of n) _ c.1).0;
+      fit = fit n (no_refusal (found_of (outside_of n)) OutOfRange (outside_of n) _ c.1).0;
     }
 
 -- it does not depend on the altitude

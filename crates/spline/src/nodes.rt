@@ -42,17 +42,13 @@ pub fn splini(xa: &[f64], ya: &[f64], y2a: &[f64], n: usize, x: f64) -> f64
     ensures { result ≡ splini_of xa.now ya.now y2a.now n x }
 {
     let mut yi = 0.0;
-    let mut klo: usize = 0;
-    loop {
-        if n - 1 <= klo {
-            break yi;
-        }
+    for klo in 0..n - 1 {
         if !(x > xa[klo]) {
-            break yi;
+            return yi;
         }
         yi = yi + segment(xa, ya, y2a, n, x, klo);
-        klo += 1;
     }
+    yi
 }
 
 // The cubic between two nodes at x.

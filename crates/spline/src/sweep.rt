@@ -45,17 +45,15 @@ fn forward(x: &[f64], y: &[f64], n: usize, y0: [f64; 10], u0: [f64; 10]) -> Pair
 {
     let mut y2 = y0;
     let mut u = u0;
-    let mut i: usize = 1;
-    while i < n - 1 {
+    for i in 1..n - 1 {
         let yp = y2[i - 1];
         let up = u[i - 1];
         let a = step_y(x, i, yp);
         let b = step_u(x, y, i, yp, up);
         y2[i] = a;
         u[i] = b;
-        i += 1;
     }
-    Pair { y2: y2, u: u }
+    Pair { y2, u }
 }
 
 // The other row at the first node: 0 at a natural end.
@@ -97,12 +95,8 @@ fn backward(m: usize, y0: [f64; 10], u: [f64; 10]) -> [f64; 10]
     ensures { result ≡ back m y0 u }
 {
     let mut y2 = y0;
-    let mut k = m;
-    while 0 < k {
-        let j = k - 1;
-        let a = y2[j] * y2[k] + u[j];
-        y2[j] = a;
-        k = j;
+    for k in (0..m).rev() {
+        y2[k] = y2[k] * y2[k + 1] + u[k];
     }
     y2
 }

@@ -1,24 +1,21 @@
 -- What the public calls give: refusal 5, then 4, else the values.
-use Rattle.std.specs.Prelude.{ℕ, cond, ◌||◌, List, ◌++◌, ltb, length, take, drop, Float}
+use Rattle.std.specs.Prelude.{ℕ, cond, ◌||◌, Result, Ok, Err, List, ◌++◌, ltb, length, take, drop, Float}
 use Rattle.spline_calls.specs.Outcome.{Outcome, gives, refused, counted}
 use Rattle.spline.specs.Nodes.{splini_of, splint_of}
 use Rattle.spline.specs.Sweep.{spline_of}
-use Rattle.spline_calls.specs.declared.SplineValue.{SplineValue}
-use Rattle.spline_calls.specs.declared.SplineValue.TheVariants as value
-use Rattle.spline_calls.specs.declared.SplineWrite.{SplineWrite}
-use Rattle.spline_calls.specs.declared.SplineWrite.TheVariants as write
+use Rattle.spline_calls.specs.declared.NodesRefusal.{NodesRefusal}
+use Rattle.spline_calls.specs.declared.NodesRefusal.TheVariants.{NodeCount, SliceLength}
 
--- document 01's number and values for each case of the answers
-abbrev pub value_outcome : SplineValue → Outcome Float
-value_outcome (value.Value x) = gives x
-value_outcome (value.NodeCount place) = refused 5 place
-value_outcome (value.SliceLength place) = refused 4 place
+-- document 01's number and values for each case of an answer
+abbrev pub outcome_of : {A : Type 0} → Result A NodesRefusal → Outcome A
+outcome_of (Ok x) = gives x
+outcome_of (Err (NodeCount place)) = refused 5 place
+outcome_of (Err (SliceLength place)) = refused 4 place
 
 -- the same for a call that writes, with what the lent slice holds after it
-abbrev pub write_outcome : SplineWrite → List Float → Outcome (List Float)
-write_outcome write.Written ys = gives ys
-write_outcome (write.NodeCount place) ys = refused 5 place
-write_outcome (write.SliceLength place) ys = refused 4 place
+abbrev pub write_outcome : Result (Unit {0}) NodesRefusal → List Float → Outcome (List Float)
+write_outcome (Ok u) ys = gives ys
+write_outcome (Err e) ys = outcome_of (Err e)
 
 -- n nodes asked of three slices: refusal 5, then 4 with the length needed
 unfoldable pub three_long : {A : Type 0} → ℕ → List Float → List Float → List Float → Outcome A → Outcome A

@@ -11,19 +11,14 @@ use setting::State;
 pub fn set_gravity(s: State, gsurf: f64, re: f64) -> State
     ensures { result ≡ with_fields s (set_gravity gsurf re (fields_of s)) }
 {
-    let mut out = s;
-    out.gsurf = gsurf;
-    out.re = re;
-    out
+    State { gsurf, re, ..s }
 }
 
 // gtd7's temperature at altitude.
 pub fn set_dd(s: State, x: f64) -> State
     ensures { result ≡ with_fields s (set_dd x (fields_of s)) }
 {
-    let mut out = s;
-    out.dd = x;
-    out
+    State { dd: x, ..s }
 }
 
 // N2, where it is mixed, with the mark that its density was set.
@@ -31,10 +26,11 @@ pub fn set_dm28(s: State, on: bool, x: f64) -> State
     ensures { result ≡ with_fields s (set_when on (set_dm28 x) (fields_of s)) }
 {
     if on {
-        let mut out = s;
-        out.dm28 = x;
-        out.dm28_set = true;
-        return out;
+        return State {
+            dm28: x,
+            dm28_set: true,
+            ..s
+        };
     }
     s
 }
@@ -44,9 +40,7 @@ pub fn set_dm04(s: State, on: bool, x: f64) -> State
     ensures { result ≡ with_fields s (set_when on (set_dm04 x) (fields_of s)) }
 {
     if on {
-        let mut out = s;
-        out.dm04 = x;
-        return out;
+        return State { dm04: x, ..s };
     }
     s
 }
@@ -56,9 +50,7 @@ pub fn set_dm16(s: State, on: bool, x: f64) -> State
     ensures { result ≡ with_fields s (set_when on (set_dm16 x) (fields_of s)) }
 {
     if on {
-        let mut out = s;
-        out.dm16 = x;
-        return out;
+        return State { dm16: x, ..s };
     }
     s
 }
@@ -68,9 +60,7 @@ pub fn set_dm32(s: State, on: bool, x: f64) -> State
     ensures { result ≡ with_fields s (set_when on (set_dm32 x) (fields_of s)) }
 {
     if on {
-        let mut out = s;
-        out.dm32 = x;
-        return out;
+        return State { dm32: x, ..s };
     }
     s
 }
@@ -80,9 +70,7 @@ pub fn set_dm40(s: State, on: bool, x: f64) -> State
     ensures { result ≡ with_fields s (set_when on (set_dm40 x) (fields_of s)) }
 {
     if on {
-        let mut out = s;
-        out.dm40 = x;
-        return out;
+        return State { dm40: x, ..s };
     }
     s
 }
@@ -92,9 +80,7 @@ pub fn set_dm01(s: State, on: bool, x: f64) -> State
     ensures { result ≡ with_fields s (set_when on (set_dm01 x) (fields_of s)) }
 {
     if on {
-        let mut out = s;
-        out.dm01 = x;
-        return out;
+        return State { dm01: x, ..s };
     }
     s
 }
@@ -104,9 +90,7 @@ pub fn set_dm14(s: State, on: bool, x: f64) -> State
     ensures { result ≡ with_fields s (set_when on (set_dm14 x) (fields_of s)) }
 {
     if on {
-        let mut out = s;
-        out.dm14 = x;
-        return out;
+        return State { dm14: x, ..s };
     }
     s
 }
@@ -122,20 +106,22 @@ pub fn set_nodes1(s: State, t: [f64; 5], g: [f64; 2]) -> State
     tn1[4] = t[4];
     let mut tgn1 = s.meso_tgn1;
     tgn1[1] = g[1];
-    let mut out = s;
-    out.meso_tn1 = tn1;
-    out.meso_tgn1 = tgn1;
-    out
+    State {
+        meso_tn1: tn1,
+        meso_tgn1: tgn1,
+        ..s
+    }
 }
 
 // The nodes from 72.5 to 32.5 km.
 pub fn set_tn2(s: State, t: [f64; 4], g: [f64; 2]) -> State
     ensures { result ≡ with_fields s (set_tn2 t g (fields_of s)) }
 {
-    let mut out = s;
-    out.meso_tn2 = t;
-    out.meso_tgn2 = g;
-    out
+    State {
+        meso_tn2: t,
+        meso_tgn2: g,
+        ..s
+    }
 }
 
 // The first node from 32.5 km down.
@@ -144,17 +130,16 @@ pub fn set_top3(s: State, x: f64) -> State
 {
     let mut tn3 = s.meso_tn3;
     tn3[0] = x;
-    let mut out = s;
-    out.meso_tn3 = tn3;
-    out
+    State { meso_tn3: tn3, ..s }
 }
 
 // All nodes from 32.5 km down.
 pub fn set_tn3(s: State, t: [f64; 5], g: [f64; 2]) -> State
     ensures { result ≡ with_fields s (set_tn3 t g (fields_of s)) }
 {
-    let mut out = s;
-    out.meso_tn3 = t;
-    out.meso_tgn3 = g;
-    out
+    State {
+        meso_tn3: t,
+        meso_tgn3: g,
+        ..s
+    }
 }

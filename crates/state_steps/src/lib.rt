@@ -16,7 +16,7 @@ use places::thinning::Thinning;
 use plan::ExpansionValues;
 use profile::gravity::zeta;
 use profile::unchecked::{Shape, bates, gradient};
-use setting::{State, Valued};
+use setting::{Left, State};
 use species::{Blend, Mixture};
 use stages::{
     anomalous_stage, argon_stage, helium_stage, hydrogen_stage, n2_stage, nitrogen_stage, o2_stage,
@@ -68,20 +68,7 @@ pub fn species_sets(s: State, on: bool, h: Shape, z: f64, zh: f64) -> State
     densu_where(b, on, h, z)
 }
 
-// N2, and the State that is left.
-#[derive(Clone, Copy)]
-pub struct BlendLeft {
-    pub value: Blend,
-    pub state: State,
-}
-
-// Another species, and the State that is left.
-#[derive(Clone, Copy)]
-pub struct MixtureLeft {
-    pub value: Mixture,
-    pub state: State,
-}
-
+// N2.
 pub fn n2_step(
     sw: [f64; 24],
     h: Shape,
@@ -94,7 +81,7 @@ pub fn n2_step(
     xmm: f64,
     l: ExpansionValues,
     s: State,
-) -> BlendLeft
+) -> Left<Blend>
     requires { (p ≡ place_at h z) × (w ≡ place_at h (pdm_t2 ‼ 2 ⊗ zhf)) × Mixes on p xmm t }
     ensures { stepped (answer_to l) (n2_plan sw h on z zhf xmm) s ≡ ends result.value result.state }
 {
@@ -104,19 +91,19 @@ pub fn n2_step(
     let s2 = densu_sets(s1, h, m[2] * zhf);
     let s3 = densu_where(s2, on, h, z);
     let s4 = set_dm28(s3, on, b.dm);
-    BlendLeft {
+    Left {
         value: b,
         state: s4,
     }
 }
 
 // Anomalous oxygen.
-pub fn anomalous_step(sw: [f64; 24], h: Shape, z: f64, l: ExpansionValues, s: State) -> Valued
+pub fn anomalous_step(sw: [f64; 24], h: Shape, z: f64, l: ExpansionValues, s: State) -> Left<f64>
     ensures { stepped (answer_to l) (anomalous_plan sw h z) s ≡ ends result.value result.state }
 {
     let o = anomalous_stage(sw, h, z, l);
     let s1 = densu_sets(s, h, z);
-    Valued {
+    Left {
         value: o,
         state: s1,
     }
@@ -135,7 +122,7 @@ pub fn helium_step(
     xmm: f64,
     l: ExpansionValues,
     s: State,
-) -> MixtureLeft
+) -> Left<Mixture>
     requires { (p ≡ place_at h z) × Turbopause h on (pdm_t0 ‼ 2) w × Mixes on p xmm t }
     ensures { stepped (answer_to l) (helium_plan sw h on z b28 zhm xmm) s ≡ ends result.value result.state }
 {
@@ -143,7 +130,7 @@ pub fn helium_step(
     let x = helium_stage(sw, h, on, z, p, w, t, b28, zhm, xmm, l);
     let s1 = species_sets(s, on, h, z, m[2]);
     let s2 = set_dm04(s1, on, x.dm);
-    MixtureLeft {
+    Left {
         value: x,
         state: s2,
     }
@@ -162,7 +149,7 @@ pub fn oxygen_step(
     flux: f64,
     l: ExpansionValues,
     s: State,
-) -> MixtureLeft
+) -> Left<Mixture>
     requires { (p ≡ place_at h z) × Turbopause h on (pdm_t1 ‼ 2) w × Mixes on p xmm t }
     ensures { stepped (answer_to l) (oxygen_plan sw h on z zhm xmm flux) s ≡ ends result.value result.state }
 {
@@ -170,7 +157,7 @@ pub fn oxygen_step(
     let x = oxygen_stage(sw, h, on, z, p, w, t, zhm, xmm, flux, l);
     let s1 = species_sets(s, on, h, z, m[2]);
     let s2 = set_dm16(s1, on, x.dm);
-    MixtureLeft {
+    Left {
         value: x,
         state: s2,
     }
@@ -190,7 +177,7 @@ pub fn o2_step(
     flux: f64,
     l: ExpansionValues,
     s: State,
-) -> MixtureLeft
+) -> Left<Mixture>
     requires { (p ≡ place_at h z) × Turbopause h on (pdm_t3 ‼ 2) w × Mixes on p xmm t }
     ensures { stepped (answer_to l) (o2_plan sw h on z b28 zhm xmm flux) s ≡ ends result.value result.state }
 {
@@ -198,7 +185,7 @@ pub fn o2_step(
     let x = o2_stage(sw, h, on, z, p, w, t, b28, zhm, xmm, flux, l);
     let s1 = species_sets(s, on, h, z, m[2]);
     let s2 = set_dm32(s1, on, x.dm);
-    MixtureLeft {
+    Left {
         value: x,
         state: s2,
     }
@@ -217,7 +204,7 @@ pub fn argon_step(
     xmm: f64,
     l: ExpansionValues,
     s: State,
-) -> MixtureLeft
+) -> Left<Mixture>
     requires { (p ≡ place_at h z) × Turbopause h on (pdm_t4 ‼ 2) w × Mixes on p xmm t }
     ensures { stepped (answer_to l) (argon_plan sw h on z b28 zhm xmm) s ≡ ends result.value result.state }
 {
@@ -225,7 +212,7 @@ pub fn argon_step(
     let x = argon_stage(sw, h, on, z, p, w, t, b28, zhm, xmm, l);
     let s1 = species_sets(s, on, h, z, m[2]);
     let s2 = set_dm40(s1, on, x.dm);
-    MixtureLeft {
+    Left {
         value: x,
         state: s2,
     }
@@ -244,7 +231,7 @@ pub fn hydrogen_step(
     xmm: f64,
     l: ExpansionValues,
     s: State,
-) -> MixtureLeft
+) -> Left<Mixture>
     requires { (p ≡ place_at h z) × Turbopause h on (pdm_t5 ‼ 2) w × Mixes on p xmm t }
     ensures { stepped (answer_to l) (hydrogen_plan sw h on z b28 zhm xmm) s ≡ ends result.value result.state }
 {
@@ -252,7 +239,7 @@ pub fn hydrogen_step(
     let x = hydrogen_stage(sw, h, on, z, p, w, t, b28, zhm, xmm, l);
     let s1 = species_sets(s, on, h, z, m[2]);
     let s2 = set_dm01(s1, on, x.dm);
-    MixtureLeft {
+    Left {
         value: x,
         state: s2,
     }
@@ -271,7 +258,7 @@ pub fn nitrogen_step(
     xmm: f64,
     l: ExpansionValues,
     s: State,
-) -> MixtureLeft
+) -> Left<Mixture>
     requires { (p ≡ place_at h z) × Turbopause h on (pdm_t6 ‼ 2) w × Mixes on p xmm t }
     ensures { stepped (answer_to l) (nitrogen_plan sw h on z b28 zhm xmm) s ≡ ends result.value result.state }
 {
@@ -279,7 +266,7 @@ pub fn nitrogen_step(
     let x = nitrogen_stage(sw, h, on, z, p, w, t, b28, zhm, xmm, l);
     let s1 = species_sets(s, on, h, z, m[2]);
     let s2 = set_dm14(s1, on, x.dm);
-    MixtureLeft {
+    Left {
         value: x,
         state: s2,
     }

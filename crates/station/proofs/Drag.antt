@@ -1,10 +1,10 @@
 -- gtd7d of a station that its calls gave is the one-altitude gtd7d on the record and the row as they then are.
 use Rattle.std.specs.Prelude.{◌≡◌, refl, Bool, true, false, cond, List, ℤ, pos, length, get_or, Float}
 use Rattle.std.proofs.Common.{sym, ◌∙◌}
+use Rattle.refusals.specs.Refusals.{Accepted, accepted_of}
 use Rattle.setting.specs.declared.Input.{Input}
 use Rattle.setting.specs.Switches.{is_one, on_off, sw_at}
-use Rattle.acceptance.specs.declared.Answer.TheVariants.{Accepted}
-use Rattle.acceptance.specs.Acceptance.{accepted_of, with_alt_of}
+use Rattle.acceptance.specs.Acceptance.{with_alt_of}
 use Rattle.atmosphere.specs.Atmosphere.{eleven_of, answer_of, row_after}
 use Rattle.shutoff.specs.Shut.{Alike}
 use Rattle.shutoff.proofs.Theorems.{alike_at}

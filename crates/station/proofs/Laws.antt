@@ -12,14 +12,14 @@ use lib.Dec.{lit≤}
 use lib.Seq.{take_at, drop_at, drop-drop, drop-length, take-take, length-take-le}
 use lib.Ieee.{Float}
 use Rattle.numbers.specs.Literals.{0·0}
+use Rattle.refusals.specs.Refusals.{Answer, Refused, accepted_of}
+use Rattle.refusals.specs.declared.Reason.TheVariants.{WrongLength}
 use Rattle.setting.specs.declared.Input.{Input}
 use Rattle.setting.specs.declared.Flags.{Flags}
 use Rattle.setting.specs.Switches.{sw_of, flags_of}
 use Rattle.switch_rows.specs.Rows.{same_expansions}
 use Rattle.views.specs.View.{view_of}
-use Rattle.acceptance.specs.declared.Answer.{Answer}
-use Rattle.acceptance.specs.declared.Answer.TheVariants.{Refused}
-use Rattle.acceptance.specs.Acceptance.{judged_of, accepted_of, with_alt_of}
+use Rattle.acceptance.specs.Acceptance.{judged_of, with_alt_of}
 use Rattle.needed_sets.specs.declared.Need.{Need}
 use Rattle.expansion_values.specs.declared.RecordValues.{RecordValues}
 use Rattle.expansion_values.specs.ExpansionValues.{expansion_values_of, record_values_of}
@@ -32,8 +32,10 @@ use Rattle.stored.specs.Stored.{need_of, part, stored_of, row_stored}
 use Rattle.stored.specs.Rows.{grown}
 use Rattle.drag_sum.specs.DragSum.{dragged_of}
 use Rattle.station_record.specs.Record.{station_whole, record_numbers, record_in, units_in, mixing_in}
-use Rattle.station_answer.specs.Answers.{Change, change_of, station_answer, altitude_answer, change_answer, switches_answer, row_taken}
-use Rattle.station.specs.Station.{held_of, refilled_of, station_numbers, values_put, sec_filled, whole_after, station_numbers_after, altitude_row, altitude_drag, refilled_by, changed_numbers, renewed_of, switched_whole, switched_numbers}
+use Rattle.station_answer.specs.declared.Change.{Change}
+use Rattle.station_answer.specs.declared.Change.TheVariants.{Fluxes, GLong, Lst, Move, Sec}
+use Rattle.station_answer.specs.Answers.{change_of, station_answer, altitude_answer, change_answer, switches_answer, row_taken}
+use Rattle.station.specs.Station.{held_of, refilled_of, station_numbers, filled_of, sets_of, values_put, sec_filled, whole_after, station_numbers_after, altitude_row, altitude_drag, refilled_by, changed_numbers, renewed_of, switched_whole, switched_numbers}
 use Rattle.station.proofs.Renewed.{record_fourteen, twenty_five, refilled_from, refilled_is}
 
 -- the first 234 of a list and what is stored in them
@@ -77,73 +79,57 @@ behind n vs =
 values_behind : (xs k : List Float) → length xs ≡ 259 → drop 234 (take 234 xs ++ k) ≡ k
 values_behind xs k len = drop_at (take 234 xs) k 234 (length-take-le 234 xs (omega (arith, len)))
 
-pub fill_law : (w : List ℤ) (n : Input) (xs vs zs r s : List Float) (a : Need) (p : Parts)
-    → length xs ≡ 259
-    → zs ≡ refilled_of w n (put_mid 0 14 vs s)
-    → s ≡ r
-    → r ≡ record_numbers n
-    → vs ≡ values_put w n a xs
-    → a ≡ need_of p
-    → p ≡ all_parts
-    → zs ≡ station_numbers w n
-unfolding station_numbers values_put need_of all_parts
-fill_law w n xs vs zs r s a p len e0 e1 e2 e3 e4 e5 =
+-- with every set's values the numbers are those of a station prepared so
+pub filled_all : (w : List ℤ) (n : Input) (xs : List Float) → length xs ≡ 259 → filled_of w n (need_of all_parts) xs ≡ station_numbers w n
+unfolding filled_of station_numbers values_put need_of all_parts
+filled_all w n xs len =
     let l = expansion_values_of (view_of w n) (need_of all_parts) in
-    let put : vs ≡ take 234 xs ++ expansion_numbers l = rw (e4, e5) at e3 in
-    let written : put_mid 0 14 vs s ≡ record_numbers n ++ drop 14 vs = rw (e1, e2) in
-    e0 ∙ ap (refilled_of w n) written
-    ∙ refilled_is w n _ l (take_at (record_numbers n) (drop 14 vs) 14 (record_fourteen n)) (behind n vs ∙ ap (drop 234) put ∙ values_behind xs (expansion_numbers l) len)
+    let vs : List Float = take 234 xs ++ expansion_numbers l in
+    refilled_is w n _ l (take_at (record_numbers n) (drop 14 vs) 14 (record_fourteen n)) (behind n vs ∙ values_behind xs (expansion_numbers l) len)
 
 eleven_and_fourteen : (l : ExpansionValues) (xs : List Float) → length xs ≡ 259 → length (take 11 (expansion_numbers l) ++ drop 245 xs) ≡ 25
 eleven_and_fourteen l xs len =
     let long : 11 ≤ length (expansion_numbers l) = rw (twenty_five l) (lit≤ tt) in
     grown (take 11 (expansion_numbers l)) (drop 245 xs) 11 14 (length-take-le 11 (expansion_numbers l) long) (length-drop 245 xs ∙ omega (arith, len))
 
-pub fill_sec_law : (w : List ℤ) (n : Input) (xs vs zs r s : List Float) (a : Need)
-    → length xs ≡ 259
-    → zs ≡ refilled_of w n (put_mid 0 14 vs s)
-    → s ≡ r
-    → r ≡ record_numbers n
-    → vs ≡ values_put w n a xs
-    → a ≡ globe7_sets
-    → zs ≡ sec_filled w n xs
-unfolding sec_filled values_put globe7_sets
-fill_sec_law w n xs vs zs r s a len e0 e1 e2 e3 e4 =
+filled_sec : (w : List ℤ) (n : Input) (xs : List Float) → length xs ≡ 259 → filled_of w n globe7_sets xs ≡ sec_filled w n xs
+unfolding filled_of sec_filled values_put globe7_sets
+filled_sec w n xs len =
     let l = expansion_values_of (view_of w n) globe7_sets in
     let k : List Float = take 11 (expansion_numbers l) ++ drop 245 xs in
-    let put : vs ≡ take 234 xs ++ k = rw e4 at e3 in
-    let written : put_mid 0 14 vs s ≡ record_numbers n ++ drop 14 vs = rw (e1, e2) in
-    e0 ∙ ap (refilled_of w n) written
-    ∙ refilled_from w n _ k (take_at (record_numbers n) (drop 14 vs) 14 (record_fourteen n)) (behind n vs ∙ ap (drop 234) put ∙ values_behind xs k len) (eleven_and_fourteen l xs len)
+    let vs : List Float = take 234 xs ++ k in
+    refilled_from w n _ k (take_at (record_numbers n) (drop 14 vs) 14 (record_fourteen n)) (behind n vs ∙ values_behind xs k len) (eleven_and_fourteen l xs len)
+
+-- a change that is not of sec asks for every set
+pub not_sec : (c : Change) → ((x : Float) → c ≡ Sec x → ⊥) → need_of all_parts ≡ sets_of c
+not_sec (Sec s) h = absurd (h s refl)
+not_sec (Lst l) h = refl
+not_sec (GLong g) h = refl
+not_sec (Fluxes a f) h = refl
+not_sec (Move s l g) h = refl
+
+-- with the sets that a change asks for they are what the change makes of them
+pub filled_by : (c : Change) (w : List ℤ) (n : Input) (xs : List Float) → length xs ≡ 259 → filled_of w n (sets_of c) xs ≡ refilled_by c w n xs
+filled_by (Sec s) w n xs len = filled_sec w n xs len
+filled_by (Lst l) w n xs len = filled_all w n xs len
+filled_by (GLong g) w n xs len = filled_all w n xs len
+filled_by (Fluxes a f) w n xs len = filled_all w n xs len
+filled_by (Move s l g) w n xs len = filled_all w n xs len
 
 -- ---- preparing
 
 module _ (w : List ℤ) (n : Input) (ys : List ℤ) (xs : List Float) where
-  abbrev Outcome : Answer → List ℤ → List Float → Type 0
-  Outcome a ys' xs' = (a ≡ station_answer w n (length ys) (length xs)) × (ys' ≡ whole_after w n ys (length xs)) × (xs' ≡ station_numbers_after w n (length ys) xs)
-
-  pub refused : (a : Answer) → a ≡ station_answer w n (length ys) (length xs) → accepted_of a ≡ false → Outcome a ys xs
+  pub refused : accepted_of (station_answer w n (length ys) (length xs)) ≡ false → (ys ≡ whole_after w n ys (length xs)) × (xs ≡ station_numbers_after w n (length ys) xs)
   unfolding whole_after station_numbers_after
-  refused a e f = (e, simp (← e) (simp f), simp (← e) (simp f))
+  refused f = (simp f, simp f)
 
-  pub taken : (a : Answer) (m : Input) (v : Bool) (ys' : List ℤ) (xs' : List Float)
-      → a ≡ station_answer w n (length ys) (length xs) → v ≡ accepted_of a → v ≡ true → m ≡ with_alt_of n 0·0 → ys' ≡ station_whole w m → xs' ≡ station_numbers w m → Outcome a ys' xs'
+  pub taken : (m : Input) (ys' : List ℤ) (xs' : List Float)
+      → accepted_of (station_answer w n (length ys) (length xs)) ≡ true → m ≡ with_alt_of n 0·0 → ys' ≡ station_whole w m → xs' ≡ station_numbers w m
+      → (ys' ≡ whole_after w n ys (length xs)) × (xs' ≡ station_numbers_after w n (length ys) xs)
   unfolding whole_after station_numbers_after
-  taken a m v ys' xs' e i t h j k =
-      let o : accepted_of (station_answer w n (length ys) (length xs)) ≡ true = ap accepted_of (sym e) ∙ sym i ∙ t in
-      (e, rw o (j ∙ ap (station_whole w) h), rw o (k ∙ ap (station_numbers w) h))
+  taken m ys' xs' o h j k = (rw o (j ∙ ap (station_whole w) h), rw o (k ∙ ap (station_numbers w) h))
 
 -- ---- changes
-
-pub not_changed : (w : List ℤ) (n : Input) (xs to : List Float) (a : Answer) (v : Bool) → a ≡ judged_of w n → v ≡ accepted_of a → v ≡ false
-    → (a ≡ judged_of w n) × (xs ≡ cond (accepted_of (judged_of w n)) to xs)
-not_changed w n xs to a v e f t = (e, simp (← e, ← f) (simp t))
-
-pub is_changed : (w : List ℤ) (n : Input) (xs ys to : List Float) (a : Answer) (v : Bool) → a ≡ judged_of w n → v ≡ accepted_of a → v ≡ true → ys ≡ to
-    → (a ≡ judged_of w n) × (ys ≡ cond (accepted_of (judged_of w n)) to xs)
-is_changed w n xs ys to a v e f t g =
-    let o : accepted_of (judged_of w n) ≡ true = ap accepted_of (sym e) ∙ sym f ∙ t in
-    (e, rw o g)
 
 module _ (c : Change) (whole : List ℤ) (xs : List Float) where
   abbrev Changed : Answer → List Float → Type 0
@@ -153,14 +139,15 @@ module _ (c : Change) (whole : List ℤ) (xs : List Float) where
   unfolding changed_numbers
   kept a e f = (e, simp (← e) (simp f))
 
-  pub change_no_whole : (length whole ≡ 27 → ⊥) → Changed (Refused 4 27) xs
+  pub change_no_whole : (length whole ≡ 27 → ⊥) → Changed (Refused WrongLength 27) xs
   unfolding change_answer
-  change_no_whole h = kept (Refused 4 27) (simp (ne_eqb _ _ h)) refl
+  change_no_whole h = kept (Refused WrongLength 27) (simp (ne_eqb _ _ h)) refl
 
-  pub change_no_numbers : length whole ≡ 27 → (length xs ≡ 259 → ⊥) → Changed (Refused 4 259) xs
+  pub change_no_numbers : length whole ≡ 27 → (length xs ≡ 259 → ⊥) → Changed (Refused WrongLength 259) xs
   unfolding change_answer
-  change_no_numbers e h = kept (Refused 4 259) (simp (eq-eqb _ _ e, ne_eqb _ _ h)) refl
+  change_no_numbers e h = kept (Refused WrongLength 259) (simp (eq-eqb _ _ e, ne_eqb _ _ h)) refl
 
+  -- w and m are the station's row and its record with the change made
   pub change_met : length whole ≡ 27 → length xs ≡ 259 → (w : List ℤ) (m : Input) (a : Answer) (ys : List Float)
       → w ≡ drop 3 whole → m ≡ change_of c (record_in whole xs) → a ≡ judged_of w m → ys ≡ cond (accepted_of (judged_of w m)) (refilled_by c w m xs) xs → Changed a ys
   unfolding change_answer changed_numbers
@@ -170,10 +157,6 @@ module _ (c : Change) (whole : List ℤ) (xs : List Float) where
       (k ∙ sym s, rw s (rw (em, ew) at ey))
 
 -- ---- an altitude
-
--- the verdict that the code computed is the definition's
-pub verdict : {a d : Answer} {v b : Bool} → a ≡ d → v ≡ accepted_of a → v ≡ b → accepted_of d ≡ b
-verdict e f g = sym (ap accepted_of e) ∙ sym f ∙ g
 
 module _ (whole : List ℤ) (xs : List Float) (alt : Float) (row : List Float) where
   pub altitude_refused : accepted_of (altitude_answer (length row) whole (length xs) alt) ≡ false → row ≡ altitude_row whole xs alt row
@@ -213,31 +196,29 @@ module _ (w whole : List ℤ) (xs : List Float) where
   unfolding switched_whole switched_numbers
   stays a e f = (e, simp (← e) (simp f), simp (← e) (simp f))
 
-  pub switches_no_whole : (length whole ≡ 27 → ⊥) → Switched (Refused 4 27) whole xs
+  pub switches_no_whole : (length whole ≡ 27 → ⊥) → Switched (Refused WrongLength 27) whole xs
   unfolding switches_answer
-  switches_no_whole h = stays (Refused 4 27) (simp (ne_eqb _ _ h)) refl
+  switches_no_whole h = stays (Refused WrongLength 27) (simp (ne_eqb _ _ h)) refl
 
-  pub switches_no_numbers : length whole ≡ 27 → (length xs ≡ 259 → ⊥) → Switched (Refused 4 259) whole xs
+  pub switches_no_numbers : length whole ≡ 27 → (length xs ≡ 259 → ⊥) → Switched (Refused WrongLength 259) whole xs
   unfolding switches_answer
-  switches_no_numbers e h = stays (Refused 4 259) (simp (eq-eqb _ _ e, ne_eqb _ _ h)) refl
+  switches_no_numbers e h = stays (Refused WrongLength 259) (simp (eq-eqb _ _ e, ne_eqb _ _ h)) refl
 
-  module _ (e : length whole ≡ 27) (f : length xs ≡ 259) (n : Input) (a : Answer) (ys : List ℤ) (v : Bool)
-      (en : n ≡ record_in whole xs) (ea : a ≡ judged_of w n) (ey : ys ≡ row_taken w n whole) (ev : v ≡ accepted_of a) where
-    met : switches_answer w whole xs ≡ judged_of w n
+  module _ (e : length whole ≡ 27) (f : length xs ≡ 259) (n : Input) (ys : List ℤ) (en : n ≡ record_in whole xs) (ey : ys ≡ row_taken w n whole) where
+    pub met : switches_answer w whole xs ≡ judged_of w n
     unfolding switches_answer
     met = simp (eq-eqb _ _ e, eq-eqb _ _ f) (ap (judged_of w) (sym en))
 
-    pub switches_refused : v ≡ false → Switched a ys xs
+    pub switches_refused : accepted_of (judged_of w n) ≡ false → (ys ≡ switched_whole w whole xs) × (xs ≡ switched_numbers w whole xs)
     unfolding row_taken
-    switches_refused t =
-        let o : accepted_of (judged_of w n) ≡ false = ap accepted_of (sym ea) ∙ sym ev ∙ t in
+    switches_refused o =
         let k : ys ≡ whole = rw o at ey in
-        let s = stays a (ea ∙ sym met) (sym ev ∙ t) in
-        (s.0, k ∙ s.1, s.2)
+        let s = stays (switches_answer w whole xs) refl (ap accepted_of met ∙ o) in
+        (k ∙ s.1, s.2)
 
-    pub switches_taken : (old : List ℤ) (zs : List Float) → v ≡ true → old ≡ drop 3 whole → zs ≡ renewed_of old w n xs → Switched a ys zs
+    pub switches_taken : (old : List ℤ) (zs : List Float) → accepted_of (judged_of w n) ≡ true → old ≡ drop 3 whole → zs ≡ renewed_of old w n xs
+        → (ys ≡ switched_whole w whole xs) × (zs ≡ switched_numbers w whole xs)
     unfolding row_taken switched_whole switched_numbers
-    switches_taken old zs t eo ez =
-        let o : accepted_of (judged_of w n) ≡ true = ap accepted_of (sym ea) ∙ sym ev ∙ t in
+    switches_taken old zs o eo ez =
         let k : ys ≡ station_whole w n = rw o at ey in
-        (ea ∙ sym met, rw (met, o) (k ∙ ap (station_whole w) en), rw (met, o) (rw (eo, en) at ez))
+        (rw (met, o) (k ∙ ap (station_whole w) en), rw (met, o) (rw (eo, en) at ez))

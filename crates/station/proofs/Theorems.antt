@@ -1,6 +1,6 @@
 -- What holds of a station that its calls gave: an altitude of it is the one-altitude call's on the record and the row as they
 -- then are, whatever changes and new rows came before.
-use Rattle.std.specs.Prelude.{ℕ, zero, suc, ◌≡◌, refl, Bool, true, false, cond, not, ◌&&◌, List, [], ◌∷◌, eqb, ℤ, pos, length, replicate, take, drop, get_or, Float}
+use Rattle.std.specs.Prelude.{ℕ, zero, suc, ◌≡◌, refl, Bool, true, false, cond, not, ◌&&◌, List, [], ◌∷◌, eqb, ℤ, pos, length, replicate, take, drop, get_or, Float, Err, Ok}
 use Rattle.std.proofs.Common.{sym, ap, ap₂, ◌∙◌, arith, eq-eqb, drop-cons}
 use Rattle.std.proofs.lemmas.Bool.{false≢true}
 use Rattle.std.proofs.Math.Seq.{drop-length}
@@ -9,15 +9,16 @@ use Rattle.std.specs.Float.Ieee.{neg, le}
 use Rattle.numbers.specs.Arithmetic.{◌‼◌}
 use Rattle.numbers.specs.Literals.{0·0, 24·0, 48·0, 90·0, 400·0, 1000·0, 2500·0, 86400·0}
 use Rattle.numbers.specs.Tests.{finite_of}
+use Rattle.refusals.specs.Refusals.{Accepted, Answer, Refused, accepted_of}
+use Rattle.refusals.specs.declared.Reason.{Reason}
+use Rattle.refusals.specs.declared.Reason.TheVariants.{HistoryLacking, NotFinite, NotMixed, OutOfRange, WrongLength}
 use Rattle.setting.specs.declared.Input.{Input}
 use Rattle.setting.specs.declared.History.{History}
 use Rattle.setting.specs.declared.History.TheVariants.{Absent, Present}
 use Rattle.setting.specs.ApHistory.{absent_of, lacks_history_of}
 use Rattle.setting.specs.Switches.{given, is_one, on_off, filled, sw_of}
 use Rattle.views.specs.View.{view_of}
-use Rattle.acceptance.specs.declared.Answer.{Answer}
-use Rattle.acceptance.specs.declared.Answer.TheVariants.{Accepted, Refused}
-use Rattle.acceptance.specs.Acceptance.{within_of, day_within, lowest, array_unfit_of, unfit_of, array_outside_of, outside_of, found_of, judged_of, accepted_of, unmixed_of, record_answer, with_alt_of}
+use Rattle.acceptance.specs.Acceptance.{within_of, day_within, lowest, array_unfit_of, unfit_of, array_outside_of, outside_of, found_of, judged_of, unmixed_of, record_answer, with_alt_of}
 use Rattle.acceptance.specs.Refusals.{no_refusal}
 use Rattle.acceptance.specs.Altitude.{zero_finite, zero_within}
 use Rattle.atmosphere.specs.Atmosphere.{eleven_of, answer_of, row_after}
@@ -28,7 +29,9 @@ use Rattle.stored.specs.Eleven.{stored_eleven}
 use Rattle.shutoff.specs.Shut.{Alike}
 use Rattle.shutoff.proofs.Theorems.{judged_first, known, row_written, alike_at, eleven≡}
 use Rattle.station_record.specs.Record.{mark_of, history_in, station_whole, record_numbers, record_in}
-use Rattle.station_answer.specs.Answers.{station_answer, altitude_answer, with_sec_of, with_lst_of, with_long_of, with_fluxes_of, Change, to_sec, to_lst, to_long, to_fluxes, to_move, change_of, change_answer, switches_answer}
+use Rattle.station_answer.specs.declared.Change.{Change}
+use Rattle.station_answer.specs.declared.Change.TheVariants.{Fluxes, GLong, Lst, Move, Sec}
+use Rattle.station_answer.specs.Answers.{station_answer, altitude_answer, with_sec_of, with_lst_of, with_long_of, with_fluxes_of, change_of, change_answer, switches_answer}
 use Rattle.station_values.specs.StationValues.{site_under}
 use Rattle.station.specs.Station.{held_of, station_numbers, whole_after, station_numbers_after, altitude_row, refilled_by, changed_numbers, switched_whole, switched_numbers}
 use Rattle.station.proofs.Renewed.{record_fourteen, numbers_long, numbers_front, renewed_told, sec_told}
@@ -106,31 +109,31 @@ whole_long w n e = ap (λ (k : ℕ). suc (suc (suc k))) e
 
 whole_kept : (w : List ℤ) (n : Input) (c : Change) → station_whole w (change_of c n) ≡ station_whole w n
 unfolding station_whole with_sec_of with_lst_of with_long_of with_fluxes_of
-whole_kept w n (to_sec y) = refl
-whole_kept w n (to_lst y) = refl
-whole_kept w n (to_long y) = refl
-whole_kept w n (to_fluxes a f) = refl
-whole_kept w n (to_move s l g) = refl
+whole_kept w n (Sec y) = refl
+whole_kept w n (Lst y) = refl
+whole_kept w n (GLong y) = refl
+whole_kept w n (Fluxes a f) = refl
+whole_kept w n (Move s l g) = refl
 
 array_kept : (n : Input) (c : Change) → (change_of c n).ap_array ≡ n.ap_array
 unfolding with_sec_of with_lst_of with_long_of with_fluxes_of
-array_kept n (to_sec y) = refl
-array_kept n (to_lst y) = refl
-array_kept n (to_long y) = refl
-array_kept n (to_fluxes a f) = refl
-array_kept n (to_move s l g) = refl
+array_kept n (Sec y) = refl
+array_kept n (Lst y) = refl
+array_kept n (GLong y) = refl
+array_kept n (Fluxes a f) = refl
+array_kept n (Move s l g) = refl
 
 zero_kept : (n : Input) (c : Change) → with_alt_of (change_of c n) 0·0 ≡ change_of c (with_alt_of n 0·0)
 unfolding with_alt_of with_sec_of with_lst_of with_long_of with_fluxes_of
-zero_kept n (to_sec y) = refl
-zero_kept n (to_lst y) = refl
-zero_kept n (to_long y) = refl
-zero_kept n (to_fluxes a f) = refl
-zero_kept n (to_move s l g) = refl
+zero_kept n (Sec y) = refl
+zero_kept n (Lst y) = refl
+zero_kept n (GLong y) = refl
+zero_kept n (Fluxes a f) = refl
+zero_kept n (Move s l g) = refl
 
 accepted_is : (a : Answer) → accepted_of a ≡ true → a ≡ Accepted
-accepted_is Accepted e = refl
-accepted_is (Refused n k) e = absurd (false≢true e)
+accepted_is (Ok v) e = refl
+accepted_is (Err r) e = absurd (false≢true e)
 
 -- a changed record that is accepted is held, and so is the old one
 changed_held : (w : List ℤ) (n : Input) (c : Change) (b : Bool) → accepted_of (judged_of w (change_of c n)) ≡ b → Held w n → Held w (cond b (change_of c n) n)
@@ -166,11 +169,11 @@ unfolding changed_numbers
 change_refused c whole xs e = rw e
 
 refilled_by_lem : (w : List ℤ) (n : Input) (c : Change) → refilled_by c w (change_of c n) (station_numbers w n) ≡ station_numbers w (change_of c n)
-refilled_by_lem w n (to_sec s) = sec_told w n s
-refilled_by_lem w n (to_lst l) = refl
-refilled_by_lem w n (to_long g) = refl
-refilled_by_lem w n (to_fluxes a f) = refl
-refilled_by_lem w n (to_move s l g) = refl
+refilled_by_lem w n (Sec s) = sec_told w n s
+refilled_by_lem w n (Lst l) = refl
+refilled_by_lem w n (GLong g) = refl
+refilled_by_lem w n (Fluxes a f) = refl
+refilled_by_lem w n (Move s l g) = refl
 
 change_told : (w : List ℤ) (n : Input) (c : Change) → Held w n
     → changed_numbers c (station_whole w n) (station_numbers w n) ≡ station_numbers w (cond (accepted_of (judged_of w (change_of c n))) (change_of c n) n)
@@ -182,12 +185,12 @@ change_told w n c h =
 -- ---- a new row
 
 -- A held record is refused under another row for an absent history alone
-pub judged_under : (w u : List ℤ) (n : Input) → Held w n → judged_of u n ≡ cond (lacks_history_of u n) (Refused 1 10) Accepted
+pub judged_under : (w u : List ℤ) (n : Input) → Held w n → judged_of u n ≡ cond (lacks_history_of u n) (Refused HistoryLacking 10) Accepted
 unfolding judged_of
 judged_under w u n h =
-    let a = no_refusal (found_of (unfit_of n)) 2 _ _ h.taken in
-    let b = no_refusal (lacks_history_of w n) 1 10 _ a.1 in
-    let c = no_refusal (found_of (outside_of n)) 3 _ _ b.1 in
+    let a = no_refusal (found_of (unfit_of n)) NotFinite _ _ h.taken in
+    let b = no_refusal (lacks_history_of w n) HistoryLacking 10 _ a.1 in
+    let c = no_refusal (found_of (outside_of n)) OutOfRange _ _ b.1 in
     rw (a.0, c.0)
 
 switches_met : (w u : List ℤ) (n : Input) → Held w n → switches_answer u (station_whole w n) (station_numbers w n) ≡ judged_of u n
@@ -195,7 +198,7 @@ unfolding switches_answer
 switches_met w u n h = rw (record_back w n h, eq-eqb _ _ (whole_long w n h.row), eq-eqb _ _ (numbers_long w n))
 
 -- The answer to a new row: 1 at place 10 where it asks for an absent history, else accepted
-pub switches_told : (w u : List ℤ) (n : Input) → Held w n → switches_answer u (station_whole w n) (station_numbers w n) ≡ cond (lacks_history_of u n) (Refused 1 10) Accepted
+pub switches_told : (w u : List ℤ) (n : Input) → Held w n → switches_answer u (station_whole w n) (station_numbers w n) ≡ cond (lacks_history_of u n) (Refused HistoryLacking 10) Accepted
 switches_told w u n h = switches_met w u n h ∙ judged_under w u n h
 
 -- Refused, a station is as it was, whatever it held
@@ -272,7 +275,7 @@ alone_1 false false b bs r h = (refl, h)
 
 -- the refusals that are left
 chain : (b d : Bool) (u o r s : ℕ) (lacks : Bool) → u ≡ cond b 3 r → found_of r ≡ false → lacks ≡ false → o ≡ cond d 3 s → found_of s ≡ false
-    → cond (found_of u) (Refused 2 u) (cond lacks (Refused 1 10) (cond (found_of o) (Refused 3 o) Accepted)) ≡ cond b (Refused 2 3) (cond d (Refused 3 3) Accepted)
+    → cond (found_of u) (Refused NotFinite u) (cond lacks (Refused HistoryLacking 10) (cond (found_of o) (Refused OutOfRange o) Accepted)) ≡ cond b (Refused NotFinite 3) (cond d (Refused OutOfRange 3) Accepted)
 unfolding found_of
 chain true d u o r s lacks e f g i j = rw e
 chain false true u o r s lacks e f g i j = rw (e, f, g, i)
@@ -280,13 +283,13 @@ chain false false u o r s lacks e f g i j = rw (e, f, g, i, j)
 
 -- a held record with an altitude is refused for that altitude alone
 judged_at : (w : List ℤ) (n : Input) (z : Float) → Held w n
-    → judged_of w (with_alt_of n z) ≡ cond (not (finite_of z)) (Refused 2 3) (cond (not (within_of 0·0 2500·0 z)) (Refused 3 3) Accepted)
+    → judged_of w (with_alt_of n z) ≡ cond (not (finite_of z)) (Refused NotFinite 3) (cond (not (within_of 0·0 2500·0 z)) (Refused OutOfRange 3) Accepted)
 unfolding judged_of unfit_of outside_of with_alt_of lacks_history_of
 judged_at w n z h =
     let t : judged_of w (with_alt_of n 0·0) ≡ Accepted = ap (judged_of w) h.zero ∙ h.taken in
-    let a = no_refusal (found_of (unfit_of (with_alt_of n 0·0))) 2 _ _ t in
-    let b = no_refusal (lacks_history_of w (with_alt_of n 0·0)) 1 10 _ a.1 in
-    let c = no_refusal (found_of (outside_of (with_alt_of n 0·0))) 3 _ _ b.1 in
+    let a = no_refusal (found_of (unfit_of (with_alt_of n 0·0))) NotFinite _ _ t in
+    let b = no_refusal (lacks_history_of w (with_alt_of n 0·0)) HistoryLacking 10 _ a.1 in
+    let c = no_refusal (found_of (outside_of (with_alt_of n 0·0))) OutOfRange _ _ b.1 in
     let us : List Bool = not (finite_of n.g_lat) ∷ not (finite_of n.g_long) ∷ not (finite_of n.lst) ∷ not (finite_of n.f107a) ∷ not (finite_of n.f107) ∷ not (finite_of n.ap) ∷ [] in
     let os : List Bool =
     not (within_of (neg 90·0) 90·0 n.g_lat) ∷ not (within_of (neg 1000·0) 1000·0 n.g_long) ∷ not (within_of (neg 24·0) 48·0 n.lst) ∷
@@ -321,19 +324,19 @@ unfolding held_of site_under view_of
 row_told w n z e =
     rw (main_0 w n, main_15 w n, numbers_front w n) (stored_eleven w n all_parts (record_numbers n) z (record_fourteen n) (within_top z e) (all_hold (parts_at z)))
 
-passed : (b : Bool) (n k : ℕ) (a : Answer) → accepted_of (cond (not b) (Refused n k) a) ≡ true → (b ≡ true) × (accepted_of a ≡ true)
+passed : (b : Bool) (n : Reason) (k : ℕ) (a : Answer) → accepted_of (cond (not b) (Refused n k) a) ≡ true → (b ≡ true) × (accepted_of a ≡ true)
 passed true n k a h = (refl, h)
 passed false n k a h = absurd (false≢true h)
 
 in_range : (len : ℕ) (whole : List ℤ) (count : ℕ) (z : Float) → accepted_of (altitude_answer len whole count z) ≡ true → within_of 0·0 2500·0 z ≡ true
 unfolding altitude_answer
 in_range len whole count z h =
-    let a = passed (eqb len 11) 4 11 _ h in
-    let b = passed (eqb (length whole) 27) 4 27 _ a.1 in
-    let c = passed (eqb count 259) 4 259 _ b.1 in
-    let d = passed (finite_of z) 2 3 _ c.1 in
-    let g = passed (day_within (get_or whole 1 (pos 0))) 3 1 _ d.1 in
-    (passed (within_of 0·0 2500·0 z) 3 3 _ g.1).0
+    let a = passed (eqb len 11) WrongLength 11 _ h in
+    let b = passed (eqb (length whole) 27) WrongLength 27 _ a.1 in
+    let c = passed (eqb count 259) WrongLength 259 _ b.1 in
+    let d = passed (finite_of z) NotFinite 3 _ c.1 in
+    let g = passed (day_within (get_or whole 1 (pos 0))) OutOfRange 1 _ d.1 in
+    (passed (within_of 0·0 2500·0 z) OutOfRange 3 _ g.1).0
 
 same_row : (b : Bool) (x y r : List Float) → (b ≡ true → x ≡ y) → cond b x r ≡ cond b y r
 same_row true x y r e = e refl
@@ -341,8 +344,8 @@ same_row false x y r e = refl
 
 -- 10 behind the altitude's own 2 and 3
 ten_behind : (a b c : Bool)
-    → cond (not (accepted_of (cond a (Refused 2 3) (cond b (Refused 3 3) Accepted)))) (cond a (Refused 2 3) (cond b (Refused 3 3) Accepted)) (cond c (Refused 10 3) Accepted)
-    ≡ cond a (Refused 2 3) (cond b (Refused 3 3) (cond c (Refused 10 3) Accepted))
+    → cond (not (accepted_of (cond a (Refused NotFinite 3) (cond b (Refused OutOfRange 3) Accepted)))) (cond a (Refused NotFinite 3) (cond b (Refused OutOfRange 3) Accepted)) (cond c (Refused NotMixed 3) Accepted)
+    ≡ cond a (Refused NotFinite 3) (cond b (Refused OutOfRange 3) (cond c (Refused NotMixed 3) Accepted))
 ten_behind true b c = refl
 ten_behind false true c = refl
 ten_behind false false c = refl
@@ -364,9 +367,9 @@ day_passed n false e h = absurd (false≢true (sym (rw e at h)))
 pub day_held : (w : List ℤ) (n : Input) → Held w n → day_within (get_or (station_whole w n) 1 (pos 0)) ≡ true
 unfolding judged_of station_whole
 day_held w n h =
-    let a = no_refusal (found_of (unfit_of n)) 2 _ _ h.taken in
-    let b = no_refusal (lacks_history_of w n) 1 10 _ a.1 in
-    let c = no_refusal (found_of (outside_of n)) 3 _ _ b.1 in
+    let a = no_refusal (found_of (unfit_of n)) NotFinite _ _ h.taken in
+    let b = no_refusal (lacks_history_of w n) HistoryLacking 10 _ a.1 in
+    let c = no_refusal (found_of (outside_of n)) OutOfRange _ _ b.1 in
     day_passed n (day_within n.doy) refl c.0
 
 -- the same after any calls
@@ -376,7 +379,7 @@ day_kept w n cs h =
     rw r.0 (day_held (held_after w n cs).0 (held_after w n cs).1 r.1)
 
 -- Slices of zeros, never prepared: no altitude is accepted
-pub unprepared_refused : (z : Float) → altitude_answer 11 (replicate 27 (pos 0)) 259 z ≡ cond (not (finite_of z)) (Refused 2 3) (Refused 3 1)
+pub unprepared_refused : (z : Float) → altitude_answer 11 (replicate 27 (pos 0)) 259 z ≡ cond (not (finite_of z)) (Refused NotFinite 3) (Refused OutOfRange 1)
 unfolding altitude_answer
 unprepared_refused z = refl
 
@@ -385,7 +388,7 @@ answer_told : (w : List ℤ) (n : Input) (z : Float) (len : ℕ) → Held w n
 unfolding altitude_answer answer_of record_answer
 answer_told w n z len h =
     rw (eq-eqb _ _ (whole_long w n h.row), eq-eqb _ _ (numbers_long w n), day_held w n h, judged_at w n z h, fifteen w n, own_altitude n z)
-    (ap (cond (not (eqb len 11)) (Refused 4 11)) (sym (ten_behind (not (finite_of z)) (not (within_of 0·0 2500·0 z)) (unmixed_of (is_one (given w 15)) z))))
+    (ap (cond (not (eqb len 11)) (Refused WrongLength 11)) (sym (ten_behind (not (finite_of z)) (not (within_of 0·0 2500·0 z)) (unmixed_of (is_one (given w 15)) z))))
 
 -- An altitude of a station that holds a record: answer and row are the one-altitude call's with that altitude
 pub altitude_told : (w : List ℤ) (n : Input) (z : Float) (row : List Float) → Held w n

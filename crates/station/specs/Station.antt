@@ -1,12 +1,13 @@
 -- Document 02's W-201 and W-213: a prepared station, and what its slices and the lent row hold after each call.
 use Rattle.std.specs.Prelude.{ℕ, cond, List, ◌++◌, ℤ, length, take, drop, Float}
 use Rattle.numbers.specs.Literals.{0·0}
+use Rattle.refusals.specs.Refusals.{accepted_of}
 use Rattle.setting.specs.declared.Input.{Input}
 use Rattle.needed_sets.specs.declared.Need.{Need}
 use Rattle.setting.specs.Switches.{sw_of}
 use Rattle.views.specs.View.{view_of}
 use Rattle.switch_rows.specs.Rows.{same_expansions}
-use Rattle.acceptance.specs.Acceptance.{judged_of, accepted_of, with_alt_of}
+use Rattle.acceptance.specs.Acceptance.{judged_of, with_alt_of}
 use Rattle.expansion_values.specs.ExpansionValues.{expansion_values_of}
 use Rattle.plan.specs.declared.ExpansionValues.{ExpansionValues}
 use Rattle.station_values.specs.StationValues.{expansion_numbers, expansion_values_in, globe7_sets, site_under}
@@ -14,7 +15,9 @@ use Rattle.stored_parts.specs.Parts.{all_parts}
 use Rattle.stored.specs.Stored.{need_of, part, stored_of, row_stored}
 use Rattle.drag_sum.specs.DragSum.{dragged_of}
 use Rattle.station_record.specs.Record.{station_whole, record_numbers, record_in, units_in, mixing_in}
-use Rattle.station_answer.specs.Answers.{Change, to_sec, to_lst, to_long, to_fluxes, to_move, change_of, station_answer, altitude_answer, change_answer, switches_answer}
+use Rattle.station_answer.specs.declared.Change.{Change}
+use Rattle.station_answer.specs.declared.Change.TheVariants.{Fluxes, GLong, Lst, Move, Sec}
+use Rattle.station_answer.specs.Answers.{change_of, station_answer, altitude_answer, change_answer, switches_answer}
 
 -- what no altitude changes, out of the expansions' values
 unfoldable pub held_of : List ℤ → Input → ExpansionValues → List Float
@@ -38,6 +41,14 @@ sec_filled w n xs =
     let k = take 11 (expansion_numbers (expansion_values_of (view_of w n) globe7_sets)) ++ drop 245 xs in
     record_numbers n ++ (held_of w n (expansion_values_in k) ++ k)
 
+-- what no altitude changes, made anew out of the expansions' values that the numbers hold
+unfoldable pub refilled_of : List ℤ → Input → List Float → List Float
+refilled_of w n xs = take 14 xs ++ (held_of w n (expansion_values_in (part 234 25 xs)) ++ drop 234 xs)
+
+-- a record's numbers, with the values of the sets a; of the others the values stay
+unfoldable pub filled_of : List ℤ → Input → Need → List Float → List Float
+filled_of w n a xs = refilled_of w n (record_numbers n ++ drop 14 (values_put w n a xs))
+
 -- the slices afterwards: refused, as they were
 unfoldable pub whole_after : List ℤ → Input → List ℤ → ℕ → List ℤ
 whole_after w n ys count = cond (accepted_of (station_answer w n (length ys) count)) (station_whole w (with_alt_of n 0·0)) ys
@@ -57,31 +68,27 @@ altitude_drag whole xs alt row =
     cond (accepted_of (altitude_answer (length row) whole (length xs) alt))
     (dragged_of (units_in whole) (row_stored (units_in whole) (mixing_in whole) (take 234 xs) alt)) row
 
--- a record in the place of the station's, where it is accepted
-unfoldable pub replaced_of : List ℤ → Input → List Float → List Float
-replaced_of w n xs = cond (accepted_of (judged_of w n)) (station_numbers w n) xs
-
--- the same where sec alone is another
-unfoldable pub replaced_sec : List ℤ → Input → List Float → List Float
-replaced_sec w n xs = cond (accepted_of (judged_of w n)) (sec_filled w n xs) xs
+-- the sets that a change asks for: glob7s reads no sec
+abbrev pub sets_of : Change → Need
+sets_of (Sec s) = globe7_sets
+sets_of (Lst l) = need_of all_parts
+sets_of (GLong g) = need_of all_parts
+sets_of (Fluxes a f) = need_of all_parts
+sets_of (Move s l g) = need_of all_parts
 
 -- the numbers of a changed record: sec leaves glob7s' values as they are
 abbrev pub refilled_by : Change → List ℤ → Input → List Float → List Float
-refilled_by (to_sec s) w n xs = sec_filled w n xs
-refilled_by (to_lst l) w n xs = station_numbers w n
-refilled_by (to_long g) w n xs = station_numbers w n
-refilled_by (to_fluxes a f) w n xs = station_numbers w n
-refilled_by (to_move s l g) w n xs = station_numbers w n
+refilled_by (Sec s) w n xs = sec_filled w n xs
+refilled_by (Lst l) w n xs = station_numbers w n
+refilled_by (GLong g) w n xs = station_numbers w n
+refilled_by (Fluxes a f) w n xs = station_numbers w n
+refilled_by (Move s l g) w n xs = station_numbers w n
 
 -- the numbers afterwards: refused, as they were; the whole numbers stay
 unfoldable pub changed_numbers : Change → List ℤ → List Float → List Float
 changed_numbers c whole xs = cond (accepted_of (change_answer c whole xs)) (refilled_by c (drop 3 whole) (change_of c (record_in whole xs)) xs) xs
 
 -- ---- a new switch row (W-213)
-
--- what no altitude changes, made anew out of the expansions' values that the numbers hold
-unfoldable pub refilled_of : List ℤ → Input → List Float → List Float
-refilled_of w n xs = take 14 xs ++ (held_of w n (expansion_values_in (part 234 25 xs)) ++ drop 234 xs)
 
 -- the numbers under the row w in the place of the row old: where the entries 1 to 14 have the same effects, no expansion is worked out again
 unfoldable pub renewed_of : List ℤ → List ℤ → Input → List Float → List Float

@@ -6,105 +6,63 @@ ghost use Rattle.std.specs.Prelude.{◌≡◌, ◌<◌, pos, length, get_or};
 ghost use Rattle.acceptance.specs.Acceptance.{day_within, judged_of};
 ghost use Rattle.setting.specs.Switches.{is_one};
 ghost use Rattle.station_record.specs.Record.{record_in};
-ghost use Rattle.station_answer.specs.Answers.{with_sec_of, with_lst_of, with_long_of, with_fluxes_of, to_sec, to_lst, to_long, to_fluxes, to_move, change_of, station_answer, altitude_answer, row_taken};
+ghost use Rattle.station_answer.specs.Answers.{change_of, station_answer, altitude_answer, row_taken};
 
-use acceptance::{Answer, accepted, judge, unmixed, with_alt, within};
+use acceptance::{judge, unmixed, with_alt, within};
 use numbers::finite;
+use refusals::{Reason, Refusal};
 use setting::Input;
-use station_record::{put_whole, record_in};
+use station_record::put_whole;
 
 // ---- a changed record
 
-pub fn with_sec(n: Input, sec: f64) -> Input
-    ensures { result ≡ with_sec_of n sec }
+// A change of a station's record.
+#[derive(Clone, Copy)]
+pub enum Change {
+    Sec(f64),
+    Lst(f64),
+    GLong(f64),
+    // f107a and f107.
+    Fluxes(f64, f64),
+    // sec, lst and g_long together.
+    Move(f64, f64, f64),
+}
+
+// The record with a change made.
+pub fn with_change(n: Input, c: Change) -> Input
+    ensures { result ≡ change_of c n }
 {
     let mut out = n;
-    out.sec = sec;
+    match c {
+        Change::Sec(sec) => out.sec = sec,
+        Change::Lst(lst) => out.lst = lst,
+        Change::GLong(g_long) => out.g_long = g_long,
+        Change::Fluxes(f107a, f107) => {
+            out.f107a = f107a;
+            out.f107 = f107;
+        }
+        Change::Move(sec, lst, g_long) => {
+            out.sec = sec;
+            out.lst = lst;
+            out.g_long = g_long;
+        }
+    }
     out
-}
-
-pub fn with_lst(n: Input, lst: f64) -> Input
-    ensures { result ≡ with_lst_of n lst }
-{
-    let mut out = n;
-    out.lst = lst;
-    out
-}
-
-pub fn with_g_long(n: Input, g_long: f64) -> Input
-    ensures { result ≡ with_long_of n g_long }
-{
-    let mut out = n;
-    out.g_long = g_long;
-    out
-}
-
-pub fn with_fluxes(n: Input, f107a: f64, f107: f64) -> Input
-    ensures { result ≡ with_fluxes_of n f107a f107 }
-{
-    let mut out = n;
-    out.f107a = f107a;
-    out.f107 = f107;
-    out
-}
-
-// The record of a station with the change made.
-pub fn to_sec(whole: &[i32], numbers: &[f64], sec: f64) -> Input
-    requires { (length whole.now ≡ 27) × (length numbers.now ≡ 259) }
-    ensures { result ≡ change_of (to_sec sec) (record_in whole.now numbers.now) }
-{
-    let n = record_in(whole, numbers);
-    with_sec(n, sec)
-}
-
-pub fn to_lst(whole: &[i32], numbers: &[f64], lst: f64) -> Input
-    requires { (length whole.now ≡ 27) × (length numbers.now ≡ 259) }
-    ensures { result ≡ change_of (to_lst lst) (record_in whole.now numbers.now) }
-{
-    let n = record_in(whole, numbers);
-    with_lst(n, lst)
-}
-
-pub fn to_g_long(whole: &[i32], numbers: &[f64], g_long: f64) -> Input
-    requires { (length whole.now ≡ 27) × (length numbers.now ≡ 259) }
-    ensures { result ≡ change_of (to_long g_long) (record_in whole.now numbers.now) }
-{
-    let n = record_in(whole, numbers);
-    with_g_long(n, g_long)
-}
-
-pub fn to_fluxes(whole: &[i32], numbers: &[f64], f107a: f64, f107: f64) -> Input
-    requires { (length whole.now ≡ 27) × (length numbers.now ≡ 259) }
-    ensures { result ≡ change_of (to_fluxes f107a f107) (record_in whole.now numbers.now) }
-{
-    let n = record_in(whole, numbers);
-    with_fluxes(n, f107a, f107)
-}
-
-pub fn to_move(whole: &[i32], numbers: &[f64], sec: f64, lst: f64, g_long: f64) -> Input
-    requires { (length whole.now ≡ 27) × (length numbers.now ≡ 259) }
-    ensures { result ≡ change_of (to_move sec lst g_long) (record_in whole.now numbers.now) }
-{
-    let n = record_in(whole, numbers);
-    let timed = with_sec(n, sec);
-    let local = with_lst(timed, lst);
-    with_g_long(local, g_long)
 }
 
 // ---- what the calls meet
 
 // Preparing: the lengths of the two slices, then what the record meets, its altitude not looked at.
-pub fn station_answer(w: [i32; 24], n: Input, ints: usize, count: usize) -> Answer
+pub fn station_answer(w: [i32; 24], n: Input, ints: usize, count: usize) -> Result<(), Refusal>
     ensures { result ≡ station_answer w n ints count }
 {
     if ints != 27 {
-        return Answer::Refused(4, 27);
+        return Err(Reason::WrongLength.at(27));
     }
     if count != 259 {
-        return Answer::Refused(4, 259);
+        return Err(Reason::WrongLength.at(259));
     }
-    let m = with_alt(n, 0.0);
-    judge(w, m)
+    judge(w, with_alt(n, 0.0))
 }
 
 // Whether a switch of the whole numbers, as given, is 1.
@@ -135,46 +93,43 @@ pub fn day_in(whole: &[i32]) -> bool
 }
 
 // The answer to an altitude: the lengths of the row, the whole numbers and the numbers; 2, then 3 for the doy and for the altitude, then 10.
-pub fn altitude_answer(len: usize, whole: &[i32], count: usize, alt: f64) -> Answer
+pub fn altitude_answer(len: usize, whole: &[i32], count: usize, alt: f64) -> Result<(), Refusal>
     ensures { result ≡ altitude_answer len whole.now count alt }
 {
     if len != 11 {
-        return Answer::Refused(4, 11);
+        return Err(Reason::WrongLength.at(11));
     }
     let ints = whole.len();
     if ints != 27 {
-        return Answer::Refused(4, 27);
+        return Err(Reason::WrongLength.at(27));
     }
     if count != 259 {
-        return Answer::Refused(4, 259);
+        return Err(Reason::WrongLength.at(259));
     }
     if !finite(alt) {
-        return Answer::Refused(2, 3);
+        return Err(Reason::NotFinite.at(3));
     }
     if !day_in(whole) {
-        return Answer::Refused(3, 1);
+        return Err(Reason::OutOfRange.at(1));
     }
     if !within(0.0, 2500.0, alt) {
-        return Answer::Refused(3, 3);
+        return Err(Reason::OutOfRange.at(3));
     }
     let on = one_in(whole, 18);
     if unmixed(on, alt) {
-        return Answer::Refused(10, 3);
+        return Err(Reason::NotMixed.at(3));
     }
-    Answer::Accepted
+    Ok(())
 }
 
 // ---- a new switch row
 
 // The record judged under the row w, which then stands in the whole numbers; refused, the old row stays.
-pub fn take_row(w: [i32; 24], n: Input, whole: &mut [i32]) -> Answer
+pub fn take_row(w: [i32; 24], n: Input, whole: &mut [i32]) -> Result<(), Refusal>
     requires { length whole.old ≡ 27 }
     ensures { (result ≡ judged_of w n) × (whole.new ≡ row_taken w n whole.old) }
 {
-    let a = judge(w, n);
-    if !accepted(a) {
-        return a;
-    }
+    judge(w, n)?;
     put_whole(w, n, whole);
-    a
+    Ok(())
 }

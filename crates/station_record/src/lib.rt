@@ -17,25 +17,6 @@ pub fn whole_number(s: &[i32], i: usize) -> i32
     s[i]
 }
 
-pub fn year_of(n: Input) -> i32
-    ensures { result ≡ n.year }
-{
-    n.year
-}
-
-pub fn doy_of(n: Input) -> i32
-    ensures { result ≡ n.doy }
-{
-    n.doy
-}
-
-pub fn switch_of(w: [i32; 24], i: usize) -> i32
-    requires { i < 24 }
-    ensures { result ≡ get_or w i (pos 0) }
-{
-    w[i]
-}
-
 // 1 where the history is there.
 pub fn mark(h: History) -> i32
     ensures { result ≡ mark_of h }
@@ -47,32 +28,14 @@ pub fn mark(h: History) -> i32
 }
 
 // The whole numbers of a station: year, doy, the mark of the history, the 24 switches.
-pub fn whole_at(w: [i32; 24], n: Input, i: usize) -> i32
-    requires { i < 27 }
-    ensures { result ≡ get_or (station_whole w n) i (pos 0) }
-{
-    if i == 0 {
-        return year_of(n);
-    }
-    if i == 1 {
-        return doy_of(n);
-    }
-    if i == 2 {
-        let h = n.history;
-        return mark(h);
-    }
-    switch_of(w, i - 3)
-}
-
 pub fn put_whole(w: [i32; 24], n: Input, whole: &mut [i32])
     requires { length whole.old ≡ 27 }
     ensures { whole.new ≡ station_whole w n }
 {
-    let mut i: usize = 0;
-    while i < 27 {
-        whole[i] = whole_at(w, n, i);
-        i += 1;
-    }
+    whole[0] = n.year;
+    whole[1] = n.doy;
+    whole[2] = mark(n.history);
+    whole[3..].copy_from_slice(&w);
 }
 
 // The switch row.
@@ -81,11 +44,7 @@ pub fn row_in(whole: &[i32]) -> [i32; 24]
     ensures { result ≡ drop 3 whole.now }
 {
     let mut w = [0; 24];
-    let mut i: usize = 0;
-    while i < 24 {
-        w[i] = whole[i + 3];
-        i += 1;
-    }
+    w.copy_from_slice(&whole[3..]);
     w
 }
 

@@ -5,7 +5,7 @@ use Rattle.numbers.specs.Arithmetic.{◌‼◌}
 use Rattle.numbers.specs.Literals.{0·0}
 use Rattle.setting.specs.declared.State.{State}
 use Rattle.setting.specs.declared.View.{View}
-use Rattle.setting.specs.declared.Valued.{Valued}
+use Rattle.setting.specs.declared.Left.{Left}
 use Rattle.legendre.specs.Legendre.{rows_of}
 use Rattle.expansion_parts.specs.ExpansionParts.{t8_of, history8_of, daily8_of, t10_of, t11_of, t12_of, history12_of, daily12_of, weighted_of, weighted_from, t8s_of, t10s_given}
 use Rattle.expansion.specs.declared.Carried.{Carried}
@@ -55,7 +55,7 @@ Agree a b = (k : ℕ) → k < 14 → a ‼ (1 + k) ≡ b ‼ (1 + k)
 abbrev fourteen_after_zero : List Float → List Float
 fourteen_after_zero a = 0·0 ∷ (a ‼ 1) ∷ (a ‼ 2) ∷ (a ‼ 3) ∷ (a ‼ 4) ∷ (a ‼ 5) ∷ (a ‼ 6) ∷ (a ‼ 7) ∷ (a ‼ 8) ∷ (a ‼ 9) ∷ (a ‼ 10) ∷ (a ‼ 11) ∷ (a ‼ 12) ∷ (a ‼ 13) ∷ (a ‼ 14) ∷ []
 
-abbrev globe7_result : Float → State → Valued
+abbrev globe7_result : Float → State → Left Float
 globe7_result x a = record { value = x; state = a }
 
 abbrev narrowed : View → View

@@ -245,11 +245,7 @@ pub fn put(out: &mut [f64], v: &[f64])
     requires { length out.old ≡ length v.now }
     ensures { out.new ≡ v.now }
 {
-    let mut i: usize = 0;
-    while i < v.len() {
-        out[i] = v[i];
-        i += 1;
-    }
+    out.copy_from_slice(v);
 }
 
 // A region, made at one of its altitudes; zeros where it is not asked for.

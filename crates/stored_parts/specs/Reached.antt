@@ -1,13 +1,12 @@
 -- Parts that are added when an altitude is reached: whether they serve it, and what they hold.
-use Rattle.std.specs.Prelude.{ℕ, ◌+◌, ◌*◌, ◌≤◌, ◌<◌, ◌≡◌, refl, Bool, true, false, cond, not, ◌&&◌, ◌||◌, ltb, eqb, ℤ, Float}
+use Rattle.std.specs.Prelude.{ℕ, ◌*◌, ◌<◌, ◌≡◌, refl, Bool, true, false, cond, not, ◌&&◌, ◌||◌, eqb, ℤ, Float}
 use Rattle.std.proofs.Common.{sym, ap, ◌∙◌, mul-pos, le_of_lt, arith, ltb-true, lt-ltb, le-ltb, ne_eqb}
 use Rattle.std.proofs.lemmas.Bool.{false≢true}
 use Rattle.std.specs.Float.{nan, inf, fin}
 use Rattle.std.specs.Float.Ieee.{up, down, lt, le, eq, of_bits}
 use Rattle.std.specs.Float.Ieee.Fits.{down_pos}
-use Rattle.numbers.specs.Arithmetic.{◌‼◌}
 use Rattle.numbers.specs.Booleans.{and_both, both, or_left, or_right}
-use Rattle.numbers.specs.Literals.{32·5, 72·5, 300·0}
+use Rattle.numbers.specs.Literals.{32·5, 72·5}
 use Rattle.tables.specs.Tables.{pdl_t1}
 use Rattle.stored_parts.specs.declared.Parts.{Parts}
 use Rattle.stored_parts.specs.Parts.{above_summit, from_summit, above_za, below300, parts_at, no_parts, either_parts, serves_of, reached_of}

@@ -157,11 +157,8 @@ pub fn parts_of(alts: &[f64]) -> Parts
     ensures { result ≡ parts_from no_parts alts.now }
 {
     let mut p = no_parts();
-    let mut k: usize = 0;
-    while k < alts.len() {
-        let a = parts_at(alts[k]);
-        p = either_parts(p, a);
-        k += 1;
+    for alt in alts {
+        p = either_parts(p, parts_at(*alt));
     }
     p
 }

@@ -70,12 +70,10 @@ pub fn same_at(a: [i32; 24], b: [i32; 24], i: usize) -> bool
 pub fn same_expansions(a: [i32; 24], b: [i32; 24]) -> bool
     ensures { result ≡ same_expansions a b }
 {
-    let mut i: usize = 1;
-    while i < 15 {
+    for i in 1..15 {
         if !same_at(a, b, i) {
             return false;
         }
-        i += 1;
     }
     true
 }

@@ -1,4 +1,5 @@
 -- The second one-altitude call's outcomes, and what an accepted one has.
+use Rattle.std.specs.Prelude.{Err, Ok}
 use Prim.Native.Nat.{ℕ, ◌*◌, ◌<◌}
 use mathlib.Core.Path.{◌≡◌, refl, ap, subst}
 use mathlib.Core.Bool.{Bool, true, false, ◌&&◌, false≢true}
@@ -11,18 +12,16 @@ use lib.ListN.{length}
 use lib.Ieee.{Float, nan, inf, fin, up, down, lt, eq, of_bits}
 use Rattle.numbers.specs.Literals.{0·0}
 use Rattle.parameters.specs.declared.Parameters.{Parameters}
+use Rattle.refusals.specs.Refusals.{Accepted, Answer, Refused, accepted_of}
 use Rattle.setting.specs.declared.Input.{Input}
-use Rattle.acceptance.specs.declared.Answer.{Answer}
-use Rattle.acceptance.specs.declared.Answer.TheVariants.{Accepted, Refused}
-use Rattle.acceptance.specs.Acceptance.{accepted_of}
 use Rattle.parameter_answer.specs.ParameterAnswer.{answer_with}
 use Rattle.parameter_answer.proofs.Theorems.{accepted_fit, accepted_length}
 use Rattle.atmosphere.specs.Atmosphere.{eleven_with}
 use Rattle.varied_constants.specs.VariedConstants.{row_with}
 
 is_accepted : (a : Answer) → accepted_of a ≡ true → a ≡ Accepted
-is_accepted Accepted e = refl
-is_accepted (Refused n k) e = absurd (false≢true e)
+is_accepted (Ok v) e = refl
+is_accepted (Err r) e = absurd (false≢true e)
 
 -- numbers of which one is less differ
 apart : (a b : ℕ) → a < b → (eqb b a && true) ≡ false

@@ -6,11 +6,9 @@ use Rattle.numbers.specs.Arithmetic.{◌‼◌}
 use Rattle.numbers.specs.Literals.{72·5}
 use Rattle.parameters.specs.Parameters.{present_of}
 use Rattle.parameters.specs.declared.Parameters.{Parameters}
+use Rattle.refusals.specs.Refusals.{Accepted, Answer, accepted_of}
 use Rattle.tables.specs.Tables.{pdm_t2}
 use Rattle.setting.specs.declared.Input.{Input}
-use Rattle.acceptance.specs.declared.Answer.{Answer}
-use Rattle.acceptance.specs.declared.Answer.TheVariants.{Accepted}
-use Rattle.acceptance.specs.Acceptance.{accepted_of}
 use Rattle.parameter_answer.specs.ParameterAnswer.{answer_with}
 use Rattle.parameter_answer.proofs.Theorems.{present_answer, accepted_judged, accepted_low}
 use Rattle.atmosphere.specs.Atmosphere.{eleven_with, eleven_of, left_with, answer_of, row_after}

@@ -1,8 +1,8 @@
 -- The second one-altitude call's lent row: document 02's 'equals demand 2's definition with the nine in their places'.
 use Rattle.std.specs.Prelude.{cond, List, ℤ, length, Float}
 use Rattle.parameters.specs.declared.Parameters.{Parameters}
+use Rattle.refusals.specs.Refusals.{accepted_of}
 use Rattle.setting.specs.declared.Input.{Input}
-use Rattle.acceptance.specs.Acceptance.{accepted_of}
 use Rattle.parameter_answer.specs.ParameterAnswer.{answer_with}
 use Rattle.atmosphere.specs.Atmosphere.{eleven_with}
 

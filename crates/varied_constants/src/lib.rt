@@ -6,20 +6,17 @@ ghost use Rattle.std.specs.Prelude.{◌≡◌, length};
 ghost use Rattle.parameter_answer.specs.ParameterAnswer.{answer_with};
 ghost use Rattle.varied_constants.specs.VariedConstants.{row_with};
 
-use acceptance::{Answer, accepted};
 use atmosphere::row_with;
 use parameter_answer::answer_with;
 use parameters::Parameters;
+use refusals::Refusal;
 use setting::Input;
 
 // Refused, the row as it was; accepted, the row of eleven.
-pub fn gtd7_with(c: Parameters, w: [i32; 24], n: Input, out: &mut [f64]) -> Answer
+pub fn gtd7_with(c: Parameters, w: [i32; 24], n: Input, out: &mut [f64]) -> Result<(), Refusal>
     ensures { (result ≡ answer_with c w n (length out.old)) × (out.new ≡ row_with c w n out.old) }
 {
-    let a = answer_with(c, w, n, out.len());
-    if !accepted(a) {
-        return a;
-    }
+    answer_with(c, w, n, out.len())?;
     row_with(c, w, n, out);
-    a
+    Ok(())
 }

@@ -7,16 +7,16 @@ use Rattle.altitudes.specs.Within.{all_within}
 use Rattle.altitudes.proofs.Laws.{within_here, all_within_lem}
 use Rattle.altitudes.proofs.all_within.Goals as goal
 
-pub loop-k-init : goal.loop-k-init
-loop-k-init c = (search rules, refl)
+pub loop-z-init : goal.loop-z-init
+loop-z-init c = refl
 
-pub loop-k-preserved : goal.loop-k-preserved
-loop-k-preserved c =
-    let at = c.loop-k in
+pub loop-z-preserved : goal.loop-z-preserved
+loop-z-preserved c =
+    let at = c.loop-z in
     let alts = c.args.alts.now in
-    (search rules, within_here alts at.k c.loop-k-test.true at.all _ c.within-all.ensures ∙ at.invariant.1)
+    within_here alts at.z-index (search rules) at.all _ c.within-all.ensures ∙ at.invariant
 
 pub returns : goal.returns
 returns c =
-    let at = c.loop-k in
-    all_within_lem c.args.alts.now at.k at.all (omega arith) ∙ at.invariant.1
+    let at = c.loop-z in
+    all_within_lem c.args.alts.now at.z-index at.all (omega arith) ∙ at.invariant

@@ -1,5 +1,6 @@
 -- `altitudes` meets its contract: the altitudes below k have passed.
-use mathlib.Core.Path.{refl, sym, ◌∙◌}
+use Rattle.std.specs.Prelude.{Err}
+use mathlib.Core.Path.{refl, sym, ◌∙◌, ap}
 use Prim.Native.Nat.{◌-◌}
 use native.Mathlib.Omega.{arith}
 use borrow.Author.Rules.{rules}
@@ -8,31 +9,30 @@ use Rattle.altitudes.proofs.Laws.{unfit_here, outside_here, passed_here, all_pas
 use Rattle.altitudes.proofs.altitudes.Goals as goal
 
 pub returns-then-all_within : goal.returns-then-all_within
-returns-then-all_within c = sym (none_refused 0 _ (sym c.all_within.ensures ∙ c.if-all_within.true))
+returns-then-all_within c =
+    sym (none_refused 0 _ (sym c.all_within.ensures ∙ c.if-all_within.true))
 
 pub loop-k-init : goal.loop-k-init
-loop-k-init c = (search rules, refl)
+loop-k-init c = refl
 
 pub returns-then-not-finite : goal.returns-then-not-finite
 returns-then-not-finite c =
     let at = c.loop-k in
-    unfit_here _ at.k c.loop-k-test.true _ c.finite.ensures c.if-not-finite.true-raw ∙ at.invariant.1
+    ap Err c.at.ensures ∙ (unfit_here _ at.k (search rules) _ c.finite.ensures c.if-not-finite.true-raw ∙ at.invariant)
 
 pub returns-then-not-within : goal.returns-then-not-within
 returns-then-not-within c =
     let at = c.loop-k in
-    outside_here _ at.k c.loop-k-test.true _ _
-    c.finite.ensures c.if-not-finite.false-raw c.within.ensures c.if-not-within.true-raw ∙ at.invariant.1
+    ap Err c.at-then-not-within.ensures ∙ (outside_here _ at.k (search rules) _ _
+    c.finite.ensures c.if-not-finite.false-raw c.within.ensures c.if-not-within.true-raw ∙ at.invariant)
 
 pub loop-k-preserved : goal.loop-k-preserved
 loop-k-preserved c =
-    let at = c.loop-k in (
-      search rules,
-      passed_here _ at.k c.loop-k-test.true _ _
-          c.finite.ensures c.if-not-finite.false-raw c.within.ensures c.if-not-within.false-raw ∙ at.invariant.1,
-    )
+    let at = c.loop-k in
+    passed_here _ at.k (search rules) _ _
+    c.finite.ensures c.if-not-finite.false-raw c.within.ensures c.if-not-within.false-raw ∙ at.invariant
 
 pub returns : goal.returns
 returns c =
     let at = c.loop-k in
-    all_passed _ at.k (omega arith) ∙ at.invariant.1
+    all_passed _ at.k (omega arith) ∙ at.invariant

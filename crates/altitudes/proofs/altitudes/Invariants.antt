@@ -6,7 +6,4 @@ use Rattle.altitudes.specs.Altitudes.{altitudes_from}
 use Rattle.altitudes.proofs.altitudes.Given as goal
 
 abbrev pub invariant-loop-k : goal.invariant-loop-k
-invariant-loop-k l = (l.k ≤ length l.alts) × (altitudes_from l.k (drop l.k l.alts) ≡ altitudes_from 0 l.alts)
-
-abbrev pub decreases-loop-k : goal.decreases-loop-k
-decreases-loop-k l = length l.alts - l.k
+invariant-loop-k l = altitudes_from l.k (drop l.k l.alts) ≡ altitudes_from 0 l.alts

@@ -6,7 +6,4 @@ use Rattle.altitudes.specs.Altitudes.{unmixed_from}
 use Rattle.altitudes.proofs.unmixed_altitude.Given as goal
 
 abbrev pub invariant-loop-k : goal.invariant-loop-k
-invariant-loop-k l = (l.k ≤ length l.alts) × (unmixed_from l.on l.k (drop l.k l.alts) ≡ unmixed_from l.on 0 l.alts)
-
-abbrev pub decreases-loop-k : goal.decreases-loop-k
-decreases-loop-k l = length l.alts - l.k
+invariant-loop-k l = unmixed_from l.on l.k (drop l.k l.alts) ≡ unmixed_from l.on 0 l.alts

@@ -1,19 +1,18 @@
 -- `gtd7` meets its contract: refused, the row is kept; accepted, it is the eleven numbers.
-use Rattle.atmosphere.proofs.Laws.{accepted_length, verdict, row_kept, row_written}
-use mathlib.Core.Path.{◌∙◌}
-use borrow.Author.Tests.{not-true, not-false}
+use Rattle.std.specs.Prelude.{Err}
+use Rattle.std.proofs.Common.{sym, ap, ◌∙◌}
+use Rattle.std.proofs.lemmas.Result.{err_from_is_err_and}
+use Rattle.refusals.specs.Refusals.{accepted_of}
+use Rattle.atmosphere.proofs.Laws.{accepted_length, row_kept, row_written}
 use Rattle.atmosphere.proofs.gtd7.Goals as goal
 
-pub returns-then-not-accepted : goal.returns-then-not-accepted
-returns-then-not-accepted c =
-    let j = c.answer-a in
-    (j.ensures, row_kept _ _ _ (verdict j.ensures c.accepted.ensures (not-true _ c.if-not-accepted.true-raw)))
+pub returns-in_err-answer : goal.returns-in_err-answer
+returns-in_err-answer c =
+    let p = err_from_is_err_and c.from_residual.result c.from_residual.ensures.1 in
+    (p.1 ∙ ap Err p.2 ∙ c.in_err-answer.ensures, row_kept _ _ _ (sym (ap accepted_of c.in_err-answer.ensures)))
 
 pub row_of-requires : goal.row_of-requires
-row_of-requires c =
-    accepted_length _ _ _ (verdict c.answer-a.ensures c.accepted.ensures (not-false _ c.if-not-accepted.false-raw))
+row_of-requires c = accepted_length _ _ _ (sym (ap accepted_of c.in_ok-answer.ensures))
 
 pub returns : goal.returns
-returns c =
-    let j = c.answer-a in
-    (j.ensures, c.row_of.ensures ∙ (row_written _ _ _ (verdict j.ensures c.accepted.ensures (not-false _ c.if-not-accepted.false-raw))))
+returns c = (c.in_ok-answer.ensures, c.row_of.ensures ∙ row_written _ _ _ (sym (ap accepted_of c.in_ok-answer.ensures)))

@@ -1,6 +1,6 @@
 -- `cover` meets its contract: from `at` on the lines are those from n on, after bands that reach up to `last`.
+use Rattle.std.specs.Prelude.{Err}
 use mathlib.Core.Path.{◌≡◌, refl, ap, ◌∙◌}
-use Prim.Native.Nat.{◌-◌}
 use native.Mathlib.Omega.{arith}
 use mir.Syntax.{w32}
 use mir.Val.{to_z}
@@ -19,14 +19,16 @@ pub returns-then-below : goal.returns-then-below
 returns-then-below c =
     let at = c.loop-at in
     let f = c.from_of-from in
-    overlap _ _ _ c.band_at-f.ensures _ _ _ f.ensures _
+    ap Err c.at.ensures
+    ∙ overlap _ _ _ c.band_at-f.ensures _ _ _ f.ensures _
     (as_given {b = to_z w32 at.last-bits} (to_z-of_z {w = w32} {z = f.result} (search rules)) refl _ c.below.ensures) c.if-below.true ∙ at.invariant.3
 
 pub returns-then-below-2 : goal.returns-then-below-2
 returns-then-below-2 c =
     let at = c.loop-at in
     let f = c.from_of-from in
-    gap _ _ _ c.band_at-f.ensures _ _ _ f.ensures _
+    ap Err c.at-then-below-2.ensures
+    ∙ gap _ _ _ c.band_at-f.ensures _ _ _ f.ensures _
     (as_given {b = to_z w32 at.last-bits} (to_z-of_z {w = w32} {z = f.result} (search rules)) refl _ c.below.ensures) c.if-below.false _
     (as_given {a = to_z w32 at.last-bits} refl (to_z-of_z {w = w32} {z = f.result} (search rules)) _ c.below-in-loop-at.ensures) c.if-below-2.true ∙ at.invariant.3
 
@@ -58,7 +60,7 @@ pub returns-then-below-3 : goal.returns-then-below-3
 returns-then-below-3 c =
     let at = c.loop-at in
     let e : at.at ≡ length c.args.text.now = omega arith in
-    short _ _ _ e _ _ c.below-2.ensures c.if-below-3.true ∙ at.invariant.3
+    ap Err c.at-then-below-3.ensures ∙ short _ _ _ e _ _ c.below-2.ensures c.if-below-3.true ∙ at.invariant.3
 
 pub returns : goal.returns
 returns c =

@@ -1,38 +1,30 @@
 -- `crossings` meets its contract.
-use mathlib.Core.Path.{refl, sym, ◌∙◌}
-use native.Mathlib.Omega.{arith}
-use borrow.Author.Tests.{not-true, not-false}
-use Rattle.atmosphere.proofs.Laws.{verdict}
+use Rattle.std.specs.Prelude.{Err}
+use Rattle.std.proofs.Common.{sym, ap, ◌∙◌, arith, rules}
+use Rattle.std.proofs.lemmas.Result.{err_from_is_err_and}
+use Rattle.refusals.specs.Refusals.{accepted_of}
+use Rattle.std.specs.Prelude.{refl}
 use Rattle.crossings.proofs.Theorems.{checked_few}
 use Rattle.crossings.proofs.Laws.{checked_altitudes, refused, answered}
 use Rattle.crossings.proofs.crossings.Goals as goal
 
-pub returns-then-not-accepted : goal.returns-then-not-accepted
-returns-then-not-accepted c =
-    let v = c.accepted in
-    let k = c.checked-a in
+pub returns-in_err-checked : goal.returns-in_err-checked
+returns-in_err-checked c =
+    let p = err_from_is_err_and c.from_residual.result c.from_residual.ensures.1 in
     let A = c.args in
-    refused A.w A.n A.alts.now A.level A.list.now c.refusal.result k.result k.ensures (sym v.ensures ∙ not-true _ c.if-not-accepted.true-raw) c.refusal.ensures
+    let k = refused A.w A.n A.alts.now A.level A.list.now _ c.in_err-checked.ensures in
+    (p.1 ∙ ap Err p.2 ∙ k.0, k.1)
 
 pub densities-requires : goal.densities-requires
 densities-requires c =
-    let v = c.accepted in
-    let k = c.checked-a in
-    let t = verdict k.ensures v.ensures (not-false _ c.if-not-accepted.false-raw) in
+    let t = sym (ap accepted_of c.in_ok-checked.ensures) in
     (checked_few _ _ _ t, checked_altitudes _ _ _ t)
 
 pub slice_bounds-listed-end : goal.slice_bounds-listed-end
-slice_bounds-listed-end c =
-    let v = c.accepted in
-    let k = c.checked-a in
-    omega (arith, checked_few _ _ _ (verdict k.ensures v.ensures (not-false _ c.if-not-accepted.false-raw)))
+slice_bounds-listed-end c = omega (arith, checked_few _ _ _ (sym (ap accepted_of c.in_ok-checked.ensures)))
 
 pub returns : goal.returns
 returns c =
-    let l = c.listed in
-    let ds = c.densities in
-    let v = c.accepted in
-    let k = c.checked-a in
     let A = c.args in
-    answered A.w A.n A.alts.now A.level A.list.now l.result _ _ _ _ (verdict k.ensures v.ensures (not-false _ c.if-not-accepted.false-raw))
-    ds.ensures refl l.ensures.0 l.ensures.1
+    answered A.w A.n A.alts.now A.level A.list.now c.listed.result _ _ _ _ (sym (ap accepted_of c.in_ok-checked.ensures))
+    c.densities.ensures refl c.listed.ensures.0 c.listed.ensures.1

@@ -11,24 +11,20 @@ use Rattle.crossings.proofs.densities_at.Goals as goal
 
 pub loop-i-init : goal.loop-i-init
 unfolding densities_stored
-loop-i-init c = (search rules, refl, refl, refl)
+loop-i-init c = refl
 
 pub row_on-requires : goal.row_on-requires
 row_on-requires c = (search rules, search rules)
 
 pub loop-i-preserved : goal.loop-i-preserved
 loop-i-preserved c =
-    let at = c.loop-i in (
-      search rules,
-      search rules,
-      search rules,
-      put c.args.sw0 c.args.sw15 c.args.numbers.now c.args.alts.now c.args.d.now at.d _ at.i
-          c.loop-i-test.true c.requires.1 at.invariant.3 c.row_on.ensures,
-    )
+    let at = c.loop-i in
+    put c.args.sw0 c.args.sw15 c.args.numbers.now c.args.alts.now c.args.d.now at.d _ at.i
+    (search rules) c.requires.1 at.invariant c.row_on.ensures
 
 pub returns : goal.returns
 returns c =
     let at = c.loop-i in
     let alts = c.args.alts.now in
     let e : at.i ≡ length alts = omega arith in
-    at.invariant.3 ∙ rw (e, take-length alts)
+    at.invariant ∙ rw (e, take-length alts)

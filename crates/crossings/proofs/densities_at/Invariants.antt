@@ -8,7 +8,4 @@ use Rattle.crossings.proofs.densities_at.Given as goal
 
 abbrev pub invariant-loop-i : goal.invariant-loop-i
 invariant-loop-i l =
-    (l.i ≤ length l.alts) × (length l.row ≡ 11) × (length l.d ≡ length l.initial.d) × (l.d ≡ densities_stored l.sw0 l.sw15 l.numbers (take l.i l.alts) ++ drop l.i l.initial.d)
-
-abbrev pub decreases-loop-i : goal.decreases-loop-i
-decreases-loop-i l = length l.alts - l.i
+    l.d ≡ densities_stored l.sw0 l.sw15 l.numbers (take l.i l.alts) ++ drop l.i l.initial.d

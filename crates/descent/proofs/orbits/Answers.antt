@@ -7,13 +7,17 @@ use native.Mathlib.Omega.{arith}
 use borrow.Author.Rules.{rules}
 use lib.IntN.{pos}
 use lib.ListN.{get_or}
-use Rattle.descent_orbits.proofs.Turns.{begun, all_flown, stopped, sunk, flies}
+use Rattle.std.proofs.Common.{subst}
+use Rattle.std.specs.Prelude.{◌≡◌, length}
+use Rattle.descent_orbits.specs.declared.Ending.TheVariants.{Spent}
+use Rattle.descent_orbits.specs.Lent.{Ended}
+use Rattle.descent_orbits.proofs.Turns.{begun, all_flown, stopped, sunk, flies, Answered}
 use Rattle.descent.specs.Stored.{station_density}
 use Rattle.descent.proofs.Laws.{orbit_told}
 use Rattle.descent.proofs.orbits.Goals as goal
 
 pub loop-i-init : goal.loop-i-init
-loop-i-init c = (search rules, search rules, search rules, refl, begun _ _ _ _)
+loop-i-init c = (search rules, search rules, begun _ _ _ _)
 
 pub returns-in-Ends : goal.returns-in-Ends
 returns-in-Ends c =
@@ -22,17 +26,17 @@ returns-in-Ends c =
     let S = A.settings.now in
     let D = station_density A.whole.now A.numbers.now in
     let s = to_z-of_z {w = w32} {z = get_or S at.i (pos 0)} (search rules) in
-    let p = orbit_told D at.a c.orbit_at-o.result _ _ _ c.orbit_at-o.ensures c.density-d.ensures s in
-    stopped D A.start S A.losses.now at.a at.i at.losses at.invariant.4 c.loop-i-test.true c.orbit_at-o.result p _ c.in-Ends.is
+    let p = orbit_told D at.a c.orbit_at.result _ _ _ c.orbit_at.ensures c.density-d.ensures s in
+    stopped D A.start S A.losses.now at.a at.i at.losses at.invariant.2 (search rules) c.orbit_at.result p _ c.in-Ends.is
 
 pub put_loss-requires : goal.put_loss-requires
 put_loss-requires c =
-    let k = sunk _ _ _ _ c.orbit_at-o.ensures c.in-Loses.is in
-    (search rules, omega (arith, k, c.loop-i.invariant.2))
+    let k = sunk _ _ _ _ c.orbit_at.ensures c.in-Loses.is in
+    (search rules, omega (arith, k, c.loop-i.invariant.1))
 
 pub overflow_sub-a : goal.overflow_sub-a
 overflow_sub-a c =
-    omega (arith, sunk _ _ _ _ c.orbit_at-o.ensures c.in-Loses.is)
+    omega (arith, sunk _ _ _ _ c.orbit_at.ensures c.in-Loses.is)
 
 pub loop-i-preserved : goal.loop-i-preserved
 loop-i-preserved c =
@@ -41,17 +45,19 @@ loop-i-preserved c =
     let S = A.settings.now in
     let D = station_density A.whole.now A.numbers.now in
     let s = to_z-of_z {w = w32} {z = get_or S at.i (pos 0)} (search rules) in
-    let p = orbit_told D at.a c.orbit_at-o.result _ _ _ c.orbit_at-o.ensures c.density-d.ensures s in
-    let k = sunk _ _ _ _ c.orbit_at-o.ensures c.in-Loses.is in (
-      search rules,
+    let p = orbit_told D at.a c.orbit_at.result _ _ _ c.orbit_at.ensures c.density-d.ensures s in
+    let k = sunk _ _ _ _ c.orbit_at.ensures c.in-Loses.is in (
       omega (arith, k),
-      omega (arith, at.invariant.2),
-      search rules,
+      omega (arith, at.invariant.1),
       rw c.put_loss.ensures
-          (flies D A.start S A.losses.now at.a at.i at.losses at.invariant.4 c.loop-i-test.true c.orbit_at-o.result p _ c.in-Loses.is c.requires.2),
+          (flies D A.start S A.losses.now at.a at.i at.losses at.invariant.2 (search rules) c.orbit_at.result p _ c.in-Loses.is c.requires.2),
     )
 
 pub returns : goal.returns
 returns c =
     let at = c.loop-i in
-    all_flown _ _ _ _ _ _ _ at.invariant.4 (omega (arith, at.invariant.0))
+    let A = c.args in
+    let S = A.settings.now in
+    let D = station_density A.whole.now A.numbers.now in
+    let e : at.i ≡ length S = omega arith in
+    subst (λ k. Answered D A.start S A.losses.now (Ended Spent at.a k) at.losses) e (all_flown D A.start S A.losses.now at.a at.i at.losses at.invariant.2 e)

@@ -8,8 +8,4 @@ use Rattle.descent.proofs.orbits.Given as goal
 
 abbrev pub invariant-loop-i : goal.invariant-loop-i
 invariant-loop-i l =
-    (l.i ≤ length l.settings) × (200000000 ≤ l.a) × (l.a ≤ 1000000000) × (length l.losses ≡ length l.initial.losses)
-    × Flown (station_density l.whole l.numbers) l.start l.settings l.initial.losses l.a l.i l.losses
-
-abbrev pub decreases-loop-i : goal.decreases-loop-i
-decreases-loop-i l = length l.settings - l.i
+    (200000000 ≤ l.a) × (l.a ≤ 1000000000) × Flown (station_density l.whole l.numbers) l.start l.settings l.initial.losses l.a l.i l.losses

@@ -10,5 +10,5 @@ use Rattle.descent_orbits.proofs.put_end.Goals as goal
 pub returns : goal.returns
 returns c =
     let A = c.args in
-    put_down A.end.now A.e A.last A.taken _ _ _ c.requires.0 (to_z-of_z {w = w64} (search rules) ∙ c.ending_number.ensures)
-    (to_z_pos w64 {n = A.last} (omega (arith, c.requires.1))) (to_z_pos w64 {n = A.taken} (omega (arith, c.requires.2)))
+    put_down A.end.now A.d.ending A.d.last A.d.taken _ _ _ c.requires.0 (to_z-of_z {w = w64} (search rules) ∙ c.ending_number.ensures)
+    (to_z_pos w64 {n = A.d.last} (omega (arith, c.requires.1))) (to_z_pos w64 {n = A.d.taken} (omega (arith, c.requires.2)))

@@ -6,7 +6,4 @@ use Rattle.descent_orbits.specs.DescentOrbits.{unfit_setting_from, unfit_setting
 use Rattle.descent_orbits.proofs.unfit.Given as goal
 
 abbrev pub invariant-loop-i : goal.invariant-loop-i
-invariant-loop-i l = (l.i ≤ length l.settings) × (unfit_setting_from l.i (drop l.i l.settings) ≡ unfit_setting l.settings)
-
-abbrev pub decreases-loop-i : goal.decreases-loop-i
-decreases-loop-i l = length l.settings - l.i
+invariant-loop-i l = unfit_setting_from l.i (drop l.i l.settings) ≡ unfit_setting l.settings

@@ -1,6 +1,6 @@
 -- `glob7s_filled` meets its contract: at each turn the rest of the filling gives the list up to the last set that is needed.
-use Prim.Native.Nat.{ℕ, ◌-◌}
-use mathlib.Core.Path.{refl, ◌∙◌, sym, ap}
+use Prim.Native.Nat.{ℕ}
+use mathlib.Core.Path.{◌∙◌, sym, ap}
 use native.Mathlib.Nat.{le_of_eq, sub-zero}
 use borrow.Author.Rules.{rules}
 use lib.ListN.{replicate}
@@ -16,8 +16,6 @@ pub loop-k-init : goal.loop-k-init
 loop-k-init c =
     let A = c.args in (
       rw c.requires.0 (end_most A.n),
-      search rules,
-      refl,
       ap (λ (m : ℕ). filled m (glob7s_at_given A.n A.v A.g A.c3 A.c8 A.s.now) 0 (replicate 14 0·0)) (sub-zero A.end),
     )
 
@@ -34,9 +32,7 @@ loop-k-preserved c =
     let l = c.loop-k in
     let A = c.args in (
       l.invariant.0,
-      search rules,
-      search rules,
-      rw (c.glob7s_at.ensures, c.glob7s_needed-on.ensures) (filled_more A.end (glob7s_at_given A.n A.v A.g A.c3 A.c8 A.s.now) l.k l.x (search rules) ∙ l.invariant.3),
+      rw (c.glob7s_at.ensures, c.glob7s_needed-on.ensures) (filled_more A.end (glob7s_at_given A.n A.v A.g A.c3 A.c8 A.s.now) l.k l.x (search rules) ∙ l.invariant.1),
     )
 
 pub returns : goal.returns
@@ -44,5 +40,5 @@ returns c =
     let l = c.loop-k in
     let A = c.args in
     let f = glob7s_at_given A.n A.v A.g A.c3 A.c8 A.s.now in
-    sym (filled_done A.end f l.k l.x (search rules)) ∙ l.invariant.3
+    sym (filled_done A.end f l.k l.x (search rules)) ∙ l.invariant.1
     ∙ ap (λ (m : ℕ). filled m f 0 (replicate 14 0·0)) c.requires.0 ∙ glob7s_to_end A.n A.v A.g A.c3 A.c8 A.s.now

@@ -1,5 +1,4 @@
 -- `globe7_values` meets its contract: at each turn the rest of the filling gives the whole list.
-use Prim.Native.Nat.{◌-◌}
 use mathlib.Core.Path.{refl, ◌∙◌, sym}
 use borrow.Author.Rules.{rules}
 use Rattle.setting.proofs.Fill.{filled_more, filled_done}
@@ -7,7 +6,7 @@ use Rattle.expansion_values.specs.Sets.{globe7_at_given, globe7_values_given}
 use Rattle.expansion_values.proofs.globe7_values.Goals as goal
 
 pub loop-k-init : goal.loop-k-init
-loop-k-init c = (search rules, refl, refl, refl)
+loop-k-init c = (refl, refl)
 
 pub slice_bounds-globe7_at-end : goal.slice_bounds-globe7_at-end
 slice_bounds-globe7_at-end c = search (rules, c.put_needed_set.ensures.0)
@@ -20,16 +19,12 @@ globe7_at-requires c =
 pub loop-k-preserved : goal.loop-k-preserved
 loop-k-preserved c =
     let l = c.loop-k in
-    let A = c.args in (
-      search rules,
-      c.put_needed_set.ensures.0,
-      search rules,
-      rw (c.globe7_at.ensures, c.globe7_needed-on.ensures) (filled_more 11 (globe7_at_given A.n A.v A.g A.c A.s.now) l.k l.x (search rules) ∙ l.invariant.3),
-    )
+    let A = c.args in
+    (c.put_needed_set.ensures.0, rw (c.globe7_at.ensures, c.globe7_needed-on.ensures) (filled_more 11 (globe7_at_given A.n A.v A.g A.c A.s.now) l.k l.x (search rules) ∙ l.invariant.1))
 
 pub returns : goal.returns
 unfolding globe7_values_given
 returns c =
     let l = c.loop-k in
     let A = c.args in
-    sym (filled_done 11 (globe7_at_given A.n A.v A.g A.c A.s.now) l.k l.x (search rules)) ∙ l.invariant.3
+    sym (filled_done 11 (globe7_at_given A.n A.v A.g A.c A.s.now) l.k l.x (search rules)) ∙ l.invariant.1

@@ -1,5 +1,5 @@
 -- `globe7_values` meets its contract: at each turn the rest of the filling gives the whole list.
-use Prim.Native.Nat.{◌-◌, ◌≤◌}
+use Prim.Native.Nat.{◌-◌}
 use mathlib.Core.Path.{◌≡◌}
 use lib.ListN.{length, replicate}
 use Rattle.numbers.specs.Literals.{0·0}
@@ -9,7 +9,4 @@ use Rattle.expansion_values.proofs.globe7_values.Given as goal
 
 abbrev pub invariant-loop-k : goal.invariant-loop-k
 invariant-loop-k l =
-    (l.k ≤ 11) × (length l.p ≡ 150) × (length l.x ≡ 11) × (filled (11 - l.k) (globe7_at_given l.n l.v l.g l.c l.s) l.k l.x ≡ filled 11 (globe7_at_given l.n l.v l.g l.c l.s) 0 (replicate 11 0·0))
-
-abbrev pub decreases-loop-k : goal.decreases-loop-k
-decreases-loop-k l = 11 - l.k
+    (length l.p ≡ 150) × (filled (11 - l.k) (globe7_at_given l.n l.v l.g l.c l.s) l.k l.x ≡ filled 11 (globe7_at_given l.n l.v l.g l.c l.s) 0 (replicate 11 0·0))

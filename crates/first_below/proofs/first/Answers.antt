@@ -1,4 +1,4 @@
--- `first` meets its contract: no altitude before the `left` last ones is thin enough, the row is as it was, and what is there of the numbers serves.
+-- `first` meets its contract: no altitude before the one with the index k is thin enough, the row is as it was, and what is there of the numbers serves.
 use mathlib.Core.Path.{◌≡◌, refl, sym, ◌∙◌}
 use mathlib.Core.Logic.{⊎_elim}
 use mathlib.Core.Bool.{true}
@@ -23,66 +23,66 @@ use Rattle.first_below.proofs.first.Goals.{then-not-serves, else-not-serves}
 
 -- the facts known there
 abbrev Joined-not-serves : Type 0
-Joined-not-serves = lts.Joined1 tie.the-claims reads.Pre reads.Post goal.the-invariant-loop-left goal.the-decreases-loop-left
+Joined-not-serves = lts.Joined1 tie.the-claims reads.Pre reads.Post goal.the-invariant-loop-k goal.the-decreases-loop-k
 
 -- Behind the test of whether the parts serve, whichever way was taken: they do, and the numbers are as many as they were.
 abbrev There : List ℤ → Input → List Float → ℕ → Parts → List Float → Type 0
-There w n alts left h xs = Served w n h xs × (serves_of h (alts ‼ (length alts - left)) ≡ true) × (length xs ≡ 234)
+There w n alts k h xs = Served w n h xs × (serves_of h (alts ‼ k) ≡ true) × (length xs ≡ 234)
 
-there_is : (c : Joined-not-serves) → There c.args.w c.args.n c.args.alts.now c.loop-left.left c.if-not-serves.there c.if-not-serves.numbers
+there_is : (c : Joined-not-serves) → There c.args.w c.args.n c.args.alts.now c.loop-k.k c.if-not-serves.there c.if-not-serves.numbers
 there_is c =
     let A = c.args in
-    let at = c.loop-left in
+    let at = c.loop-k in
     elim c.if-not-serves.branch [
       | then-not-serves w ↦
-          grown_is A.w A.n at.there _ at.numbers at.invariant.4 at.invariant.7 c.if-not-serves.there c.if-not-serves.numbers
+          grown_is A.w A.n at.there _ at.numbers at.invariant.3 at.invariant.6 c.if-not-serves.there c.if-not-serves.numbers
           (w.there-is ∙ w.grown-there.ensures.0) (w.numbers-is ∙ w.grown-there.ensures.1)
       | else-not-serves w ↦
-          stayed_is A.w A.n at.there _ at.numbers at.invariant.4 at.invariant.7 c.serves.result c.serves.ensures w.if-not-serves.false-raw
+          stayed_is A.w A.n at.there _ at.numbers at.invariant.3 at.invariant.6 c.serves.result c.serves.ensures w.if-not-serves.false-raw
           c.if-not-serves.there c.if-not-serves.numbers w.there-is w.numbers-is
     ]
 
-pub loop-left-init : goal.loop-left-init
-loop-left-init c =
+pub loop-k-init : goal.loop-k-init
+loop-k-init c =
     let flags = c.tselec-f in
     let A = c.args in
-    (search rules, refl, c.requires.0, refl, refl, effect_of A.w A.n flags.result 0 flags.ensures, effect_of A.w A.n flags.result 15 flags.ensures, nothing_served A.w A.n c.no_parts-there.result _ c.no_parts-there.ensures, start A.w A.n A.alts.now A.level)
+    (refl, c.requires.0, refl, refl, effect_of A.w A.n flags.result 0 flags.ensures, effect_of A.w A.n flags.result 15 flags.ensures, nothing_served A.w A.n c.no_parts-there.result _ c.no_parts-there.ensures, start A.w A.n A.alts.now A.level)
 
 pub slice_bounds-row_on-end : goal.slice_bounds-row_on-end
 slice_bounds-row_on-end c = sym (there_is c.before.before).2
 
 pub row_on-requires : goal.row_on-requires
-row_on-requires c = ((there_is c.before.before.before).2, c.loop-left.invariant.1)
+row_on-requires c = ((there_is c.before.before.before).2, c.loop-k.invariant.0)
 
 pub returns-then-taken : goal.returns-then-taken
 unfolding first_of
 returns-then-taken c =
     let t = c.taken in
     let row = c.row_on in
-    let at = c.loop-left in
+    let at = c.loop-k in
     let first = c in
     let A = first.args in
     let there = there_is c.before.before.before.before.before.before.before.before.before.before.before in
-    let r = row_is A.w A.n c.if-not-serves.there _ c.if-not-serves.numbers _ _ _ there.0 (at_most 0 A.alts.now _ first.requires.1 (omega arith)) there.1 at.invariant.5 at.invariant.6 row.ensures in
-    thin A.w A.n A.alts.now A.level _ at.left at.invariant.0 c.loop-left-test.true r
-    t.result t.ensures.0 at.row _ t.ensures.1 at.invariant.8 c.if-taken.true
+    let r = row_is A.w A.n c.if-not-serves.there _ c.if-not-serves.numbers _ _ _ there.0 (at_most 0 A.alts.now _ first.requires.1 (omega arith)) there.1 at.invariant.4 at.invariant.5 row.ensures in
+    thin A.w A.n A.alts.now A.level _ at.k (search rules) r
+    t.result t.ensures.0 at.row _ t.ensures.1 at.invariant.7 c.if-taken.true
 
-pub loop-left-preserved : goal.loop-left-preserved
-loop-left-preserved c =
+pub loop-k-preserved : goal.loop-k-preserved
+loop-k-preserved c =
     let t = c.taken in
     let row = c.row_on in
-    let at = c.loop-left in
+    let at = c.loop-k in
     let first = c in
     let A = first.args in
     let there = there_is c.before.before.before.before.before.before.before.before.before.before.before in
-    let r = row_is A.w A.n c.if-not-serves.there _ c.if-not-serves.numbers _ _ _ there.0 (at_most 0 A.alts.now _ first.requires.1 (omega arith)) there.1 at.invariant.5 at.invariant.6 row.ensures in
+    let r = row_is A.w A.n c.if-not-serves.there _ c.if-not-serves.numbers _ _ _ there.0 (at_most 0 A.alts.now _ first.requires.1 (omega arith)) there.1 at.invariant.4 at.invariant.5 row.ensures in
     let s =
-    thick A.w A.n A.alts.now A.level _ at.left at.invariant.0 c.loop-left-test.true r
-    t.result t.ensures.0 at.row _ t.ensures.1 at.invariant.8 c.if-taken.false in
-    (search rules, search rules, search rules, s.0 ∙ at.invariant.3, there.2, at.invariant.5, at.invariant.6, there.0, s.1)
+    thick A.w A.n A.alts.now A.level _ at.k (search rules) r
+    t.result t.ensures.0 at.row _ t.ensures.1 at.invariant.7 c.if-taken.false in
+    (search rules, search rules, s.0 ∙ at.invariant.2, there.2, at.invariant.4, at.invariant.5, there.0, s.1)
 
 pub returns : goal.returns
 unfolding first_of
 returns c =
-    let at = c.loop-left in
-    (none_left _ _ at.left _ (omega arith) ∙ at.invariant.8, at.invariant.3)
+    let at = c.loop-k in
+    (none_left _ _ (length c.args.alts.now - at.k) at.k (omega arith) ∙ at.invariant.7, at.invariant.2)

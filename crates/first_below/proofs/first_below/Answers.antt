@@ -1,27 +1,22 @@
 -- `first_below` meets its contract.
-use mathlib.Core.Path.{sym, ◌∙◌}
-use borrow.Author.Tests.{not-true, not-false}
-use Rattle.atmosphere.proofs.Laws.{verdict}
+use Rattle.std.specs.Prelude.{Err}
+use Rattle.std.proofs.Common.{sym, ap, ◌∙◌, arith, rules}
+use Rattle.std.proofs.lemmas.Result.{err_from_is_err_and}
+use Rattle.refusals.specs.Refusals.{accepted_of}
 use Rattle.first_below.proofs.Laws.{checked_row, refused, answered}
 use Rattle.first_below.proofs.first_below.Goals as goal
 
-pub returns-then-not-accepted : goal.returns-then-not-accepted
-returns-then-not-accepted c =
-    let v = c.accepted in
-    let k = c.checked-a in
+pub returns-in_err-checked : goal.returns-in_err-checked
+returns-in_err-checked c =
+    let p = err_from_is_err_and c.from_residual.result c.from_residual.ensures.1 in
     let A = c.args in
-    refused A.w A.n A.alts.now A.level A.row.now c.refusal.result k.result k.ensures (sym v.ensures ∙ not-true _ c.if-not-accepted.true-raw) c.refusal.ensures
+    let k = refused A.w A.n A.alts.now A.level A.row.now _ c.in_err-checked.ensures in
+    (p.1 ∙ ap Err p.2 ∙ k.0, k.1)
 
 pub first-requires : goal.first-requires
-first-requires c =
-    let v = c.accepted in
-    let k = c.checked-a in
-    checked_row _ _ _ _ (verdict k.ensures v.ensures (not-false _ c.if-not-accepted.false-raw))
+first-requires c = checked_row _ _ _ _ (sym (ap accepted_of c.in_ok-checked.ensures))
 
 pub returns : goal.returns
 returns c =
-    let f = c.first in
-    let v = c.accepted in
-    let k = c.checked-a in
     let A = c.args in
-    answered A.w A.n A.alts.now A.level A.row.now f.result _ (verdict k.ensures v.ensures (not-false _ c.if-not-accepted.false-raw)) f.ensures.0 f.ensures.1
+    answered A.w A.n A.alts.now A.level A.row.now _ _ (sym (ap accepted_of c.in_ok-checked.ensures)) c.first.ensures.0 c.first.ensures.1

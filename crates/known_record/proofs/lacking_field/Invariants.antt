@@ -5,7 +5,4 @@ use Rattle.known_record.specs.KnownRecord.{lowest_field, lacking, lacking_field}
 use Rattle.known_record.proofs.lacking_field.Given as goal
 
 abbrev pub invariant-loop-i : goal.invariant-loop-i
-invariant-loop-i l = (l.i ≤ 10) × (lowest_field (lacking l.counts l.known l.no_history) l.i (11 - l.i) 17 ≡ lacking_field l.counts l.known l.no_history)
-
-abbrev pub decreases-loop-i : goal.decreases-loop-i
-decreases-loop-i l = 10 - l.i
+invariant-loop-i l = lowest_field (lacking l.counts l.known l.no_history) l.i (11 - l.i) 17 ≡ lacking_field l.counts l.known l.no_history

@@ -14,17 +14,14 @@ use Rattle.known_record.specs.KnownRecord.{mark_of, marks_of}
 use Rattle.known_record.proofs.put_marks.Goals as goal
 
 pub loop-i-init : goal.loop-i-init
-loop-i-init c = (search rules, search rules, below_none _)
+loop-i-init c = below_none _
 
 pub loop-i-preserved : goal.loop-i-preserved
 loop-i-preserved c =
     let at = c.loop-i in
-    let z = to_z w32 (of_z w32 c.mark_at.result) in (
-      search rules,
-      search rules,
-      below_more _ _ (λ k h. get_or-set_other at.out at.i k z (pos 0) (ne_of_lt h) ∙ at.invariant.2 k h)
-          (get_or-set_same at.out at.i z (pos 0) (search rules) ∙ (search rules) ∙ c.mark_at.ensures),
-    )
+    let z = to_z w32 (of_z w32 c.mark_at.result) in
+    below_more _ _ (λ k h. get_or-set_other at.out at.i k z (pos 0) (ne_of_lt h) ∙ at.invariant k h)
+    (get_or-set_same at.out at.i z (pos 0) (search rules) ∙ (search rules) ∙ c.mark_at.ensures)
 
 pub returns : goal.returns
 unfolding marks_of
@@ -32,4 +29,4 @@ returns c =
     let at = c.loop-i in
     let marks = c.args.marks in
     let seventeen : length marks ≡ 17 = search rules in
-    ext_get_or (pos 0) _ _ (at.invariant.1 ∙ sym (length-map marks mark_of ∙ seventeen)) (λ k h. at.invariant.2 k (omega arith))
+    ext_get_or (pos 0) _ _ ((search rules) ∙ sym (length-map marks mark_of ∙ seventeen)) (λ k h. at.invariant k (omega arith))

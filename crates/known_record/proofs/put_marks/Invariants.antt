@@ -7,7 +7,4 @@ use Rattle.known_record.specs.KnownRecord.{marks_of}
 use Rattle.known_record.proofs.put_marks.Given as goal
 
 abbrev pub invariant-loop-i : goal.invariant-loop-i
-invariant-loop-i l = (l.i ≤ 17) × (length l.out ≡ 17) × ((k : ℕ) → k < l.i → get_or l.out k (pos 0) ≡ get_or (marks_of l.marks) k (pos 0))
-
-abbrev pub decreases-loop-i : goal.decreases-loop-i
-decreases-loop-i l = 17 - l.i
+invariant-loop-i l = (k : ℕ) → k < l.i → get_or l.out k (pos 0) ≡ get_or (marks_of l.marks) k (pos 0)

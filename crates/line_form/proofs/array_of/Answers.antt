@@ -4,4 +4,4 @@ use Rattle.line_form.proofs.array_of.Goals as goal
 
 pub returns : goal.returns
 unfolding array_of
-returns c = simp (← c.thousandths_at-g.ensures, ← c.thousandths_at-f.ensures, ← c.thousandths_at-e.ensures, ← c.thousandths_at-d.ensures, ← c.thousandths_at-c.ensures, ← c.thousandths_at-b.ensures, ← c.thousandths_at-a.ensures)
+returns c = simp (← c.thousandths_at.ensures, ← c.thousandths_at-2.ensures, ← c.thousandths_at-3.ensures, ← c.thousandths_at-4.ensures, ← c.thousandths_at-5.ensures, ← c.thousandths_at-6.ensures, ← c.thousandths_at-7.ensures)

@@ -1,12 +1,10 @@
--- `more` meets its contract: m digits may still follow.
+-- `more` meets its contract: after i digits, 8 less i may still follow.
 use mathlib.Core.Path.{◌≡◌}
-use Prim.Native.Nat.{◌+◌, ◌*◌, ◌^◌, ◌≤◌}
+use Prim.Native.Nat.{◌+◌, ◌-◌, ◌*◌, ◌^◌, ◌≤◌}
 use lib.ListN.{length}
 use Rattle.line_form.specs.Grammar.{more_of}
 use Rattle.line_form.proofs.more.Given as goal
 
-abbrev pub invariant-loop-m : goal.invariant-loop-m
-invariant-loop-m l = ((l.v + 1) * 10 ^ l.m ≤ 1000000000) × (l.k ≤ length l.s) × (l.m ≤ 8) × (more_of l.m l.s l.k l.v ≡ more_of 8 l.s l.at l.first)
-
-abbrev pub decreases-loop-m : goal.decreases-loop-m
-decreases-loop-m l = l.m
+abbrev pub invariant-loop-i : goal.invariant-loop-i
+invariant-loop-i l =
+    ((l.v + 1) * 10 ^ (8 - l.i) ≤ 1000000000) × (l.at + l.i ≤ length l.s) × (more_of (8 - l.i) l.s (l.at + l.i) l.v ≡ more_of 8 l.s l.at l.first)

@@ -7,7 +7,7 @@ use Rattle.line_form.proofs.number.Goals as goal
 pub returns-then-here : goal.returns-then-here
 returns-then-here c =
     let h = here_inside _ _ _ _ c.here.ensures c.if-here.true in
-    (nought _ _ _ c.here.ensures c.if-here.true, omega arith)
+    record { value = nought _ _ _ c.here.ensures c.if-here.true; bound = omega arith }
 
 pub positive-requires : goal.positive-requires
 positive-requires c =
@@ -16,8 +16,8 @@ positive-requires c =
 
 pub returns-then-here-2 : goal.returns-then-here-2
 returns-then-here-2 c =
-    (c.positive.ensures.0 ∙ below_nought _ _ _ c.here.ensures c.if-here.false _ c.here-2.ensures c.if-here-2.true, c.positive.ensures.1)
+    record { value = c.positive.ensures.value ∙ below_nought _ _ _ c.here.ensures c.if-here.false _ c.here-2.ensures c.if-here-2.true; bound = c.positive.ensures.bound }
 
 pub returns : goal.returns
 returns c =
-    (c.positive-2.ensures.0 ∙ above_nought _ _ _ c.here.ensures c.if-here.false _ c.here-2.ensures c.if-here-2.false, c.positive-2.ensures.1)
+    record { value = c.positive-2.ensures.value ∙ above_nought _ _ _ c.here.ensures c.if-here.false _ c.here-2.ensures c.if-here-2.false; bound = c.positive-2.ensures.bound }

@@ -1,6 +1,6 @@
 -- `found` meets its contract: the first n numbers are in the table, and the logs from i and from j on give the others.
 use mathlib.Core.Path.{refl}
-use Prim.Native.Nat.{◌<◌, ◌+◌, ◌-◌}
+use Prim.Native.Nat.{◌<◌, ◌+◌}
 use native.Mathlib.Omega.{arith}
 use borrow.Author.Rules.{rules}
 use lib.ListN.{length}
@@ -59,7 +59,7 @@ loop-k-preserved c =
       second_fits A.s1.now A.b1.now A.s2.now A.b2.now c.requires.0 c.requires.1 A.tolerance at.i at.j at.invariant.0 at.invariant.1 w k.result p.result q.result k.ensures p.ensures.0 q.ensures.0,
       omega arith,
       search rules,
-      turn A.s1.now A.b1.now A.s2.now A.b2.now c.requires.0 c.requires.1 A.tolerance at.i at.j at.invariant.0 at.invariant.1 w k.result p.result q.result k.ensures p.ensures.0 q.ensures.0 at.n at.table (omega arith) at.invariant.3 at.invariant.4,
+      turn A.s1.now A.b1.now A.s2.now A.b2.now c.requires.0 c.requires.1 A.tolerance at.i at.j at.invariant.0 at.invariant.1 w k.result p.result q.result k.ensures p.ensures.0 q.ensures.0 at.n _ at.table c.number.ensures (omega arith) at.invariant.3 at.invariant.4,
     )
 
 pub returns : goal.returns

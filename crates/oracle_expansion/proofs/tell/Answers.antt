@@ -1,12 +1,14 @@
 -- `tell` meets its contract.
-use borrow.Author.Tests.{eq-eqb, ne_eqb}
+use mathlib.Core.Path.{refl, ap₂, ◌∙◌}
+use Prim.Native.Nat.{ℕ}
+use Rattle.host_record.specs.Record.{packed_of}
 use Rattle.oracle_expansion.specs.OracleExpansion.{expanded_after}
 use Rattle.oracle_expansion.proofs.tell.Goals as goal
 
-pub returns-then-e-ne0 : goal.returns-then-e-ne0
+pub returns-in-Ok : goal.returns-in-Ok
 unfolding expanded_after
-returns-then-e-ne0 c = (c.packed-c.ensures, simp (ne_eqb _ _ c.if-e-ne0.true))
+returns-in-Ok c = rw c.in-Ok.is (refl, c.put.ensures)
 
-pub returns : goal.returns
+pub returns-in-Err : goal.returns-in-Err
 unfolding expanded_after
-returns c = (c.packed-c.ensures, simp (eq-eqb _ _ c.if-e-ne0.false) c.put.ensures)
+returns-in-Err c = rw c.in-Err.is (c.packed.ensures ∙ ap₂ (λ (n k : ℕ). packed_of n k) c.number.ensures c.place.ensures, refl)

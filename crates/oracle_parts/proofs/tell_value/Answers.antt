@@ -2,12 +2,8 @@
 use Rattle.oracle_parts.proofs.Told.{value_refused, value_given}
 use Rattle.oracle_parts.proofs.tell_value.Goals as goal
 
-pub returns-then-n-ne0 : goal.returns-then-n-ne0
-returns-then-n-ne0 c =
-    let A = c.args in
-    value_refused A.a A.out.now _ _ _ c.value_refusal-n.ensures c.if-n-ne0.true c.value_place.ensures c.packed.ensures
+pub returns-in-Ok : goal.returns-in-Ok
+returns-in-Ok c = rw c.in-Ok.is (value_given _ _ c.requires)
 
-pub returns : goal.returns
-returns c =
-    let A = c.args in
-    value_given A.a A.out.now _ _ c.value_refusal-n.ensures c.if-n-ne0.false c.value.ensures c.requires
+pub returns-in-Err : goal.returns-in-Err
+returns-in-Err c = rw c.in-Err.is (value_refused _ _ _ c.code.ensures)

@@ -1,13 +1,10 @@
 -- `put_state` meets its contract: the numbers below i are written.
 use mathlib.Core.Path.{◌≡◌}
-use Prim.Native.Nat.{ℕ, ◌≤◌, ◌<◌, ◌-◌}
-use lib.ListN.{length, get_or}
+use Prim.Native.Nat.{ℕ, ◌<◌}
+use lib.ListN.{get_or}
 use lib.Ieee.{nan}
 use Rattle.oracle_state.specs.OracleState.{state_number}
 use Rattle.oracle_state.proofs.put_state.Given as goal
 
 abbrev pub invariant-loop-i : goal.invariant-loop-i
-invariant-loop-i l = (l.i ≤ 79) × (length l.out ≡ 79) × ((k : ℕ) → k < l.i → get_or l.out k nan ≡ state_number l.s k)
-
-abbrev pub decreases-loop-i : goal.decreases-loop-i
-decreases-loop-i l = 79 - l.i
+invariant-loop-i l = (k : ℕ) → k < l.i → get_or l.out k nan ≡ state_number l.s k

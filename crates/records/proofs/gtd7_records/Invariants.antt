@@ -1,5 +1,4 @@
 -- `gtd7_records` meets its contract: the records below i are answered, and the season that is kept is right.
-use Prim.Native.Nat.{◌-◌, ◌≤◌}
 use mathlib.Core.Path.{◌≡◌}
 use lib.ListN.{length}
 use Rattle.records.specs.Records.{KeptRight, answers_to, rows_to}
@@ -7,8 +6,5 @@ use Rattle.records.proofs.gtd7_records.Given as goal
 
 abbrev pub invariant-loop-i : goal.invariant-loop-i
 invariant-loop-i l =
-    (l.i ≤ length l.days) × (length l.days ≤ 1152921504606846975) × (length l.answers ≡ length l.initial.answers) × (length l.rows ≡ length l.initial.rows) × KeptRight l.w l.kept l.season
+    KeptRight l.w l.kept l.season
     × (l.answers ≡ answers_to l.w l.days l.fields l.ap_arrays l.i l.initial.answers) × (l.rows ≡ rows_to l.w l.days l.fields l.ap_arrays l.i l.initial.rows)
-
-abbrev pub decreases-loop-i : goal.decreases-loop-i
-decreases-loop-i l = length l.days - l.i

@@ -1,14 +1,10 @@
 -- `fill_places` meets its contract: at each turn the rest of the filling gives the whole.
-use Prim.Native.Nat.{◌-◌, ◌≤◌}
+use Prim.Native.Nat.{◌-◌}
 use mathlib.Core.Path.{◌≡◌}
-use lib.ListN.{length}
 use Rattle.setting.specs.Switches.{filled}
 use Rattle.season.specs.Season.{place_cosine}
 use Rattle.season.proofs.fill_places.Given as goal
 
 abbrev pub invariant-loop-i : goal.invariant-loop-i
 invariant-loop-i l =
-    (l.i ≤ l.end) × (length l.s ≡ 156) × (filled (l.end - l.i) (place_cosine l.doy) l.i l.s ≡ filled (l.end - l.first) (place_cosine l.doy) l.first l.initial.s)
-
-abbrev pub decreases-loop-i : goal.decreases-loop-i
-decreases-loop-i l = l.end - l.i
+    filled (l.end - l.i) (place_cosine l.doy) l.i l.s ≡ filled (l.end - l.first) (place_cosine l.doy) l.first l.initial.s

@@ -1,23 +1,15 @@
--- `splini` meets its contract: each return is a case of the definition.
-use Rattle.spline_calls.specs.Outcome.{counted}
-use Rattle.spline_calls.specs.Calls.{splini_call, three_long}
-use Rattle.spline_calls.proofs.Accept.{counted_in, long_enough}
+-- `splini` meets its contract: the check's refusal, or else the value.
+use mathlib.Core.Path.{ap, ◌∙◌}
+use borrow.Author.Rules.{rules}
+use Rattle.spline_calls.specs.Outcome.{gives}
+use Rattle.spline_calls.specs.Calls.{splini_call}
+use Rattle.spline_calls.proofs.Accept.{stops_at, goes_on}
 use Rattle.spline_calls.proofs.splini.Goals as goal
 
-pub returns-then-n : goal.returns-then-n
-unfolding splini_call three_long counted
-returns-then-n c = simp c.if-n.true
-
-pub returns-then-xa-n : goal.returns-then-xa-n
-unfolding splini_call three_long counted
-returns-then-xa-n c = simp (c.if-n.false, c.if-xa-n.true)
-
-pub splini-yi-requires : goal.splini-yi-requires
-splini-yi-requires c =
-    let p = counted_in _ _ c.if-n.false in
-    let q = long_enough _ _ _ _ c.if-xa-n.false in
-    (p.0, q.0, q.1, q.2)
+pub returns-in_err-check_nodes : goal.returns-in_err-check_nodes
+unfolding splini_call
+returns-in_err-check_nodes c = stops_at _ _ _ _ _ _ _ (search rules) c.in_err-check_nodes.ensures.outcome
 
 pub returns : goal.returns
-unfolding splini_call three_long counted
-returns c = simp (← c.splini-yi.ensures) (simp (c.if-xa-n.false, c.if-n.false))
+unfolding splini_call
+returns c = ap gives c.splini-yi.ensures ∙ goes_on _ _ _ _ _ _ c.in_ok-check_nodes.ensures.outcome

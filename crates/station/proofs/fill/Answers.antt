@@ -1,9 +1,11 @@
 -- `fill` meets its contract.
-use Rattle.station.proofs.Laws.{fill_law}
+use Rattle.std.specs.Prelude.{refl}
+use Rattle.std.proofs.Common.{sym, ap, ◌∙◌, arith, rules}
+use Rattle.std.proofs.lemmas.Result.{err_from_is_err_and}
+use Rattle.refusals.specs.Refusals.{accepted_of}
+use Rattle.station.specs.Station.{filled_of, refilled_of}
 use Rattle.station.proofs.fill.Goals as goal
 
 pub returns : goal.returns
-returns c =
-    let A = c.args in
-    fill_law A.w A.n A.numbers.now _ _ c.record_numbers-r.result _ c.need_of-a.result c.all_parts-p.result
-    c.requires c.refill.ensures c.put.ensures c.record_numbers-r.ensures c.put_values.ensures c.need_of-a.ensures c.all_parts-p.ensures
+unfolding filled_of
+returns c = c.refill.ensures ∙ rw (c.copy_from_slice.ensures.after, c.record_numbers.ensures, c.put_values.ensures) refl

@@ -1,14 +1,15 @@
 -- `take_row` meets its contract.
-use borrow.Author.Tests.{not-true, not-false}
+use Rattle.std.specs.Prelude.{Err}
+use Rattle.std.proofs.Common.{sym, ap, ◌∙◌}
+use Rattle.std.proofs.lemmas.Result.{err_from_is_err_and}
+use Rattle.refusals.specs.Refusals.{accepted_of}
 use Rattle.station_answer.proofs.Laws.{row_refused, row_taken_lem}
 use Rattle.station_answer.proofs.take_row.Goals as goal
 
-pub returns-then-not-accepted : goal.returns-then-not-accepted
-returns-then-not-accepted c =
-    let j = c.judge-a in
-    row_refused _ _ _ j.result c.accepted.result j.ensures c.accepted.ensures (not-true _ c.if-not-accepted.true-raw)
+pub returns-in_err-judge : goal.returns-in_err-judge
+returns-in_err-judge c =
+    let p = err_from_is_err_and c.from_residual.result c.from_residual.ensures.1 in
+    (p.1 ∙ ap Err p.2 ∙ c.in_err-judge.ensures, row_refused _ _ _ (sym (ap accepted_of c.in_err-judge.ensures)))
 
 pub returns : goal.returns
-returns c =
-    let j = c.judge-a in
-    row_taken_lem _ _ _ j.result c.accepted.result j.ensures c.accepted.ensures _ (not-false _ c.if-not-accepted.false-raw) c.put_whole.ensures
+returns c = (c.in_ok-judge.ensures, row_taken_lem _ _ _ _ (sym (ap accepted_of c.in_ok-judge.ensures)) c.put_whole.ensures)

@@ -5,7 +5,4 @@ use Rattle.switch_rows.specs.Rows.{same_from, same_expansions}
 use Rattle.switch_rows.proofs.same_expansions.Given as goal
 
 abbrev pub invariant-loop-i : goal.invariant-loop-i
-invariant-loop-i l = (l.i ≤ 15) × (same_from (15 - l.i) l.a l.b l.i ≡ same_expansions l.a l.b)
-
-abbrev pub decreases-loop-i : goal.decreases-loop-i
-decreases-loop-i l = 15 - l.i
+invariant-loop-i l = same_from (15 - l.i) l.a l.b l.i ≡ same_expansions l.a l.b

@@ -10,21 +10,13 @@ one_more b r i h e = ap (λ (x : Float). mul binary64 x b) e ∙ ap (power_produ
     next : (i : ℕ) → 1 ≤ i → suc (i - 1) ≡ i + 1 - 1
     next i h = omega arith
 
-same : (i n : ℕ) → i ≤ n → n ≤ i → i - 1 ≡ n - 1
-same i n h k = omega arith
+pub loop-init : goal.loop-init
+loop-init c = refl
 
-pub loop-i-init : goal.loop-i-init
-loop-i-init c = (omega arith, omega arith, refl)
-
-pub overflow_add-i : goal.overflow_add-i
-overflow_add-i c = omega arith
-
-pub loop-i-smaller : goal.loop-i-smaller
-loop-i-smaller c = omega arith
-
-pub loop-i-preserved : goal.loop-i-preserved
-loop-i-preserved c = (omega arith, omega arith, one_more c.args.b c.loop-i.r c.loop-i.i c.loop-i.invariant.0 c.loop-i.invariant.2)
+pub loop-preserved : goal.loop-preserved
+loop-preserved c = one_more c.args.b c.loop.r c.loop.counter (omega arith) c.loop.invariant
 
 pub returns : goal.returns
 returns c =
-    c.loop-i.invariant.2 ∙ ap (power_product c.args.b) (same c.loop-i.i c.args.n c.loop-i.invariant.1 c.loop-i-test.false)
+    let e : c.loop.counter - 1 ≡ c.args.n - 1 = omega arith in
+    c.loop.invariant ∙ ap (power_product c.args.b) e

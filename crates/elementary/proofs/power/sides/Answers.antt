@@ -6,15 +6,15 @@ use Rattle.elementary.proofs.power.sides.Goals as goal
 
 pub returns-then-e : goal.returns-then-e
 unfolding of_bits
-returns-then-e c =
+returns-then-e g c =
     sym (sides_above c.args.above c.args.below c.args.b c.args.e c.if-e.true)
 
 pub returns-then-e-2 : goal.returns-then-e-2
 unfolding of_bits
-returns-then-e-2 c =
+returns-then-e-2 g c =
     sym (sides_below c.args.above c.args.below c.args.b c.args.e c.if-e.false c.if-e-2.true)
 
 pub returns : goal.returns
 unfolding of_bits
-returns c =
+returns g c =
     c.rest.ensures ∙ sym (sides_rest c.args.above c.args.below c.args.b c.args.e c.if-e.false c.if-e-2.false)

@@ -11,7 +11,7 @@ returns c =
       ← c.first_five-xs.ensures,
       ← c.pow-g.ensures,
       ← c.pow-q.ensures,
-      ← c.layer5-l.ensures,
+      ← c.layer-l.ensures,
       ← c.gradient-dta.ensures,
       ← c.log-lt.ensures,
       ← c.bates-tt.ensures,

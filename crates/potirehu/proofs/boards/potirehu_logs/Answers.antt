@@ -1,4 +1,5 @@
 -- `potirehu_logs` meets its contract.
+use Rattle.host_record.specs.Record.{code_of}
 use mathlib.Core.Path.{◌∙◌, ap}
 use Rattle.potirehu.specs.Boards.{log_code_of}
 use Rattle.potirehu.proofs.boards.potirehu_logs.Goals as goal

@@ -1,30 +1,31 @@
 -- `potirehu_gtd7_with` meets its contract.
-use mathlib.Core.Path.{sym, ◌∙◌}
-use borrow.Author.Tests.{not-true, not-false}
+use Rattle.host_record.specs.Record.{code_of}
+use Rattle.refusals.specs.Refusals.{accepted_of}
+use mathlib.Core.Path.{sym, ◌∙◌, ap}
 use mir.Facts.{to_z-of_z}
 use Rattle.host_record.proofs.NineLaws.{nine_long, fields_long, switches_long}
 use Rattle.host_record.proofs.SliceLaws.{dated}
 use Rattle.potirehu.proofs.ConstantLaws.{not_called, called}
 use Rattle.potirehu.proofs.constants.potirehu_gtd7_with.Goals as goal
 
-pub returns-then-not-accepted : goal.returns-then-not-accepted
-returns-then-not-accepted c =
-    let k = c.lengths_with-l in
+pub returns-in-Err : goal.returns-in-Err
+returns-in-Err c =
+    let k = c.lengths_with in
     let A = c.args in
     not_called A.nine.now A.year A.doy A.fields.now A.ap_array.now A.switches.now A.row.now k.result k.ensures
-    (sym c.accepted.ensures ∙ not-true _ c.if-not-accepted.true-raw) _ c.code.ensures
+    (ap accepted_of c.in-Err.is) _ (c.code.ensures ∙ ap code_of (sym c.in-Err.is))
 
 pub nine_of-c-requires : goal.nine_of-c-requires
 nine_of-c-requires c =
-    nine_long _ _ _ _ _ c.lengths_with-l.result c.lengths_with-l.ensures (sym c.accepted.ensures ∙ not-false _ c.if-not-accepted.false-raw)
+    nine_long _ _ _ _ _ c.lengths_with.result c.lengths_with.ensures (ap accepted_of c.in_default.is)
 
 pub switch_row-w-requires : goal.switch_row-w-requires
 switch_row-w-requires c =
-    switches_long _ _ _ _ _ c.lengths_with-l.result c.lengths_with-l.ensures (sym c.accepted.ensures ∙ not-false _ c.if-not-accepted.false-raw)
+    switches_long _ _ _ _ _ c.lengths_with.result c.lengths_with.ensures (ap accepted_of c.in_default.is)
 
 pub record_of-n-requires : goal.record_of-n-requires
 record_of-n-requires c =
-    fields_long _ _ _ _ _ c.lengths_with-l.result c.lengths_with-l.ensures (sym c.accepted.ensures ∙ not-false _ c.if-not-accepted.false-raw)
+    fields_long _ _ _ _ _ c.lengths_with.result c.lengths_with.ensures (ap accepted_of c.in_default.is)
 
 pub returns : goal.returns
 returns c =
@@ -32,10 +33,10 @@ returns c =
     let n = c.record_of-n in
     let w = c.switch_row-w in
     let m = c.nine_of-c in
-    let k = c.lengths_with-l in
+    let k = c.lengths_with in
     let A = c.args in
     called A.nine.now A.year A.doy A.fields.now A.ap_array.now A.switches.now A.row.now k.result k.ensures
-    (sym c.accepted.ensures ∙ not-false _ c.if-not-accepted.false-raw) _ g.result m.result n.result w.result _
+    (ap accepted_of c.in_default.is) _ g.result m.result n.result w.result _
     c.code-2.ensures g.ensures.0 g.ensures.1 m.ensures
     (dated A.fields.now A.ap_array.now n.result _ _ A.year A.doy n.ensures (to_z-of_z c.ranges.year) (to_z-of_z c.ranges.doy))
     w.ensures

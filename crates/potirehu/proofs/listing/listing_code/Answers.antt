@@ -1,7 +1,9 @@
 -- `listing_code` meets its contract.
+use Prim.Native.Nat.{ℕ}
 use mathlib.Core.Path.{sym, ◌∙◌, ap}
+use Rattle.host_record.specs.Record.{packed_of}
 use Rattle.potirehu.specs.Crossings.{listing_code}
 use Rattle.potirehu.proofs.listing.listing_code.Goals as goal
 
-pub returns-in-Refused : goal.returns-in-Refused
-returns-in-Refused c = c.packed.ensures ∙ sym (ap listing_code c.in-Refused.is)
+pub returns-in-Err : goal.returns-in-Err
+returns-in-Err c = c.packed.ensures ∙ ap (λ (n : ℕ). packed_of n c.in-Err.r.place) c.number.ensures ∙ sym (ap listing_code c.in-Err.is)

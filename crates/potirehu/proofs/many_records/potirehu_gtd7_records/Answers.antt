@@ -1,4 +1,5 @@
 -- `potirehu_gtd7_records` meets its contract.
+use mathlib.Core.Path.{ap}
 use Rattle.potirehu.proofs.RecordLaws.{refused, met, taken}
 use Rattle.potirehu.proofs.many_records.potirehu_gtd7_records.Goals as goal
 

@@ -1,15 +1,14 @@
 -- `node_xs` meets its contract.
-use mathlib.Core.Path.{refl, sym, ◌∙◌}
-use Prim.Native.Nat.{◌-◌}
+use mathlib.Core.Path.{sym, ◌∙◌}
 use native.Mathlib.Numerals.{unary_clauses}
-use borrow.Author.Rules.{rules}
+use native.Mathlib.Omega.{arith}
 use Rattle.profile.specs.Curve.{node_xs_of}
 use Rattle.profile.proofs.Walk.{nodes_more, nodes_done}
 use Rattle.profile.proofs.curve.node_xs.Goals as goal
 
 pub loop-k-init : goal.loop-k-init
 unfolding node_xs_of
-loop-k-init c = (search rules, refl, simp unary_clauses)
+loop-k-init c = simp unary_clauses
 
 pub zeta-requires : goal.zeta-requires
 zeta-requires c = tt
@@ -17,7 +16,7 @@ zeta-requires c = tt
 pub loop-k-preserved : goal.loop-k-preserved
 loop-k-preserved c =
     let at = c.loop-k in
-    (search rules, search rules, rw c.zeta.ensures (sym (nodes_more _ _ _ _ _ at.k at.xs c.loop-k-test.true) ∙ at.invariant.2))
+    rw c.zeta.ensures (sym (nodes_more _ _ _ _ _ at.k at.xs (omega arith)) ∙ at.invariant)
 
 pub returns : goal.returns
-returns c = sym (nodes_done _ _ _ _ _ _ _ c.loop-k-test.false) ∙ c.loop-k.invariant.2
+returns c = sym (nodes_done _ _ _ _ _ _ _ (omega arith)) ∙ c.loop-k.invariant

@@ -1,13 +1,9 @@
 -- `node_xs` meets its contract.
 use mathlib.Core.Path.{◌≡◌}
-use Prim.Native.Nat.{◌≤◌, ◌-◌}
-use lib.ListN.{length}
+use Prim.Native.Nat.{◌-◌}
 use Rattle.profile.specs.Curve.{nodes_from, node_xs_of}
 use Rattle.profile.proofs.curve.node_xs.Given as goal
 
 abbrev pub invariant-loop-k : goal.invariant-loop-k
 invariant-loop-k l =
-    (l.k ≤ l.n) × (length l.xs ≡ 10) × (nodes_from (l.n - l.k) l.re l.zn l.z1 l.zgdif l.k l.xs ≡ node_xs_of l.re l.zn l.n l.z1 l.zgdif)
-
-abbrev pub decreases-loop-k : goal.decreases-loop-k
-decreases-loop-k l = l.n - l.k
+    nodes_from (l.n - l.k) l.re l.zn l.z1 l.zgdif l.k l.xs ≡ node_xs_of l.re l.zn l.n l.z1 l.zgdif

@@ -4,7 +4,7 @@ use Rattle.profile.proofs.point.point_of.Goals as goal
 
 pub returns-then-z-za : goal.returns-then-z-za
 unfolding point_of
-returns-then-z-za c = simp (← c.on_curve.ensures, ← c.floored5-l.ensures, ← c.gradient-dta.ensures, ← c.bates-tt.ensures, ← c.zeta-zg2.ensures, ← c.pick-zz.ensures) (simp (c.if-z-za.true))
+returns-then-z-za c = simp (← c.on_curve.ensures, ← c.floored-l.ensures, ← c.gradient-dta.ensures, ← c.bates-tt.ensures, ← c.zeta-zg2.ensures, ← c.pick-zz.ensures) (simp (c.if-z-za.true))
 
 pub returns-then-z-za-2 : goal.returns-then-z-za-2
 unfolding point_of

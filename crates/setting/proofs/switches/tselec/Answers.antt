@@ -9,18 +9,15 @@ use Rattle.setting.proofs.Fill.{filled_more, filled_done, main_at, cross_at, fla
 use Rattle.setting.proofs.switches.tselec.Goals as goal
 
 pub loop-i-init : goal.loop-i-init
-loop-i-init c = (search rules, refl, refl, refl, refl)
+loop-i-init c = (refl, refl)
 
 pub loop-i-preserved : goal.loop-i-preserved
 loop-i-preserved c =
     let l = c.loop-i in
     let w = c.args.w in
     let e : to_z w32 (of_z w32 (given w l.i)) ≡ given w l.i = search rules in (
-      search rules,
-      search rules,
-      search rules,
-      rw (c.main_of.ensures, e) (filled_more 24 (main_at w) l.i l.sw (search rules) ∙ l.invariant.3),
-      rw (c.cross_of.ensures, e) (filled_more 24 (cross_at w) l.i l.swc (search rules) ∙ l.invariant.4),
+      rw (c.main_of.ensures, e) (filled_more 24 (main_at w) l.i l.sw (search rules) ∙ l.invariant.0),
+      rw (c.cross_of.ensures, e) (filled_more 24 (cross_at w) l.i l.swc (search rules) ∙ l.invariant.1),
     )
 
 pub returns : goal.returns
@@ -28,6 +25,6 @@ returns c =
     let l = c.loop-i in
     let w = c.args.w in
     flags_of_lem w l.sw l.swc c.nine_of-nine.result
-    (sym (filled_done 24 (main_at w) l.i l.sw (search rules)) ∙ l.invariant.3)
-    (sym (filled_done 24 (cross_at w) l.i l.swc (search rules)) ∙ l.invariant.4)
+    (sym (filled_done 24 (main_at w) l.i l.sw (search rules)) ∙ l.invariant.0)
+    (sym (filled_done 24 (cross_at w) l.i l.swc (search rules)) ∙ l.invariant.1)
     c.nine_of-nine.ensures

@@ -8,8 +8,4 @@ use Rattle.setting.proofs.switches.tselec.Given as goal
 
 abbrev pub invariant-loop-i : goal.invariant-loop-i
 invariant-loop-i l =
-    (l.i ≤ 24) × (length l.sw ≡ 24) × (length l.swc ≡ 24) ×
     (filled (24 - l.i) (main_at l.w) l.i l.sw ≡ filled 24 (main_at l.w) 0 zeros) × (filled (24 - l.i) (cross_at l.w) l.i l.swc ≡ filled 24 (cross_at l.w) 0 zeros)
-
-abbrev pub decreases-loop-i : goal.decreases-loop-i
-decreases-loop-i l = 24 - l.i
