@@ -31,7 +31,7 @@ BY_CRATES = (
     ("numbers (demand 2): tables, switches, seasons and expansions", "tables terms legendre activity needed_ setting views switch_ season expansion oracle_"),
     ("numbers (demand 2): mixing, splines and profiles", "mixing spline profile layers places"),
     ("numbers (demand 2): gts7, gtd7, State and gtd7d", "species gts7_ stages thermosphere plan state_ model_ lower_ footing atmosphere drag"),
-    ("a record: what is refused, what counts, what is known", "acceptance parameter_answer shutoff counts known"),
+    ("a record: what is refused, what counts, what is known", "refusals acceptance parameter_answer shutoff counts known"),
     ("stations", "station stored region"),
     ("lists: many records, columns, crossings, the first altitude", "record altitudes column crossings first_below"),
     ("descents, bands and the boards' logs", "descent band logs"),

@@ -41,7 +41,9 @@ pub fn first_unfit(xs: &[f64]) -> Option<usize>
     xs.iter().position(|x| !finite(*x))
 }
 
-// The lowest field that is not finite, of those from sec to ap and, where it is there, the history.
+// The lowest field that is not finite, of those from sec to ap and, where it is there, the history. Like `outside` it has a frame of its own, so that its list
+// is off the stack when a call works on.
+#[inline(never)]
 pub fn unfit(n: Input) -> Option<usize>
     ensures { result ≡ field_at (unfit_of n) }
 {
@@ -105,6 +107,7 @@ pub fn first_activity_outside(xs: &[f64]) -> Option<usize>
 }
 
 // The lowest field out of its range, the history's values among them where it is there.
+#[inline(never)]
 pub fn outside(n: Input) -> Option<usize>
     ensures { result ≡ field_at (outside_of n) }
 {

@@ -1,21 +1,22 @@
 -- Densities in a table that reading gave: the one-altitude call's with the row of the one band in which the metre lies; a metre outside every table; and
 -- demand 3 by that row.
-use Rattle.std.specs.Prelude.{ℕ, ◌≤◌, ◌≡◌, ◌⊎◌, Bool, not, Option, Some, List, eqb, ℤ, pos, length, get_or, ◌<ℤ◌, Float}
+use Rattle.std.specs.Prelude.{ℕ, ◌≤◌, ◌≡◌, ◌⊎◌, Bool, not, Option, None, Some, List, eqb, ℤ, pos, length, get_or, ◌<ℤ◌, Float}
 use Rattle.std.proofs.Math.Path.{refl, ap}
 use Rattle.std.proofs.Common.{sym, ◌∙◌}
 use Rattle.std.proofs.Math.Bool.{true, false, cond}
+use Rattle.std.proofs.lemmas.Bool.{false≢true}
 use Rattle.refusals.specs.Refusals.{Accepted, Answer, Refused, accepted_of}
 use Rattle.refusals.specs.declared.Reason.TheVariants.{OutOfRange, WrongLength}
 use Rattle.setting.specs.declared.Input.{Input}
 use Rattle.atmosphere.specs.Atmosphere.{answer_of, eleven_of, row_after}
 use Rattle.band_table.specs.Band.{no_band}
-use Rattle.band_table.specs.Table.{band_row, OneBand}
+use Rattle.band_table.specs.Table.{band_row, switches_in, OneBand}
 use Rattle.band_table.proofs.Theorems.{no_row_lem}
 use Rattle.band_form.specs.Bands.{bands_of, Gave}
 use Rattle.band_form.proofs.Theorems.{one_band}
 use Rattle.shutoff.specs.Shut.{Alike}
 use Rattle.shutoff.proofs.Theorems.{demand_3}
-use Rattle.bands.specs.Bands.{at_metre, eleven_in, banded_answer, banded_after}
+use Rattle.bands.specs.Bands.{at_metre, answer_in, eleven_in, banded_answer, banded_after}
 
 -- ---- a metre outside 0 to 2,500,000
 
@@ -68,17 +69,28 @@ banded t g metre n h =
 
 -- ---- demand 3, by the row of the metre's band
 
--- For any table and metre that has a row there, and any two accepted runs on records alike under that row, one altitude in both: both write
+-- an accepted call's metre has a row
+pub row_found : (t : List ℤ) (metre : ℤ) (n : Input) (len : ℕ) → banded_answer t metre n len ≡ Accepted → band_row t metre ≡ Some (switches_in (band_row t metre))
+unfolding banded_answer
+row_found t metre n len e = found (not (eqb len 11)) (band_row t metre) e
+  where
+    found : (b : Bool) (r : Option (List ℤ)) → cond b (Refused WrongLength 11) (answer_in r (at_metre n metre) len) ≡ Accepted → r ≡ Some (switches_in r)
+    found true r h = absurd (false≢true (ap accepted_of h))
+    found false None h = absurd (false≢true (ap accepted_of h))
+    found false (Some w) h = refl
+
+-- For any table and metre, and any two accepted runs on records alike under the row that the table has there, one altitude in both: both write
 -- the same eleven numbers, and these are the definition's with that row for the one record and for the other.
-pub demand_3_bands : (t : List ℤ) (metre : ℤ) (a b : Input) (xs ys : List Float) (w : List ℤ)
-    → band_row t metre ≡ Some w
-    → Alike w (at_metre a metre) (at_metre b metre)
+pub demand_3_bands : (t : List ℤ) (metre : ℤ) (a b : Input) (xs ys : List Float)
+    → Alike (switches_in (band_row t metre)) (at_metre a metre) (at_metre b metre)
     → banded_answer t metre a (length xs) ≡ Accepted
     → banded_answer t metre b (length ys) ≡ Accepted
     → (banded_after t metre a xs ≡ banded_after t metre b ys)
-    × (banded_after t metre a xs ≡ eleven_of w (at_metre a metre))
-    × (banded_after t metre b ys ≡ eleven_of w (at_metre b metre))
-demand_3_bands t metre a b xs ys w r like e f =
+    × (banded_after t metre a xs ≡ eleven_of (switches_in (band_row t metre)) (at_metre a metre))
+    × (banded_after t metre b ys ≡ eleven_of (switches_in (band_row t metre)) (at_metre b metre))
+demand_3_bands t metre a b xs ys like e f =
+    let w = switches_in (band_row t metre) in
+    let r = row_found t metre a (length xs) e in
     let d = demand_3 w (at_metre a metre) (at_metre b metre) xs ys like (sym (answer_told t metre w r a (length xs)) ∙ e) (sym (answer_told t metre w r b (length ys)) ∙ f) in
     let p = row_told t metre w r a xs in
     let q = row_told t metre w r b ys in

@@ -29,7 +29,7 @@ use Rattle.atmosphere.specs.Atmosphere.{answer_of}
 pub data Case : Type 0 where
   number : Float → Float → Case
   answer : Answer → Answer → Case
-  expanded : Result (Left Float) ExpansionRefusal → Result (Left Float) ExpansionRefusal → Case
+  expanded : Result (Left Float) (Left ExpansionRefusal) → Result (Left Float) (Left ExpansionRefusal) → Case
   outcome : Outcome Float → Outcome Float → Case
 
 abbrev pub Holds : Case → Type 0

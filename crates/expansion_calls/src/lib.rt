@@ -37,25 +37,45 @@ impl ExpansionRefusal {
     }
 }
 
-pub fn globe7(w: [i32; 24], n: Input, p: &[f64], s: State) -> Result<Left<f64>, ExpansionRefusal>
+// Both calls give the State beside the value; refused, the one that they were given beside the reason.
+pub fn globe7(
+    w: [i32; 24],
+    n: Input,
+    p: &[f64],
+    s: State,
+) -> Result<Left<f64>, Left<ExpansionRefusal>>
     ensures { result ≡ globe7_call_of w n p.now s }
 {
     if p.len() != 150 {
-        return Err(ExpansionRefusal::Coefficients(150));
+        return Err(Left {
+            value: ExpansionRefusal::Coefficients(150),
+            state: s,
+        });
     }
     if lacks_history(w, n) {
-        return Err(ExpansionRefusal::NoHistory);
+        return Err(Left {
+            value: ExpansionRefusal::NoHistory,
+            state: s,
+        });
     }
     let v = view_of(w, n);
     let a = expansion::globe7(v, p, s);
     Ok(a)
 }
 
-pub fn glob7s(w: [i32; 24], n: Input, p: &[f64], s: State) -> Result<Left<f64>, ExpansionRefusal>
+pub fn glob7s(
+    w: [i32; 24],
+    n: Input,
+    p: &[f64],
+    s: State,
+) -> Result<Left<f64>, Left<ExpansionRefusal>>
     ensures { result ≡ glob7s_call_of w n p.now s }
 {
     if (p.len() < 100) | (150 < p.len()) {
-        return Err(ExpansionRefusal::Coefficients(100));
+        return Err(Left {
+            value: ExpansionRefusal::Coefficients(100),
+            state: s,
+        });
     }
     let v = view_of(w, n);
     let a = expansion::glob7s(v, p, s);

@@ -1,7 +1,7 @@
 -- The sets' values from the values of the calls, and the expansions' values from these.
 use Prim.Native.Nat.{ℕ, zero, suc, ◌+◌, ◌*◌, ◌<◌, ◌≤◌}
 use native.Mathlib.Omega.{arith}
-use mathlib.Core.Path.{◌≡◌, refl, ap, ap₂, ◌∙◌}
+use mathlib.Core.Path.{◌≡◌, refl, ap, ap₂, sym, ◌∙◌}
 use mathlib.Core.Bool.{Bool, true, false, cond}
 use mathlib.Core.List.{List, [], ◌∷◌}
 use lib.Dec.{eqb, ltb}
@@ -69,6 +69,9 @@ globe7_last k h l = let e : k ≡ 10 = omega arith in rw e
 pub glob7s_last : (k : ℕ) → 13 ≤ k → k < 14 → pma_t7 ≡ glob7s_set k
 unfolding glob7s_sets
 glob7s_last k h l = let e : k ≡ 13 = omega arith in rw e
+
+pub own_activity : (v : View) (k i : ℕ) → k ≡ i → activity_in v (globe7_set i) ≡ activity_in v (globe7_set k)
+own_activity v k i e = ap (λ (j : ℕ). activity_in v (globe7_set j)) (sym e)
 
 -- what holds of every set of a list, and of the one that stands for an index beyond it, holds at every index
 abbrev Every : (List Float → Type 0) → List (List Float) → Type 0

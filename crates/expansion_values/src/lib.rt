@@ -205,13 +205,18 @@ pub fn put_needed_set(on: bool, k: usize, p: &mut [f64; 150])
     put_globe7_set(k, p);
 }
 
-// The activity of the set k, which is p: PD[0] and PD[1] have their own, every other set has PT's, which is a.
-pub fn globe7_activity(k: usize, v: View, p: &[f64], a: Activity) -> Activity
-    requires { (length p.now ≡ 150) × (p.now ≡ globe7_set k) × (a ≡ activity_in v pt_t) }
+// The activity of the set k: PD[0] and PD[1] have their own, every other set has PT's, which is a.
+pub fn globe7_activity(k: usize, v: View, a: Activity) -> Activity
+    requires { a ≡ activity_in v pt_t }
     ensures { result ≡ activity_in v (globe7_set k) }
 {
-    if k == 1 || k == 2 {
-        return activity_by(v, p);
+    if k == 1 {
+        let p = pd0();
+        return activity_by(v, &p);
+    }
+    if k == 2 {
+        let p = pd1();
+        return activity_by(v, &p);
     }
     a
 }
@@ -232,7 +237,7 @@ pub fn globe7_at(
     ensures { result ≡ cond on (wide_given v g (globe7_before v c k) (globe7_set k) (seasons_at s.now (4 * k))) 0·0 }
 {
     if on {
-        let b = globe7_activity(k, v, p, a);
+        let b = globe7_activity(k, v, a);
         let nine = nine_in(v);
         let latitude = latitude_in(v);
         let apdf = pick(nine == -1.0, c.apdf, b.apdf);

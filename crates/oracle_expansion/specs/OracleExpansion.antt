@@ -61,9 +61,9 @@ misfit_of numbers fields array switches state =
     (cond (not (eqb state 79)) (Some 79) None))))
 
 -- a call's answer with a refusal as document 01's number and its place
-abbrev pub told_of : Result (Left Float) ExpansionRefusal → Result (Left Float) (ℕ × ℕ)
+abbrev pub told_of : Result (Left Float) (Left ExpansionRefusal) → Result (Left Float) (ℕ × ℕ)
 told_of (Ok e) = Ok e
-told_of (Err r) = Err (refusal_number r, refusal_place r)
+told_of (Err r) = Err (refusal_number r.value, refusal_place r.value)
 
 -- 4 with the length needed; then the rest
 abbrev pub fitted_of : Option ℕ → Result (Left Float) (ℕ × ℕ) → Result (Left Float) (ℕ × ℕ)

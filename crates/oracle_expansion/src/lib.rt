@@ -115,7 +115,7 @@ pub fn put(e: Left<f64>, numbers: &mut [f64])
 }
 
 // A call's answer: 0 and the numbers, or the refusal as one number and the slice as lent.
-pub fn tell(a: Result<Left<f64>, ExpansionRefusal>, numbers: &mut [f64]) -> u64
+pub fn tell(a: Result<Left<f64>, Left<ExpansionRefusal>>, numbers: &mut [f64]) -> u64
     requires { length numbers.old ≡ 80 }
     ensures { (result ≡ expanded_code (told_of a)) × (numbers.new ≡ expanded_after (told_of a) numbers.old) }
 {
@@ -124,7 +124,7 @@ pub fn tell(a: Result<Left<f64>, ExpansionRefusal>, numbers: &mut [f64]) -> u64
             put(e, numbers);
             0
         }
-        Err(r) => packed(r.number(), r.place()),
+        Err(r) => packed(r.value.number(), r.value.place()),
     }
 }
 

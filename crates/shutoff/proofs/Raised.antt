@@ -21,9 +21,8 @@ use Rattle.activity.specs.Activity.{sg0_of, apt_next_of}
 use Rattle.legendre.specs.Legendre.{rows_of}
 use Rattle.expansion.specs.declared.Carried.{Carried}
 use Rattle.expansion.specs.Expansion.{first_terms_of, carried_of, globe7_given, globe7_value, state_after, globe7_of}
-use Rattle.std.proofs.Common.{Err}
 use Rattle.expansion_calls.specs.declared.ExpansionRefusal.TheVariants.{Coefficients, NoHistory}
-use Rattle.expansion_calls.specs.ExpansionCalls.{accepted_call, globe7_call_of}
+use Rattle.expansion_calls.specs.ExpansionCalls.{accepted_call, refused_call, globe7_call_of}
 use Rattle.shutoff.specs.Raised.{OnlyIn24}
 
 -- ---- the raised number
@@ -107,5 +106,5 @@ pub globe7_call_raised : (w : List ℤ) (n : Input) (p q : List Float) (s : Stat
     → globe7_call_of w n p s ≡ globe7_call_of w n q s
 unfolding globe7_call_of
 globe7_call_raised w n p q s e only low low' =
-    ap₂ (λ (m : ℕ) (a : Left Float). cond (not (eqb m 150)) (Err (Coefficients 150)) (cond (lacks_history_of w n) (Err NoHistory) (accepted_call a.value a.state)))
+    ap₂ (λ (m : ℕ) (a : Left Float). cond (not (eqb m 150)) (refused_call (Coefficients 150) s) (cond (lacks_history_of w n) (refused_call NoHistory s) (accepted_call a.value a.state)))
     e (globe7_raised (view_of w n) p q s only low low')

@@ -35,7 +35,9 @@ pub fn refill(w: [i32; 24], n: Input, numbers: &mut [f64])
     store(p, sw, x, l, &mut numbers[0..234]);
 }
 
-// The expansions' values of a record under a switch row into their places: globe7's eleven, and glob7s' fourteen where a asks for their sets.
+// The expansions' values of a record under a switch row into their places: globe7's eleven, and glob7s' fourteen where a asks for their sets. In a frame of its
+// own, so that the View's values are off the stack when what is made of them is stored.
+#[inline(never)]
 pub fn put_values(w: [i32; 24], n: Input, a: Need, numbers: &mut [f64])
     requires { length numbers.old ≡ 259 }
     ensures { numbers.new ≡ values_put w n a numbers.old }

@@ -2,9 +2,6 @@
 use Rattle.expansion_values.proofs.Laws.{globe7_at_law}
 use Rattle.expansion_values.proofs.globe7_at.Goals as goal
 
-pub globe7_activity-b-requires : goal.globe7_activity-b-requires
-globe7_activity-b-requires c = (c.requires.0, c.requires.2 c.if-on.true, c.requires.3)
-
 pub returns-then-on : goal.returns-then-on
 returns-then-on c =
     let A = c.args in

@@ -1,11 +1,11 @@
--- `elementary::power::rest` meets its contract. Assumes nothing.
+-- `elementary::power::rest_by` meets its contract. Assumes nothing.
 use Rattle.std.proofs.Common.{T, sym, ap, ◌∙◌, subst}
 use lib.Ieee.{Float, binary64, of_bits, div, mul}
 use lib.Ieee.Compare.{differs_from_itself}
 use Rattle.natural_exponential.specs.Exp.{exp_of}
 use Rattle.fixed_point.proofs.Range.{is_nan_lem}
 use Rattle.elementary.proofs.PowCases.{nan_is, rest_negative, rest_nan, rest_nan_exponent, rest_is}
-use Rattle.elementary.proofs.power.rest.Goals as goal
+use Rattle.elementary.proofs.power.rest_by.Goals as goal
 
 pub returns-then-b : goal.returns-then-b
 unfolding of_bits div

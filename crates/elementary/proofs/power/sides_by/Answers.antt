@@ -1,8 +1,8 @@
--- `elementary::power::sides` meets its contract. Assumes nothing.
+-- `elementary::power::sides_by` meets its contract. Assumes nothing.
 use Rattle.std.proofs.Common.{sym, ◌∙◌}
 use lib.Ieee.{of_bits}
 use Rattle.elementary.proofs.PowCases.{sides_above, sides_below, sides_rest}
-use Rattle.elementary.proofs.power.sides.Goals as goal
+use Rattle.elementary.proofs.power.sides_by.Goals as goal
 
 pub returns-then-e : goal.returns-then-e
 unfolding of_bits
@@ -17,4 +17,4 @@ returns-then-e-2 g c =
 pub returns : goal.returns
 unfolding of_bits
 returns g c =
-    c.rest.ensures ∙ sym (sides_rest c.args.above c.args.below c.args.b c.args.e c.if-e.false c.if-e-2.false)
+    c.rest_by.ensures ∙ sym (sides_rest c.args.above c.args.below c.args.b c.args.e c.if-e.false c.if-e-2.false)
