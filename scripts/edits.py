@@ -21,7 +21,7 @@ BY_WORDS = (
     ("fields that are shut off or not known (demand 3)", r"shut|not known|may read|ap does not count"),
     ("refusals in another order", r"(comes|answers|refuses) .*\bbefore\b"),
     ("refusals that fail to come, or come where none is due", r"is due|meets? refusal|is refused:|looks at the record|not asked for|accepted where|in range"),
-    ("a refusal's number or place", r"at place \d|refused with 4 at|with the place|upper 32 bits|refusal's place|for a gap"),
+    ("a refusal's number or place", r"at place \d|refused with (4 at|6, the number)|with the place|upper 32 bits|refusal's place|for a gap|has the( place|\b.*number)"),
     ("lent memory: after a refusal, or not written (demand 1)", r"[Rr]efused .*(written|left|leaves)|refusal \d+ leaves|and answers that|lent row"),
     ("lengths of slices, lists and lines", r"length|longer|(ten|twelve) numbers|bytes|150 coefficients|nodes, where|not 24 entries"),
 )

@@ -64,7 +64,8 @@ pub fn judge_all(w: [i32; 24], n: Input, alts: &[f64]) -> Result<(), Refusal>
     unmixed_altitude(mixing_on(w), alts)
 }
 
-// The answer to a record, its altitudes and a buffer of the length len.
+// The answer to a record, its altitudes and a buffer of the length len. In line, so that its callers hold no second copy of the record and the row.
+#[inline(always)]
 pub fn column_answer(w: [i32; 24], n: Input, alts: &[f64], len: usize) -> Result<(), Refusal>
     ensures { result ≡ column_answer w n alts.now len }
 {

@@ -10,13 +10,14 @@ use Rattle.refusals.specs.declared.Reason.TheVariants.{OutOfRange, WrongLength}
 use Rattle.setting.specs.declared.Input.{Input}
 use Rattle.atmosphere.specs.Atmosphere.{answer_of, eleven_of, row_after}
 use Rattle.band_table.specs.Band.{no_band}
-use Rattle.band_table.specs.Table.{band_row, switches_in, OneBand}
+use Rattle.band_table.specs.Table.{band_row, OneBand}
 use Rattle.band_table.proofs.Theorems.{no_row_lem}
 use Rattle.band_form.specs.Bands.{bands_of, Gave}
 use Rattle.band_form.proofs.Theorems.{one_band}
 use Rattle.shutoff.specs.Shut.{Alike}
 use Rattle.shutoff.proofs.Theorems.{demand_3}
 use Rattle.bands.specs.Bands.{at_metre, answer_in, eleven_in, banded_answer, banded_after}
+use Rattle.bands.specs.Row.{switches_in}
 
 -- ---- a metre outside 0 to 2,500,000
 

@@ -82,7 +82,8 @@ pub fn prepare(
     Ok(())
 }
 
-// An altitude of a station; the record was judged when it was prepared or changed.
+// An altitude of a station; the record was judged when it was prepared or changed. In line in the calls, whose frame is then the only one.
+#[inline(always)]
 pub fn gtd7(whole: &[i32], numbers: &[f64], alt: f64, out: &mut [f64]) -> Result<(), Refusal>
     ensures { (result ≡ altitude_answer (length out.old) whole.now (length numbers.now) alt)
         × (out.new ≡ altitude_row whole.now numbers.now alt out.old) }

@@ -124,7 +124,9 @@ pub fn altitude_answer(len: usize, whole: &[i32], count: usize, alt: f64) -> Res
 
 // ---- a new switch row
 
-// The record judged under the row w, which then stands in the whole numbers; refused, the old row stays.
+// The record judged under the row w, which then stands in the whole numbers; refused, the old row stays. In a frame of its own, so that what it takes is off
+// the stack when the station is filled.
+#[inline(never)]
 pub fn take_row(w: [i32; 24], n: Input, whole: &mut [i32]) -> Result<(), Refusal>
     requires { length whole.old ≡ 27 }
     ensures { (result ≡ judged_of w n) × (whole.new ≡ row_taken w n whole.old) }

@@ -291,7 +291,8 @@ pub fn put_low(on: bool, sw: [f64; 24], x: Site, l: ExpansionValues, d: Bases, o
     put(&mut out[60..84], &c);
 }
 
-// q has the densities at 72.5 km where they are known.
+// q has the densities at 72.5 km where they are known. In line, so that the footing shares the frame of what stores it.
+#[inline(always)]
 pub fn put_footing(
     on: bool,
     sw: [f64; 24],
